@@ -13,7 +13,7 @@ from typing import (
 )
 
 from .arguments import entity_named
-from .begun import Begun, is_too_late
+from .begun import Begun
 from .calls import CREATE, Calls
 from .classes import Classes, marked_text, marks_of
 from .entities import Attribute, E, Entity, classes_of
@@ -21,12 +21,14 @@ from .finding import find_program
 from .lines import line_of
 from .managers import EntityManager
 from .memory import MemoryStore, room_words
+from .pausing import MOST_ATTEMPTS
 from .places import Place, Places
 from .program import Program, Words
 from .refusals import (
     BadLine, KarzhoulError, ProgramEnded, Refused, Restarted, StoreFault,
 )
 from .refusals import Mapping as MappingRefused
+from .retrying import Retry
 from .runs import Run
 from .tally import Statistics
 
@@ -173,6 +175,7 @@ class EntityManagerFactory(Calls, AbstractContextManager["EntityManagerFactory"]
                     self._settle(10)
                 finally:
                     self._calls = None
+                    self.program.fault = ProgramEnded(None)  # Also where it had ended before.
         if self._places is not None:
             self._places.wake()
 
@@ -281,22 +284,19 @@ class EntityManagerFactory(Calls, AbstractContextManager["EntityManagerFactory"]
         """
         return Begun(self)
 
-    def retry(self, work: Callable[[EntityManager], T], most: int = 3) -> T:
-        """Does work in the block of a `begin`, and gives its answer. It is done again, at most so
-        many times in all, where another manager's commit came first: after an `OptimisticLock` or a
-        `Busy`, be it of a call or of the commit. The last refusal is raised, and anything else at
-        once."""
-        if most < 1:
-            raise ValueError(f"there are {most} attempts, and one is the least")
-        while True:
-            most -= 1
-            try:
-                with self.begin() as manager:
-                    answer = work(manager)
-                return answer
-            except Refused as refused:
-                if most == 0 or not is_too_late(refused):
-                    raise
+    def retry(self, work: Callable[[EntityManager], T], most: int = MOST_ATTEMPTS) -> T:
+        """Does work in the block of a `begin`, and gives its answer. It is done again from its
+        beginning, with a new manager, at most so many times in all:
+
+        - where another manager's commit came first: after an `OptimisticLock` or a `Busy`, be it of
+          a call or of the commit;
+        - where another thread's call ended the program, as by `end_program_after`: then it is
+          opened again first. So it is where the program had ended before the work began.
+
+        Before each time it waits for a time at random, up to 50 ms. The last refusal is raised,
+        with `times_refused`, and anything else at once: also a `ProgramEnded` that a call of the
+        work met itself, and one whose commit `may_be_stored`."""
+        return Retry(self, most).answer(work)
 
     def _repr_html_(self) -> str:
         from .notebook import mapping_html

@@ -9,12 +9,13 @@ import select
 import signal
 import sys
 import tempfile
+import threading
 import time
 import weakref
 from contextlib import suppress
 from copy import copy
 from subprocess import DEVNULL, PIPE, Popen, TimeoutExpired
-from typing import IO, TYPE_CHECKING, Iterator, List, NoReturn, Optional, Sequence, Set, Union
+from typing import IO, TYPE_CHECKING, Iterator, List, Optional, Sequence, Set, Union
 
 from .refusals import GivenUp, KarzhoulError, ProgramEnded, ProgramNotFound, Restarted, refusal_of
 
@@ -28,6 +29,9 @@ _GRACE = 1.0
 # Ends the program's group at the end of input, which comes without a line where this process is
 # killed, and removes what goes with it.
 _WATCH = 'read -r line || { kill -KILL "-$1"; [ -z "$2" ] || rm -rf -- "$2"; }'
+
+# A call of commit, as no value spells it, in which quotes are escaped.
+_COMMIT = re.compile(rb'"call"\s*:\s*"commit"')
 
 Words = Union[str, "os.PathLike[str]"]
 
@@ -80,6 +84,11 @@ class Exchange:
         ]
         return bool(left) and sum(left[0].written) == len(left[0].text)
 
+    def may_store(self) -> bool:
+        """Whether a commit is among what was sent, as a whole or in part."""
+        sent = b"".join([part.text for part in self._sent() if any(part.written)])
+        return _COMMIT.search(sent) is not None
+
     def _sent(self) -> Sequence[_Part]:
         """The parts of what is sent."""
         if self.parts is None or len(self.lines) != 1:
@@ -98,6 +107,15 @@ def of_before(line: bytes) -> str:
     if found[1] == b"em":
         return f"manager {number} is of before a restart: create another one"
     return f"object {number} is of before a restart: make or find it again"
+
+
+def ended_within(ended: ProgramEnded, exchange: Exchange) -> ProgramEnded:
+    """The end of a program that came while an exchange was under way, as that tells it. All that
+    are told later know whose it was."""
+    ended._thread = threading.get_ident()
+    told = copy(ended)
+    told.may_be_stored = exchange.may_store()
+    return told
 
 
 def _parts(lines: Sequence[bytes]) -> Iterator[_Part]:
@@ -157,6 +175,8 @@ class Program:
         self.fault: Optional[KarzhoulError] = None
         # The run that is on.
         self.run: Optional[Run] = None
+        # Whether it was ended as its owner wished.
+        self._is_stopped = False
 
     def replies(self, exchange: Exchange, timeout: Optional[float] = None) -> List[bytes]:
         """Does what is left to do of an exchange, and gives its replies. The program's end is a
@@ -192,8 +212,11 @@ class Program:
             return replies
         except KeyboardInterrupt as interrupt:
             if was_interrupted and exchange.waits() and not self._comes(time.monotonic() + _GRACE):
-                self._give_up("a call was interrupted twice", interrupt)
+                ended = self._given_up("a call was interrupted twice")
+                raise ended_within(ended, exchange) from interrupt
             raise
+        except ProgramEnded as ended:
+            raise ended_within(ended, exchange) from None
 
     def _done(
         self, text: bytes, count: int, written: List[int], read: List[bytes],
@@ -213,7 +236,7 @@ class Program:
             left -= b"".join(read).count(b"\n")
         while left > 0:
             if deadline is not None and not self._comes(deadline):
-                self._give_up(f"a call wasn't answered within {timeout} seconds")
+                raise self._given_up(f"a call wasn't answered within {timeout} seconds")
             read += map(os.read, self._out, _CHUNK)
             chunk = read[-1]
             if not chunk:
@@ -237,12 +260,12 @@ class Program:
             if left <= 0:
                 return False
 
-    def _give_up(self, why: str, interrupt: Optional[BaseException] = None) -> NoReturn:
+    def _given_up(self, why: str) -> GivenUp:
         """Ends the program for the sake of a call."""
         # The fault first, so that nobody waits for this program again.
-        self.fault = GivenUp(-signal.SIGKILL, why)
+        ended = self.fault = GivenUp(-signal.SIGKILL, why)
         _stopped(self._process, self._watch, 0)
-        raise self.fault from interrupt
+        return ended
 
     def start(self) -> None:
         """Waits for the program to answer at all, by an empty line, which is no call. What it tells
@@ -267,6 +290,7 @@ class Program:
 
     def stop(self) -> None:
         """Ends the program under a call that waits for its replies, which is told so."""
+        self._is_stopped = True
         self._process.kill()
 
     def kill(self) -> None:
@@ -278,6 +302,8 @@ class Program:
         """Why the program ended: the refusal that it told where it never came to answer, as of its
         mapping."""
         status, told = _stopped(self._process, self._watch, _PATIENCE), self._told()
+        if self._is_stopped:
+            return ProgramEnded(None)
         last = told.rstrip().rpartition("\n")[2]
         return (
             refusal_of(last[len("jpa: ") :])

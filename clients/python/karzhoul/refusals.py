@@ -14,7 +14,12 @@ if TYPE_CHECKING:
 
 
 class KarzhoulError(Exception):
-    """The base of all exceptions of this package."""
+    """The base of all exceptions of this package.
+
+    `times_refused` says how often `retry` or `attempts` had their work refused, this time counted.
+    """
+
+    times_refused: int = 0
 
 
 class Misused(ValueError):
@@ -26,14 +31,24 @@ class ProgramNotFound(KarzhoulError):
 
 
 class ProgramEnded(KarzhoulError):
-    """The program ended, or was ended, before it answered; what an unanswered call did is not
-    known."""
+    """The program ended, or was ended, before it answered. What was answered as committed is
+    stored, and what isn't committed is lost.
+
+    `may_be_stored` says that a commit had been sent and wasn't answered: it may be stored or not.
+    """
+
+    may_be_stored: bool = False
+    # The thread whose call was waiting for its reply, or was interrupted; None where none did.
+    _thread: Optional[int] = None
 
     def __init__(self, status: Optional[int], told: str = "") -> None:
         super().__init__(status, told)
         self.status, self.told = status, told.strip()
 
     def __str__(self) -> str:
+        return self._how() + self._of_commit()
+
+    def _how(self) -> str:
         status = self.status
         how = (
             "is closed"
@@ -44,16 +59,24 @@ class ProgramEnded(KarzhoulError):
         )
         return f"the program {how}" + (f": {self.told}" if self.told else "")
 
+    def _of_commit(self) -> str:
+        return (
+            "; the commit was sent and not answered, so it may be stored or not: look before you "
+            "do it again"
+            if self.may_be_stored
+            else ""
+        )
+
 
 class GivenUp(ProgramEnded):
-    """The program was ended since a call took too long, or was interrupted twice;
-    `EntityManagerFactory.restart` opens it again."""
+    """The program was ended, for all threads, since a call took too long (`end_program_after`), or
+    was interrupted twice. `EntityManagerFactory.restart` opens it again, and `retry` does so by
+    itself where the call was another thread's."""
 
     def __str__(self) -> str:
         return (
-            f"{super().__str__()}, and was given up: what was not committed is lost, and a store "
-            f"in memory is; app.restart() opens the"
-            " program again over its file"
+            f"{self._how()}, and was given up: what was not committed is lost; app.restart() opens "
+            f"the program again over its store{self._of_commit()}"
         )
 
 
@@ -252,7 +275,7 @@ class Busy(Refused, number=18):
 
 
 MOST_LINE_BYTES = 1_048_576
-_RESTART = ": commit, and app.restart() opens the program again over its file"
+_RESTART = ": commit, and app.restart() begins another one"
 _OBJECTS = f"a run makes at most 1,000,000 objects, loads counted{_RESTART}"
 _OPEN = "at most 16 managers are open at a time: close one that isn't used"
 _MADE = f"a run makes at most 1,000,000 managers{_RESTART}"

@@ -7,6 +7,7 @@ import html
 import json
 import logging
 import sys
+import threading
 from collections import Counter
 from dataclasses import dataclass
 from typing import Callable, Dict, Iterable, List, Mapping, Optional, Sequence, Tuple
@@ -42,6 +43,9 @@ class Statistics:
     be they committed or not."""
     made: int
     """How many objects this run of the program has made, loads counted."""
+    retries: int = 0
+    """How often `retry` and `attempts` did work again: since another manager's commit came first,
+    or since the program had ended."""
 
     @property
     def left(self) -> int:
@@ -58,6 +62,8 @@ class Statistics:
         ]
         if self.refusals:
             lines.append(f"refused: {_listed(self.refusals)}")
+        if self.retries:
+            lines.append(f"done again by retry and attempts: {self.retries:,} times")
         if self.slowest is not None:
             lines.append(f"slowest: {_span(self.slowest[0])}: {_cut(self.slowest[1])}")
         return "\n".join(lines)
@@ -79,6 +85,8 @@ class Tally:
         self._refusals: Counter[str] = Counter()
         self._seconds = self._longest = 0.0
         self._slowest = b""
+        self._retries = 0
+        self._lock = threading.Lock()
         # The lines that are still to be counted.
         self._waiting: List[bytes] = []
 
@@ -123,6 +131,11 @@ class Tally:
         """Counts refusals."""
         self._refusals.update(map(Refused.__str__, refused))
 
+    def note_retry(self) -> None:
+        """Counts a piece of work that is done again; threads may do so at one time."""
+        with self._lock:
+            self._retries += 1
+
     def statistics(self, made: int) -> Statistics:
         """What was counted."""
         self._count()
@@ -131,7 +144,9 @@ class Tally:
         slowest = None
         if self._slowest:
             slowest = (self._longest, self._slowest.decode(errors="replace"))
-        return Statistics(calls, refusals, self._seconds, slowest, {**self._objects}, made)
+        return Statistics(
+            calls, refusals, self._seconds, slowest, {**self._objects}, made, self._retries
+        )
 
     # ---- told line by line
 

@@ -9,6 +9,7 @@ from typing import TYPE_CHECKING, Iterator, Optional, Type
 from .concern import Concern
 from .interrupts import begin_of_block, carried_out, end_of_block, guard, is_guarded, unguard
 from .lines import line_of
+from .pausing import note_refusals, pause
 from .refusals import IllegalState, KarzhoulError, OptimisticLock, ProgramEnded, Restarted, Rollback
 
 if TYPE_CHECKING:
@@ -124,8 +125,8 @@ class Attempt:
     """One attempt of `EntityManager.attempts`, whose `with` block is a transaction. Where the block
     is left by a `Rollback` since another manager's commit came first, it is to be made again."""
 
-    def __init__(self, transaction: EntityTransaction, is_last: bool) -> None:
-        self._transaction, self._is_last = transaction, is_last
+    def __init__(self, transaction: EntityTransaction, number: int, most: int) -> None:
+        self._transaction, self._number, self._is_last = transaction, number, number == most
         self.is_done = False
         # The refusal of its commit, after which it is to be made again.
         self.refused: Optional[Rollback] = None
@@ -143,23 +144,35 @@ class Attempt:
     ) -> bool:
         try:
             self._transaction.__exit__(kind, fault, trace)
-        except Rollback as refused:
-            if not self._is_too_late(refused):
+        except Exception as refused:
+            if self._is_raised(refused):
                 raise
+            assert isinstance(refused, Rollback)
             self.refused = refused
             return True
         self.is_done = fault is None
-        return self._is_too_late(fault)
+        return fault is not None and not self._is_raised(fault)
 
-    def _is_too_late(self, fault: Optional[BaseException]) -> bool:
+    def _is_raised(self, fault: BaseException) -> bool:
+        """Whether what ended the attempt is raised, and no other one follows. It says then how
+        often the work was refused."""
         is_stale = isinstance(fault, Rollback) and isinstance(fault.cause, OptimisticLock)
-        return is_stale and not is_of_callback(fault) and not self._is_last
+        is_refused = is_stale and not is_of_callback(fault)
+        if is_refused and not self._is_last:
+            return False
+        if is_refused or self._number > 1:
+            note_refusals(fault, self._number - (not is_refused))
+        return True
 
 
 def attempts(transaction: EntityTransaction, most: int) -> Iterator[Attempt]:
-    """At most so many attempts at a transaction, until one is done."""
+    """At most so many attempts at a transaction, until one is done, with a pause before each but the
+    first."""
     for number in range(1, most + 1):
-        attempt = Attempt(transaction, is_last=number == most)
+        if number > 1:
+            transaction._manager.factory._tally.note_retry()
+            pause(number - 1)
+        attempt = Attempt(transaction, number, most)
         try:
             yield attempt
         except GeneratorExit:

@@ -367,13 +367,13 @@ class WhileItWaits(Interrupted):
         self.assertEqual(self.em.query("0"), ["0"])
 
     def test_a_time_limit(self) -> None:
-        self.assertEqual(self.em.query("0", timeout=5), ["0"])
+        self.assertEqual(self.em.query("0", end_program_after=5), ["0"])
         for wrong in (0, -1, float("nan")):
             with self.assertRaises(ValueError):
-                self.em.query("0", timeout=wrong)
+                self.em.query("0", end_program_after=wrong)
         start = time.monotonic()
         with self.assertRaises(karzhoul.GivenUp) as raised:
-            self.em.query("100", timeout=0.2)
+            self.em.query("100", end_program_after=0.2)
         self.assertLess(time.monotonic() - start, 2)
         self.assertIn("0.2 seconds", str(raised.exception))
         self.assertFalse(lives(self.app.program.pid))
