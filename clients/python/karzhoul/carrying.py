@@ -150,7 +150,7 @@ def _found(stored: Stored, query: str) -> Dict[str, List[Key]]:
         return stored.found(query)
     except Refused as refused:
         found = mistakes_in(Statement(query, []), stored.described)
-        raise KarzhoulError("\n  ".join([f"the query is refused: {refused}", *found])) from refused
+        raise KarzhoulError("\n  ".join([f"the query is refused: {refused.word}", *found])) from refused
 
 
 def _write_lines(

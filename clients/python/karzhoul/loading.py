@@ -259,7 +259,7 @@ class Loader:
         row = next((each for each in rows if each.line == line), rows[0])
         others = "" if line or len(rows) == 1 else f", or a row up to line {rows[-1].line}"
         why = _why(row.record, row.shape, refused, self._mapping)
-        return self._fault(row.line, f"{row.record}{others}: {refused}{why}")
+        return self._fault(row.line, f"{row.record}{others}: {refused.word}{why}")
 
 
 def _why_not_given(number: int, following: int, unused: int) -> Optional[str]:

@@ -109,6 +109,9 @@ class Refused(KarzhoulError):
     `name` and `number` are the refusal's, `detail` its `why`, `events` what the call told before it
     was refused, `line` what was sent, and `later` the refusals of calls that had been sent along in
     the same pipeline after this one.
+
+    As a text it is what `explain` says, where that asks the program nothing: of a query, a value, a
+    name, a limit and the like. Else it is its `word`.
     """
 
     number: ClassVar[int] = 0
@@ -117,8 +120,10 @@ class Refused(KarzhoulError):
     _factory: Optional[EntityManagerFactory] = None
     _run: Optional[Run] = None
     _concern: Optional[Concern] = None
-    # What marked its manager's transaction before, as its text and its line.
+    # What marked its manager's transaction before, as its word and its line.
     _before: Optional[Tuple[str, str]] = None
+    # What is said of it, where that was told when it was refused.
+    _sentence: Optional[str] = None
 
     def __init__(
         self, detail: Optional[str] = None, events: Tuple[Event, ...] = (), line: str = ""
@@ -139,8 +144,13 @@ class Refused(KarzhoulError):
             cls.number = number
             REFUSALS[cls.__name__] = cls
 
-    def __str__(self) -> str:
+    @property
+    def word(self) -> str:
+        """It as one word, with its detail, as `IllegalArgument(name)`: that of docs/CALLS.md."""
         return self.name if self.detail is None else f"{self.name}({self.detail})"
+
+    def __str__(self) -> str:
+        return self._sentence or self.word
 
     def explain(self) -> str:
         """What can be told of it: of a query each mistake with its line, column and word, of an
@@ -148,7 +158,7 @@ class Refused(KarzhoulError):
         that it is about, as they stand now, and else what the refusal means."""
         from .explaining import explained
 
-        return explained(self, self._factory)
+        return self._sentence or explained(self, self._factory)
 
 
 def _copied(kind: Type[Refused], detail: Optional[str], told: Dict[str, Any]) -> Refused:
@@ -168,7 +178,7 @@ class StoreFault(Refused, number=2):
     why: str = ""
 
     def __str__(self) -> str:
-        return f"{super().__str__()}: {self.why}" if self.why else super().__str__()
+        return f"{self.word}: {self.why}" if self.why else self.word
 
     def explain(self) -> str:
         return self.why or super().explain()
@@ -183,6 +193,9 @@ class NotServed(BadLine):
 
     def __str__(self) -> str:
         return f"the program doesn't serve this call: {self.line}"
+
+    def explain(self) -> str:
+        return str(self)
 
 
 class NoSuchManager(Refused, number=4):
@@ -246,9 +259,9 @@ class Rollback(Refused, number=14):
 
     def explain(self) -> str:
         cause = self.cause
-        if cause is not None:
+        if self._sentence is None and cause is not None:
             return cause.explain()
-        if self._before is None:
+        if self._sentence is not None or self._before is None:
             return super().explain()
         return f"the transaction could only roll back, since this was refused: {self._told()}"
 
@@ -310,9 +323,9 @@ class Limit(Refused, number=19):
         self.name = "Limit"
 
     def __str__(self) -> str:
-        return f"Limit: {self._sentence()}"
+        return self._sentence or f"Limit: {self.told()}"
 
-    def _sentence(self) -> str:
+    def told(self) -> str:
         """What there is too much of, and what to do."""
         if len(self.line.encode(errors="replace")) > MOST_LINE_BYTES:
             return _LINE
@@ -326,7 +339,7 @@ class ObjectLimit(Limit):
 
     kind = "objects"
 
-    def _sentence(self) -> str:
+    def told(self) -> str:
         return _OBJECTS
 
 
@@ -337,7 +350,7 @@ class ManagerLimit(Limit):
     # How many the run had made, where that is known.
     made: Optional[int] = None
 
-    def _sentence(self) -> str:
+    def told(self) -> str:
         if self.made is None:
             return f"{_OPEN}; and {_MADE}"
         return _OPEN if self.made < 1_000_000 else _MADE
@@ -348,7 +361,7 @@ class TextLimit(Limit):
 
     kind = "text"
 
-    def _sentence(self) -> str:
+    def told(self) -> str:
         return _TEXT
 
 
@@ -357,7 +370,7 @@ class LineLimit(Limit):
 
     kind = "line"
 
-    def _sentence(self) -> str:
+    def told(self) -> str:
         return _LINE
 
 
@@ -367,7 +380,7 @@ class QueryLimit(Limit):
 
     kind = "query"
 
-    def _sentence(self) -> str:
+    def told(self) -> str:
         return _QUERY
 
 
@@ -378,7 +391,7 @@ class Mapping(Refused, number=20):
     faults: Tuple[str, ...] = ()
 
     def __str__(self) -> str:
-        return "\n  ".join([super().__str__(), *self.faults])
+        return "\n  ".join([self.word, *self.faults])
 
 
 class Damaged(Refused, number=21):

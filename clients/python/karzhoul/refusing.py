@@ -32,9 +32,18 @@ def refusal_told(
         refused.why = run.factory.why_unwritten()
     refused._factory, refused._run = run.factory, run
     _note_mark(run, refused, line)
-    # Which a traceback of Python 3.11 and later tells.
-    vars(refused)["__notes__"] = ["its explain() says more"]
+    _say(refused)
     return refused
+
+
+def _say(refused: Refused) -> None:
+    """Has it say what can be told of it now, without asking, or that more can be told by asking."""
+    from .explaining import sentence
+
+    refused._sentence = sentence(refused)
+    if refused._sentence is None:
+        # Which a traceback of Python 3.11 and later tells.
+        vars(refused)["__notes__"] = ["its explain() says more"]
 
 
 def _note_mark(run: Run, refused: Refused, line: bytes) -> None:
@@ -43,4 +52,4 @@ def _note_mark(run: Run, refused: Refused, line: bytes) -> None:
         manager = int(found[1])
         refused._before = run.marked.get(manager)
         if refused.name in MARKING:
-            run.marked.setdefault(manager, (str(refused), refused.line))
+            run.marked.setdefault(manager, (refused.word, refused.line))

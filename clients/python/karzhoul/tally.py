@@ -33,7 +33,7 @@ class Statistics:
     calls: Mapping[str, int]
     """How many calls there were of each name."""
     refusals: Mapping[str, int]
-    """How many were refused, by what `str` of a refusal says."""
+    """How many were refused, by the `word` of a refusal."""
     seconds: float
     """How long their replies were waited for."""
     slowest: Optional[Tuple[float, str]]
@@ -129,7 +129,7 @@ class Tally:
 
     def refused(self, refused: Iterable[Refused]) -> None:
         """Counts refusals."""
-        self._refusals.update(map(Refused.__str__, refused))
+        self._refusals.update(each.word for each in refused)
 
     def note_retry(self) -> None:
         """Counts a piece of work that is done again; threads may do so at one time."""

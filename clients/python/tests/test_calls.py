@@ -388,7 +388,7 @@ class Pipelines(ProgramTest):
                 self.app.set(order, "nothing", 1)
         self.assertEqual(raised.exception.detail, "type")
         self.assertEqual(
-            [str(later) for later in raised.exception.later], ["IllegalArgument(name)"]
+            [later.word for later in raised.exception.later], ["IllegalArgument(name)"]
         )
         self.assertIn('"five"', raised.exception.line)
         self.assertEqual(order.amount, 5)

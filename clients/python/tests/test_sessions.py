@@ -286,7 +286,8 @@ class Ended(ProgramTest):
         told = raised.exception
         for made in (pickle.loads(pickle.dumps(told)), copy.deepcopy(told)):
             self.assertIs(type(made), karzhoul.IllegalArgument)
-            self.assertEqual((str(made), made.line), ("IllegalArgument(entity)", told.line))
+            self.assertEqual((made.word, made.line), ("IllegalArgument(entity)", told.line))
+            self.assertEqual(str(made), "there is no entity 'Persn': did you mean 'Person'?")
         for n in range(3):
             self.committed(name=f"p{n}")
         page = self.em.page("SELECT p.id FROM Person p ORDER BY p.id", 1, 2, total=True)
