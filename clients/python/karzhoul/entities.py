@@ -7,11 +7,12 @@ import sys
 from collections.abc import Callable, Iterable, Iterator, Mapping, MutableSequence, Sequence
 from functools import partial
 from typing import (
-    TYPE_CHECKING, Any, ClassVar, Dict, List, NamedTuple, Optional, Tuple, Type, TypeVar, Union,
-    overload,
+    TYPE_CHECKING, Any, ClassVar, Dict, List, NamedTuple, NoReturn, Optional, Tuple, Type, TypeVar,
+    Union, overload,
 )
 
 from .lines import LifecycleEvent, line_of, text_spelled
+from .misfits import misfit, unknown
 
 if TYPE_CHECKING:
     from .factory import EntityManagerFactory
@@ -46,6 +47,8 @@ class Entity:
             raise TypeError(f"{cls.__name__}: the class of an entity takes no subclass of your own")
 
     def __new__(cls: Type[E], /, **values: Any) -> E:
+        if values:
+            check_names(cls, values)  # Before anything is made.
         factory = cls._karzhoul_factory
         made: E = factory.ask_lines(None, [cls._karzhoul_line], cls.__name__)[0]
         return made
@@ -60,8 +63,18 @@ class Entity:
 
         def __setattr__(self, name: str, value: Any) -> None: ...
 
-    def __reduce__(self) -> str:
-        return _named(self, None)  # So a copy is the object itself, and none can be pickled.
+    def __copy__(self: E) -> E:
+        return self
+
+    def __deepcopy__(self: E, memo: object) -> E:
+        return self
+
+    def __reduce_ex__(self, protocol: object) -> NoReturn:
+        kind, key = type(self).__name__, self._karzhoul_key[0]
+        raise TypeError(
+            f"an object of {kind} can't be pickled, since its program alone has its values: pickle "
+            f"its {key}, by which it is found again, or the values that are needed"
+        )
 
     def __repr__(self) -> str:
         return _named(self, self._karzhoul_factory.key_at_hand(self))
@@ -70,6 +83,16 @@ class Entity:
         from .notebook import object_html
 
         return object_html(self)
+
+
+def check_names(kind: Type[Entity], names: Iterable[str]) -> None:
+    """Refuses names that are no attributes of an entity's class: an `AttributeError` says which is
+    meant."""
+    for name in names:
+        if not isinstance(getattr(kind, name, None), Attribute):
+            members = [item for each in kind.__mro__[::-1] for item in vars(each).items()]
+            known = [name for name, member in members if isinstance(member, Attribute)]
+            raise unknown(kind.__name__, name, known)
 
 
 def _named(entity: Entity, key: Optional[Sequence[Any]]) -> str:
@@ -329,8 +352,12 @@ class Attribute(property):
 
     def line(self, entity: Entity, value: Any) -> bytes:
         """The line that sets it."""
-        number, given = entity._karzhoul_number, entity._karzhoul_run.given(value)
-        return f'{{"call":"set","object":{number}{self.between}{given}}}'.encode()
+        number = entity._karzhoul_number
+        try:
+            given = entity._karzhoul_run.given(value)
+            return f'{{"call":"set","object":{number}{self.between}{given}}}'.encode()
+        except (TypeError, ValueError, OverflowError) as fault:
+            raise misfit(fault, f"{type(entity).__name__}.{self.name}", value) from None
 
 
 def classes_of(

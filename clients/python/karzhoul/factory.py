@@ -16,7 +16,7 @@ from .arguments import entity_named
 from .begun import Begun
 from .calls import CREATE, Calls
 from .classes import Classes, marked_text, marks_of
-from .entities import Attribute, E, Entity, classes_of
+from .entities import Attribute, E, Entity, check_names, classes_of
 from .finding import find_program
 from .lines import line_of
 from .managers import EntityManager
@@ -344,6 +344,7 @@ class EntityManagerFactory(Calls, AbstractContextManager["EntityManagerFactory"]
     ) -> List[Any]:
         """A new object for each row of values, sent without waiting for each."""
         rows, kind = list(rows), entity_named(self._classes, entity)
+        check_names(kind, dict.fromkeys(name for row in rows for name in row))
         with self.pipeline():
             made = self.ask_lines(None, [kind._karzhoul_line] * len(rows), kind.__name__)
             run = made[0]._karzhoul_run if made else None

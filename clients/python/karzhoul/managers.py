@@ -13,6 +13,7 @@ from .entities import E, EmbeddedId, Entity
 from .fetching import fetched
 from .interrupts import begin_of_block, carried_out, end_of_block, guard, unguard
 from .lines import FlushModeType, LockModeType, line_of, spelled, text_spelled
+from .misfits import misfit
 from .queries import Queries
 from .refusals import KarzhoulError, NoSuchManager, ProgramEnded, Refused, Restarted
 from .transactions import Attempt, EntityTransaction, attempts
@@ -117,7 +118,11 @@ class EntityManager(Queries, AbstractContextManager["EntityManager"]):
     ) -> List[Any]:
         name = entity if isinstance(entity, str) else entity.__name__
         front = f'{{"call":"{call}","em":{self._em},"entity":{text_spelled(name)},"key":'
-        lines = [f"{front}{self._key(key)}}}".encode() for key in keys]
+        keys = list(keys)
+        try:
+            lines = [f"{front}{self._key(key)}}}".encode() for key in keys]
+        except (TypeError, OverflowError, UnicodeEncodeError) as fault:
+            raise misfit(fault, f"the key of {name}", keys) from None
         return self.factory.ask_lines(self._run, lines, name)
 
     def _key(self, key: Any) -> str:

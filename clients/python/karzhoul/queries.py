@@ -10,6 +10,7 @@ from typing import Type, Union
 from .arguments import check_query, item_class, parameter_name
 from .concern import Concern
 from .lines import line_of, spelled, text_spelled
+from .misfits import misfit, misfit_of
 from .refusals import NoResult, Refused
 from .rewriting import ByKey, by_key, counting, is_list, with_lists
 from .rows import Names, Page, Row, Rows, as_row, as_rows
@@ -231,12 +232,14 @@ class _Asked(NamedTuple):
         said, values = with_lists(text or self.text, {**(self.given or {}), **(more or {})})
         members = {"em": self.manager._em, "text": text_spelled(said)}
         if has_params:
-            spell = self.manager._run.given
-            listed = [f"{text_spelled(name)}:{spell(value)}" for name, value in values.items()]
-            members["params"] = f"{{{','.join(listed)}}}"
+            members["params"] = f"{{{','.join(_listed(self.manager._run, values))}}}"
         limits = (("first", first), ("max", most))
         members.update({name: spelled(limit) for name, limit in limits if limit is not None})
-        return line_of(call, members)
+        try:
+            return line_of(call, members)
+        except UnicodeEncodeError as fault:
+            told = {f"the parameter {name!r}": value for name, value in values.items()}
+            raise misfit_of(fault, {**told, "the query": said}) from None
 
     def answers(self, lines: List[bytes], is_one: bool = False) -> List[Any]:
         """The answers to its lines: the first has rows, or one, with an item of its class."""
@@ -256,6 +259,15 @@ class _Asked(NamedTuple):
         names = Names(self.text)
         found = self.answers([self.line("query", first, most)])[0]
         return Rows(as_rows(found, names), names)
+
+
+def _listed(run: Run, values: Mapping[str, Any]) -> Iterator[str]:
+    """Parameters as JSON; a fault of what can't be one names it."""
+    for name, value in values.items():
+        try:
+            yield f"{text_spelled(name)}:{run.given(value)}"
+        except (TypeError, ValueError, OverflowError) as fault:
+            raise misfit(fault, f"the parameter {name!r}", value) from None
 
 
 def _iterated(asked: _Asked, query: ByKey, size: int) -> Iterator[Any]:

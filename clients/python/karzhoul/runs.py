@@ -10,6 +10,7 @@ from weakref import ref
 from .classes import Classes
 from .entities import Entity, Event
 from .lines import LifecycleEvent, spelled, text_spelled
+from .misfits import misfit
 from .refusals import BadLine, Restarted
 from .refusing import refusal_told
 
@@ -83,8 +84,12 @@ class Run:
 
     def set_line(self, entity: Entity, name: str, value: Any) -> bytes:
         """The line that sets a member."""
-        number, word, given = self.number(entity), text_spelled(name), self.given(value)
-        return f'{{"call":"set","object":{number},"name":{word},"value":{given}}}'.encode()
+        number, word = self.number(entity), text_spelled(name)
+        try:
+            given = self.given(value)
+            return f'{{"call":"set","object":{number},"name":{word},"value":{given}}}'.encode()
+        except (TypeError, ValueError, OverflowError) as fault:
+            raise misfit(fault, f"{type(entity).__name__}.{name}", value) from None
 
     def member_line(self, call: str, entity: Entity, name: str, member: Entity) -> bytes:
         """The line that adds a member to a collection, or takes it out."""
