@@ -9,10 +9,12 @@ from __future__ import annotations
 
 from contextlib import suppress
 from functools import cached_property
-from typing import TYPE_CHECKING, Any, Dict, Iterable, Iterator, List, Optional, Sequence, Set
-from typing import Tuple
+from typing import (
+    TYPE_CHECKING, Any, Dict, Iterable, Iterator, List, Mapping, Optional, Sequence, Set, Tuple,
+)
 
 from .concern import Concern
+from .converters import column_value, value_of
 from .entities import Entity
 from .lines import LifecycleEvent
 from .places import Place
@@ -30,10 +32,13 @@ _WRITTEN = {
     LifecycleEvent.PRE_PERSIST, LifecycleEvent.POST_PERSIST, LifecycleEvent.PRE_UPDATE,
     LifecycleEvent.POST_UPDATE,
 }
+_PERSISTED = {LifecycleEvent.PRE_PERSIST, LifecycleEvent.POST_PERSIST}
 _DROPPED = {LifecycleEvent.PRE_REMOVE, LifecycleEvent.POST_REMOVE}
 _RELATIONS = (MemberKind.TO_ONE, MemberKind.COLLECTION)
 # So many objects are looked at, and so many rows are told of each.
 _MOST, _MOST_ROWS = 10_000, 3
+# So many values of a converter are told.
+_MOST_VALUES = 10
 
 
 class Culprits:
@@ -54,14 +59,14 @@ class Culprits:
         told = [it.of for it in self._refused.events if it.kind in _WRITTEN]
         found = self.of([*self._concern.persisted, *told])
         found += self._beyond(found, "PERSIST")
-        return [it for it in dict.fromkeys(found) if not self._was_loaded(it)][:_MOST]
+        return [it for it in dict.fromkeys(found) if not self._was_stored(it)][:_MOST]
 
     @cached_property
     def _perhaps(self) -> List[Entity]:
         """New objects that were made since the last transaction, and that a cascade may have
         reached."""
         known = set(self._new)
-        return [it for it in self._since if it not in known and not self._was_loaded(it)]
+        return [it for it in self._since if it not in known and not self._was_stored(it)]
 
     @cached_property
     def _since(self) -> List[Entity]:
@@ -73,7 +78,8 @@ class Culprits:
     def _changed(self) -> List[Entity]:
         """What was to be replaced, in the order in which that was told."""
         told = [it.of for it in self._refused.events if it.kind in _WRITTEN]
-        return [it for it in self.of(told) if self._was_loaded(it)][:_MOST]
+        found = self.of([*told, *self._refused._written])
+        return [it for it in found if self._was_stored(it)][:_MOST]
 
     @cached_property
     def _removed(self) -> List[Entity]:
@@ -92,8 +98,20 @@ class Culprits:
                     found[self._run.object(each)] = None
         return list(found)
 
-    def _was_loaded(self, each: Entity) -> bool:
-        return self._run.kinds.was_loaded(each._karzhoul_number)
+    def _was_stored(self, each: Entity) -> bool:
+        """Whether an object was stored before the transaction, as far as that can be told: it was
+        loaded, or it was made before and wasn't persisted since."""
+        number = each._karzhoul_number
+        if self._run.kinds.was_loaded(number) or self._refused._concern is None:
+            return self._run.kinds.was_loaded(number)
+        return number <= self._concern.since and number not in self._persisted
+
+    @cached_property
+    def _persisted(self) -> Set[int]:
+        """The numbers of what was persisted in the transaction."""
+        told = [it.of for it in self._refused.events if it.kind in _PERSISTED]
+        numbers = [it if isinstance(it, int) else it._karzhoul_number for it in told]
+        return {*self._concern.persisted, *numbers}
 
     def _beyond(self, objects: Sequence[Entity], operation: str) -> List[Entity]:
         """What these lead to along relations that cascade an operation."""
@@ -156,7 +174,7 @@ class Culprits:
     def _name(self, each: Entity) -> str:
         key, kind = self._key(each), type(each).__name__
         word = f"{kind} #{each._karzhoul_number}" if key is None else _named(kind, key)
-        return word if self._was_loaded(each) else f"the new {word}"
+        return word if self._was_stored(each) else f"the new {word}"
 
     # ---- what is stored
 
@@ -211,6 +229,32 @@ class Culprits:
             word = "is null, and is required" if len(names) == 1 else "are null, and are required"
             yield f"{self._name(each)}: {' and '.join(names)} {word}"
 
+    def converter(self) -> Iterator[str]:
+        """Of each object the values that a converter doesn't take."""
+        return _first(
+            self._unconverted([*self._new, *self._changed]), self._unconverted(self._perhaps)
+        )
+
+    def _unconverted(self, objects: Sequence[Entity]) -> Iterator[str]:
+        for each, member, value in self._members(objects, MemberKind.ATTRIBUTE):
+            function = self._converters.get((member.declarer, member.name))
+            if function is not None and isinstance(value, (int, str, bytes)):
+                if column_value(function, value) is None:
+                    way = f"which its converter {function['name']} doesn't take{_taken(function)}"
+                    yield f"{self._name(each)}: {member.name} is {_quoted(value)}, {way}"
+
+    @cached_property
+    def _converters(self) -> Dict[Tuple[str, str], Any]:
+        """The converters of attributes."""
+        mapping = self._factory.mapping
+        functions = {each["name"]: each for each in mapping.get("functions", ())}
+        return {
+            (entity["name"], attribute["name"]): functions[attribute["converter"]]
+            for entity in mapping["entities"]
+            for attribute in entity.get("attributes", ())
+            if "converter" in attribute
+        }
+
     def reference(self) -> Iterator[str]:
         """What leads to an object that was removed, and what leads to one that isn't stored."""
         removed = dict.fromkeys(self._removed)
@@ -242,11 +286,11 @@ class Culprits:
 
     def unpersisted(self) -> Iterator[str]:
         """What leads to a new object that isn't persisted, or to one that is removed."""
-        loaded = [it for it in self._since if self._was_loaded(it)]
+        loaded = [it for it in self._since if self._was_stored(it)]
         held = self._run.held()
         return _first(
             self._unpersisted(dict.fromkeys([*self._new, *self._changed, *loaded])),
-            self._unpersisted([it for it in held if self._was_loaded(it)][:_MOST]),
+            self._unpersisted([it for it in held if self._was_stored(it)][:_MOST]),
         )
 
     def _unpersisted(self, objects: Iterable[Entity]) -> Iterator[str]:
@@ -256,7 +300,7 @@ class Culprits:
                 way = f"{self._name(each)} leads by {member.name} to"
                 if target in removed:
                     yield f"{way} {self._name(target)}, which is removed"
-                elif target not in inserted and not self._was_loaded(target):
+                elif target not in inserted and not self._was_stored(target):
                     hint = f"persist it too, or have {member.name} cascade PERSIST"
                     yield f"{way} {self._name(target)}, which isn't persisted: {hint}"
 
@@ -297,7 +341,7 @@ class Culprits:
     def persisted(self, each: Entity) -> Iterator[str]:
         """Why an object can't be persisted."""
         key, kind = self._key(each), type(each).__name__
-        if self._was_loaded(each):
+        if self._was_stored(each):
             yield f"{self._name(each)} is no new object, and this manager doesn't have it: merge it"
         elif key is not None:
             hint = "change that one, or give the new one another key"
@@ -306,6 +350,7 @@ class Culprits:
     def stale(self) -> Iterator[str]:
         """What another commit changed or removed since it was read."""
         told = [it.of for it in self._refused.events if it.kind in _WRITTEN | _DROPPED]
+        told += self._refused._written
         found = self.of([*told, *self._concern.locked, *self._concern.removed])
         perhaps: List[str] = []
         is_told = False
@@ -327,18 +372,22 @@ class Culprits:
         members = self._entity(each).members
         version = next((it.name for it in members if it.kind is MemberKind.VERSION), None)
         stored = self._stored(each, *([version] if version else []))
-        if not self._was_loaded(each):
-            return f"{self._name(each)} was stored by another commit too", stored is not None
+        if not self._was_stored(each):
+            is_there = stored is not None
+            word = f"{self._name(each)} was stored by another commit too"
+            return (word if is_there else ""), is_there
         if stored is None:
             return f"{self._name(each)} was removed by another commit", True
-        if version is None:
+        held = None if version is None else self._value(each, version)
+        if not isinstance(held, int):
             return self._name(each), False
-        held = self._value(each, version)
-        if isinstance(held, int) and stored[0] > held:
-            versions = f"version {stored[0]} is stored, and {held} was read"
+        # An earlier flush of the transaction may have raised it.
+        was_raised = each._karzhoul_number in self._refused._written
+        if stored[0] > held or (stored[0] == held and was_raised):
+            read = "an older one" if was_raised else str(held)
+            versions = f"version {stored[0]} is stored, and {read} was read"
             return f"{self._name(each)} was changed by another commit: {versions}", True
-        # An earlier flush raised it, and it stands as it was read.
-        return ("" if isinstance(held, int) and stored[0] < held else self._name(each)), False
+        return ("" if stored[0] < held else self._name(each)), False
 
 
 def _first(*ways: Iterator[str]) -> Iterator[str]:
@@ -348,6 +397,19 @@ def _first(*ways: Iterator[str]) -> Iterator[str]:
             yield word
             yield from way
             return
+
+
+def _quoted(value: Any) -> str:
+    return repr(value) if isinstance(value, str) else value_text(value)
+
+
+def _taken(function: Mapping[str, Any]) -> str:
+    """What a converter takes, where that is a table of values."""
+    if function["make"] != "table":
+        return ""
+    values = [_quoted(value_of(here)) for here, _ in function["pairs"]]
+    more = f" and {len(values) - _MOST_VALUES} more" if len(values) > _MOST_VALUES else ""
+    return f": it takes {', '.join(values[:_MOST_VALUES])}{more}"
 
 
 def _by_class(objects: Iterable[Entity]) -> Dict[str, List[Entity]]:

@@ -30,6 +30,7 @@ _ASKED: Dict[str, Callable[[Culprits], Iterable[str]]] = {
     "Persistence(null)": Culprits.null,
     "Persistence(reference)": Culprits.reference,
     "Persistence(unique)": Culprits.unique,
+    "Persistence(converter)": Culprits.converter,
     "IllegalState(reference)": Culprits.unpersisted,
     "OptimisticLock": Culprits.stale,
     "EntityExists": Culprits.exists,

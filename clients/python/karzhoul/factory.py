@@ -314,7 +314,11 @@ class EntityManagerFactory(Calls, AbstractContextManager["EntityManagerFactory"]
 
     def why_unwritten(self) -> str:
         """Why a commit can't be written, as far as that can be told."""
-        return "" if self._store is None else room_words(self._store.folder)
+        if self._store is not None:
+            return room_words(self._store.folder)
+        from .opening import why_unwritten
+
+        return why_unwritten(Path(self.program.words[-1]), self.program.pid)
 
     def statistics(self) -> Statistics:
         """How many calls there were of each name, how long they took, what was refused, and how

@@ -122,6 +122,8 @@ class Refused(KarzhoulError):
     _concern: Optional[Concern] = None
     # What marked its manager's transaction before, as its word and its line.
     _before: Optional[Tuple[str, str]] = None
+    # The numbers of the objects that flushes of its manager's transaction wrote before.
+    _written: Tuple[int, ...] = ()
     # What is said of it, where that was told when it was refused.
     _sentence: Optional[str] = None
 
@@ -135,7 +137,7 @@ class Refused(KarzhoulError):
 
     def __reduce__(self) -> Tuple[Any, ...]:
         # A copy, as for another process, has no objects, and no factory that could explain it.
-        of_this_process = ("_factory", "_run", "_concern")
+        of_this_process = ("_factory", "_run", "_concern", "_written")
         told = {name: it for name, it in vars(self).items() if name not in of_this_process}
         return _copied, (type(self), self.detail, {**told, "events": ()})
 
@@ -255,6 +257,7 @@ class Rollback(Refused, number=14):
 
             cause = told_apart(cause)
         cause._factory, cause._run, cause._concern = self._factory, self._run, self._concern
+        cause._written = self._written
         return cause
 
     def explain(self) -> str:

@@ -4,7 +4,7 @@ that moment."""
 from __future__ import annotations
 
 import re
-from typing import TYPE_CHECKING, Any, Mapping, Tuple, Type
+from typing import TYPE_CHECKING, Any, Iterable, Mapping, Sequence, Tuple, Type
 
 from .limits import told_apart
 from .refusals import MARKING, REFUSALS, BadLine, Limit, Refused, StoreFault
@@ -13,6 +13,7 @@ if TYPE_CHECKING:
     from .entities import Event
     from .runs import Run
 
+_WRITTEN = {"PostPersist", "PostUpdate", "PostRemove"}
 _MANAGER = re.compile(rb'"em":([0-9]+)')
 
 
@@ -46,10 +47,20 @@ def _say(refused: Refused) -> None:
         vars(refused)["__notes__"] = ["its explain() says more"]
 
 
+def note_written(run: Run, line: bytes, events: Iterable[Sequence[Any]]) -> None:
+    """Notes what a manager's flush has written or dropped, as that of a query, since the refusal of
+    a later call of its transaction may be about it."""
+    found = _MANAGER.search(line)
+    numbers = [number for kind, number, *_ in events if kind in _WRITTEN]
+    if found is not None and numbers:
+        run.written.setdefault(int(found[1]), {}).update(dict.fromkeys(numbers))
+
+
 def _note_mark(run: Run, refused: Refused, line: bytes) -> None:
     """Notes the first refusal that marks a manager's transaction, which each later one knows."""
     if found := _MANAGER.search(line):
         manager = int(found[1])
         refused._before = run.marked.get(manager)
+        refused._written = tuple(run.written.get(manager, ()))
         if refused.name in MARKING:
             run.marked.setdefault(manager, (refused.word, refused.line))

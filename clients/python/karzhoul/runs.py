@@ -12,7 +12,7 @@ from .entities import Entity, Event
 from .lines import LifecycleEvent, spelled, text_spelled
 from .misfits import misfit
 from .refusals import BadLine, Restarted
-from .refusing import refusal_told
+from .refusing import note_written, refusal_told
 
 if TYPE_CHECKING:
     from .factory import EntityManagerFactory
@@ -31,12 +31,15 @@ class Run:
     only while it is on. The calls of a factory alone have it read replies, one at a time.
     """
 
-    __slots__ = ("factory", "kinds", "marked", "managers", "_objects", "_most")
+    __slots__ = ("factory", "kinds", "marked", "written", "managers", "_objects", "_most")
 
     def __init__(self, factory: EntityManagerFactory, kinds: Classes) -> None:
         self.factory, self.kinds = factory, kinds
         # The first refusal of each manager's transaction that marked it, by the manager's number.
         self.marked: Dict[int, Tuple[str, str]] = {}
+        # The numbers of the objects that flushes of each manager's open transaction wrote or dropped,
+        # by the manager's number, as far as that was read.
+        self.written: Dict[int, Dict[int, None]] = {}
         # How many managers it has made, as far as they were created by the factory.
         self.managers: Optional[int] = None
         self._objects: Dict[int, ref[Entity]] = {}
@@ -165,6 +168,8 @@ class Run:
             # A call that is refused gives up the objects that it loaded, and their numbers.
             for kind_of_event, number, *ran in said["events"]:
                 self.kinds.learn(number, ran, kind_of_event == "PostLoad")
+            if said["events"]:
+                note_written(self, line, said["events"])
         answer = self._found(said.get("ok"), kind, line)
         events = tuple([self._event(*told) for told in said["events"]])
         if is_done:

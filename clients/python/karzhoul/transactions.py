@@ -34,6 +34,7 @@ class EntityTransaction:
             self.is_active = True
             self._ask("begin")
             self._manager._run.marked.pop(self._manager.number, None)
+            self._manager._run.written.pop(self._manager.number, None)
         except KarzhoulError:
             self.is_active = was_active
             raise
