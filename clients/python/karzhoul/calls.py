@@ -11,16 +11,20 @@ from copy import copy
 from time import perf_counter
 from types import FrameType
 from typing import (
-    Any, Callable, Deque, Dict, FrozenSet, Iterator, List, Mapping, Optional, Sequence, Tuple, Type,
+    Any, Callable, Deque, Dict, FrozenSet, Iterable, Iterator, List, Mapping, Optional, Sequence, Tuple, Type,
 )
 
 from .classes import Classes
 from .entities import Entity, Event
 from .lines import LifecycleEvent, line_of
+from .pending import BEFORE, Due
 from .program import Exchange, Program, of_before
 from .refusals import BadLine, KarzhoulError, NotServed, Refused, Restarted
-from .replies import NULL, are_silent, is_of_reply, is_restart, numbers_of
+from .replies import (
+    NULL, are_silent, is_of_reply, is_restart, numbers_of, objects_in, said_of,
+)
 from .runs import Run
+from .shown import Shown
 from .tally import Tally
 
 _taken_off: Callable[
@@ -37,7 +41,8 @@ class _Calls(Exchange):
     run: Optional[Run]
 
     __slots__ = (
-        "entity", "bad_line", "are_kept", "untold", "are_noted", "is_restart", "is_left",
+        "entity", "bad_line", "are_kept", "ran", "untold", "are_noted", "is_restart", "is_left",
+        "reads", "shown",
     )
 
     def __init__(
@@ -54,6 +59,8 @@ class _Calls(Exchange):
         self.bad_line = bad_line
         # Whether they were told in a pipeline, so that their refusals are still to be raised.
         self.are_kept = are_kept
+        # The events that they tell again, whose callbacks ran before.
+        self.ran: FrozenSet[Due] = frozenset()
         self.untold: Optional[Iterator[Tuple[Callable[[Event], None], Event]]] = None
         # Whether they were counted, which they are once, whatever is interrupted.
         self.are_noted = False
@@ -61,6 +68,10 @@ class _Calls(Exchange):
         self.is_restart = False
         # Whether they were interrupted, so that nobody waits for their answers.
         self.is_left = False
+        # How often values had been read when it was noted what they change.
+        self.reads = -1
+        # The objects in their replies whose class wasn't known, with the lines that ask for them.
+        self.shown: Optional[Tuple[List[int], _Calls]] = None
 
     def join(self, run: Optional[Run], line: bytes) -> None:
         """Has them be of the run of one more line, of a pipeline."""
@@ -85,7 +96,9 @@ class Calls:
         self._classes: Dict[str, Type[Entity]] = classes
         # Those without subclasses: what an answer is of that can be of no other class.
         self._lowest = {name: kind for name, kind in classes.items() if not kind.__subclasses__()}
-        self._tally = Tally(echo, bytes)
+        # By the line that makes one.
+        self._new = {kind._karzhoul_line: kind for kind in classes.values()}
+        self._tally = Tally(echo)
         self._lock = threading.RLock()
         # It rises with each call.
         self._turn = 0
@@ -99,6 +112,10 @@ class Calls:
         self._is_telling = False
         # Managers of a run, by their numbers, that are open and that nobody has.
         self._left: List[Tuple[Run, int]] = []
+        # The names of the events that callbacks hear of; and whether these hear of what comes before
+        # a flush writes.
+        self.heard: FrozenSet[str] = frozenset()
+        self.hears_before = False
 
     @property
     def _kinds(self) -> Classes:
@@ -106,10 +123,22 @@ class Calls:
 
     def listen(self, callback: Callable[[Event], None], *events: LifecycleEvent) -> None:
         """Hands the events of these kinds, or without any all events, to a callback, in the order
-        told, when their call is done. A callback may call, and what it raises is raised by the
-        call that told the event."""
+        told. It may call, also `persist` and `remove`; the events of its own calls come after.
+
+        Events before a flush (`PRE_PERSIST`, `PRE_UPDATE` and `PRE_REMOVE`) come before anything is
+        written, also where `commit` or a query flushes. What the callback sets is written by this
+        flush. What it raises is raised, and the flush isn't done: the transaction is open as
+        before, and a `with` block rolls it back. It runs once for an object and flush. `persist`,
+        `remove` and `merge` tell some of these themselves, when they are done; so does a flush of
+        an object that it had to load.
+
+        All other events come when their call is done. What the callback raises then is raised by
+        that call.
+        """
         kinds = frozenset(map(LifecycleEvent, events or LifecycleEvent))
         self._callbacks.append((callback, kinds))
+        self.heard |= {kind.value for kind in kinds}
+        self.hears_before = self.hears_before or bool(kinds & BEFORE)
 
     @property
     def turn(self) -> Optional[int]:
@@ -133,14 +162,17 @@ class Calls:
     def ask_lines(
         self, run: Optional[Run], lines: Sequence[bytes], entity: str = "",
         bad_line: Type[BadLine] = NotServed, timeout: Optional[float] = None,
+        ran: FrozenSet[Due] = frozenset(),
     ) -> List[Any]:
         """Does the calls of lines without waiting for each, and gives the answers. A line that is
         taken for no call is a `bad_line`. Where they aren't answered within so many seconds, the
-        program is ended: `GivenUp`."""
+        program is ended: `GivenUp`. Events whose callbacks `ran` before aren't told again."""
         with self._lock:
             while self._calls:  # A callback that is told of what was kept may have added to it.
                 self._settle(timeout)
+            reads = self._note(lines, bad_line)
             calls = self._calls = _Calls(run, lines, entity, bad_line, False)
+            calls.reads, calls.ran = reads, ran
             try:
                 return self._answers(calls, timeout)
             except BaseException:
@@ -157,15 +189,32 @@ class Calls:
                 if is_kept and calls.are_kept and calls.parts is None:
                     if run is not calls.run:
                         calls.join(run, line)
+                    reads = self._note((line, *more))
                     if more:
                         calls.lines += (line, *more)  # type: ignore[operator]
                     else:
                         calls.lines.append(line)  # type: ignore[attr-defined]
+                    if reads != self._run.known.reads:
+                        self._note((line, *more))
                     return
                 self._settle()  # Those that were sent are to be done first.
+            reads = self._note((line, *more))
             calls = self._calls = _Calls(run, [line, *more], "", NotServed, is_kept)
+            calls.reads = reads
             if not is_kept:
                 self._answers(calls)
+
+    def _note(self, lines: Sequence[bytes], bad_line: Type[BadLine] = NotServed) -> int:
+        """Takes note of what lines may change, and answers how often values had been read before.
+        So whatever an interrupt comes between, they count from then on, be they sent or not. Where
+        a handler of a signal has values read meanwhile, it is to be noted again."""
+        known = self._run.known
+        reads = known.reads
+        if bad_line is BadLine:  # A line of one's own may say one thing and then another.
+            known.forget()
+        else:
+            known.note(lines)
+        return reads
 
     def tell_all(self, run: Optional[Run], lines: Sequence[bytes]) -> None:
         """Does the calls of lines as `tell` does, in their order."""
@@ -262,26 +311,26 @@ class Calls:
         """The answers to calls, which are over with it. Their events are told first, and then the
         first refusal is raised."""
         self._turn += 1
+        if calls.reads != self._run.known.reads:
+            self._note(calls.lines, calls.bad_line)
         replies = self._replies(calls, timeout)
         run = calls.run or self._run
         if calls.is_restart and replies == NULL and self.program.run is run:
             self._begin_run(self.program)
-        kind = None
         try:
+            kind = None
             # What most calls answer: an object each and no event, or null.
-            if calls.entity:
-                kind, numbers = self._lowest.get(calls.entity), numbers_of(replies)
-                if numbers is not None and not self._untold:
-                    objects = run.objects(numbers, kind, calls.lines)
+            if calls.entity and calls.lines:
+                kind = self._lowest.get(calls.entity) or self._new.get(calls.lines[0])
+                numbers = None if self._untold else numbers_of(replies)
+                if numbers is not None and (kind is not None or run.are_known(numbers)):
+                    objects = run.objects(numbers, kind)
                     self._calls = None
                     return objects
             if not self._callbacks and (replies == NULL or are_silent(replies)):
                 self._calls = None
                 return [None] * len(replies)
-            heard = [
-                run.answer(line, reply, kind, calls.bad_line)
-                for line, reply in zip(calls.lines, replies)
-            ]
+            heard = self._heard(run, calls, replies, kind, timeout)
         except (AttributeError, LookupError, TypeError, ValueError) as fault:
             if is_of_reply(fault):
                 self._calls = None  # What is no reply is none the next time either.
@@ -291,6 +340,7 @@ class Calls:
                 (callback, event)
                 for _, events in heard
                 for event in events
+                if not calls.ran or event.due not in calls.ran
                 for callback, kinds in self._callbacks
                 if event.kind in kinds
             ]
@@ -307,6 +357,65 @@ class Calls:
             raise raised[0]
         return [answer for answer, _ in heard]
 
+    def _heard(
+        self, run: Run, calls: _Calls, replies: List[bytes], kind: Optional[Type[Entity]],
+        timeout: Optional[float],
+    ) -> List[Tuple[Any, Tuple[Event, ...]]]:
+        """The answer to each line, or its refusal, and its events. Where the class of an object
+        isn't known, the program is asked for it, and for its values with it."""
+        told = self.heard
+        each = [(line, reply, said_of(reply)) for line, reply in zip(calls.lines, replies)]
+        unknown = [number for it in each for number in run.hear(*it, kind, told)]
+        places: Dict[int, Shown] = {}
+        refused = None
+        if unknown:
+            if calls.shown is None:
+                numbers = list(dict.fromkeys(unknown))
+                lines = run.values_lines(numbers)
+                calls.shown = numbers, _Calls(run, lines, "", NotServed, False)
+            places, refused = self._shown(run, calls, *calls.shown, timeout)
+        heard = [
+            (refused, run.events(said, told))
+            if refused is not None and not run.are_known(objects_in(reply))
+            else run.answer(line, reply, said, calls.bad_line, told)
+            for line, reply, said in each
+        ]
+        run.done(places)
+        return heard
+
+    def _shown(
+        self, run: Run, calls: _Calls, numbers: Sequence[int], asked: _Calls,
+        timeout: Optional[float] = None,
+    ) -> Tuple[Dict[int, Shown], Optional[Refused]]:
+        """Reads the values of objects for calls that aren't done, by lines that ask for them."""
+        places = run.known.expect(numbers, run.loaded)
+        if self._calls is not calls:  # A signal's handler had them done, and may have sent others.
+            run.known.forget()
+        replies = self._replies(asked, timeout)
+        return places, run.show(asked.lines, replies, places)
+
+    def objects(self, run: Run, numbers: Sequence[int]) -> List[Entity]:
+        """The objects of these numbers, which there are. Where a class isn't known, the program is
+        asked for it."""
+        with self._lock:
+            unknown = [number for number in numbers if run.kinds[number] is None]
+            if unknown:
+                self.show(run, unknown)
+            return run.objects(numbers)
+
+    def show(self, run: Run, numbers: Iterable[int]) -> None:
+        """Reads the values of objects of a run anew, by their numbers."""
+        with self._lock:
+            self.tell_kept()
+            numbers = list(dict.fromkeys(numbers))
+            calls = self._calls = _Calls(run, run.values_lines(numbers), "", NotServed, False)
+            places, refused = self._shown(run, calls, numbers, calls)
+            self._calls = None
+            run.done(places)
+            if refused is not None:
+                self._tally.refused([refused])
+                raise refused
+
     def _replies(self, calls: _Calls, timeout: Optional[float]) -> List[bytes]:
         """The replies to calls, which are noted once."""
         began = perf_counter()
@@ -315,12 +424,33 @@ class Calls:
         except KarzhoulError as fault:
             if isinstance(fault, Restarted):  # They weren't sent, and never will be.
                 self._calls = None
+            self._run.known.forget()  # So that a call is asked, which says that the program is gone.
             self._tally.tell_fault(calls.lines, fault)
             raise
         if not calls.are_noted:
             calls.are_noted = True
             self._tally.note(calls.lines, replies, perf_counter() - began)
         return replies
+
+    def tell_before(self, events: Iterator[Event]) -> None:
+        """Tells events of what is to come, and then those of the calls that callbacks made. What
+        one raises is raised at once."""
+        was_telling = self._is_telling
+        try:
+            self._is_telling = True
+            self._tell_now(events)
+            raised = self._tell_each()
+        finally:
+            self._is_telling = was_telling
+        for fault in raised:  # It is none of the call that waits.
+            vars(fault).pop("_karzhoul_is_told", None)
+            raise fault
+
+    def _tell_now(self, events: Iterator[Event]) -> None:
+        for event in events:
+            for callback, kinds in self._callbacks:
+                if event.kind in kinds:
+                    callback(event)
 
     def _tell_events(self) -> List[Exception]:
         """Tells the events in their order, and answers what callbacks raise. Those of calls that a

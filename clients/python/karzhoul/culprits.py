@@ -88,8 +88,12 @@ class Culprits:
         return list(dict.fromkeys([*found, *self._beyond(found, "REMOVE")]))[:_MOST]
 
     def of(self, told: Iterable[Any]) -> List[Entity]:
-        """The objects of numbers, each once; those whose class isn't known are left out."""
+        """The objects of numbers, each once; those that a refused call gave up are left out."""
         found: Dict[Entity, None] = {}
+        told = list(told)
+        numbers = [it for it in told if not isinstance(it, Entity) and 0 < it <= self._run.made]
+        with suppress(KarzhoulError):  # So that their classes are known.
+            self._factory.objects(self._run, numbers)
         for each in told:
             if isinstance(each, Entity):
                 found[each] = None

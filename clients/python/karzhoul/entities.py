@@ -17,6 +17,7 @@ from .misfits import misfit, unknown
 if TYPE_CHECKING:
     from .factory import EntityManagerFactory
     from .runs import Run
+    from .shown import Shown
 
 E = TypeVar("E", bound="Entity")
 # A text or bytes have at most so many bytes.
@@ -31,13 +32,17 @@ class Entity:
     its attributes are the entity's members. The class of a subclass is a subclass.
     """
 
-    __slots__ = ("_karzhoul_number", "_karzhoul_run", "__weakref__")
+    __slots__ = ("_karzhoul_number", "_karzhoul_run", "_karzhoul_shown", "__weakref__")
     _karzhoul_number: int
     # The run of the program that knows it by that number.
     _karzhoul_run: Run
+    # Its values as they were read last.
+    _karzhoul_shown: Shown
     _karzhoul_factory: ClassVar[EntityManagerFactory]
     # The line that makes one.
     _karzhoul_line: ClassVar[bytes]
+    # The place of each member that is no relation among the values.
+    _karzhoul_places: ClassVar[Mapping[str, int]] = {}
     # The attribute that is the key, and the members that are its parts.
     _karzhoul_key: ClassVar[Tuple[str, Sequence[str]]]
 
@@ -334,12 +339,18 @@ class Attribute(property):
     def __init__(
         self, name: str, target: str = "",
         view: Optional[Callable[[Entity, str], Union[Collection[Any], EmbeddedId]]] = None,
+        place: Optional[int] = None,
     ) -> None:
+        """With the place among an object's values, where it has one."""
         self.name, self.target, self.is_viewed = name, target, view is not None
         # What stands between an object's number and a value in the line that sets it.
         self.between = f',"name":{text_spelled(name)},"value":'
 
         def read(it: Entity) -> Any:
+            if place is not None:
+                shown = it._karzhoul_shown
+                if not shown.epoch.is_over:
+                    return shown.values[place]
             return it._karzhoul_factory.get(it, name) if view is None else view(it, name)
 
         def assign(it: Entity, value: Any) -> None:
@@ -378,15 +389,17 @@ def _make_class(
     """The class of an entity, which is a subclass of that of the entity that it extends."""
     if name not in made:
         entity = declared[name]
-        base = (
+        base: Type[Entity] = (
             _make_class(factory, declared, entity["extends"], made)
             if "extends" in entity
             else Entity
         )
-        own: Dict[str, Any] = {attribute.name: attribute for attribute in _attributes(entity)}
+        places = _places(entity, base._karzhoul_places)
+        own: Dict[str, Any] = {it.name: it for it in _attributes(entity, places)}
         own.update(__slots__=(), __doc__=f"An object of the entity {name}.")
         own.update(
-            _karzhoul_factory=factory, _karzhoul_line=line_of("new", {"entity": text_spelled(name)})
+            _karzhoul_factory=factory, _karzhoul_places=places,
+            _karzhoul_line=line_of("new", {"entity": text_spelled(name)}),
         )
         if base is Entity:
             own["_karzhoul_key"] = _key(entity)
@@ -402,16 +415,24 @@ def _key(entity: Mapping[str, Any]) -> Tuple[str, List[str]]:
     return (name, [f"{name}.{part}" for part in parts]) if name else (parts[0], parts)
 
 
-def _attributes(entity: Mapping[str, Any]) -> List[Attribute]:
+def _places(entity: Mapping[str, Any], above: Mapping[str, int]) -> Dict[str, int]:
+    """The place of each member that is no relation among the values of an object: the key's parts
+    come first, then the version, then the attributes, of the superclass first."""
+    names = _key(entity)[1] if "key" in entity else []
+    names += [entity["version"]["name"]] if "version" in entity else []
+    names += [attribute["name"] for attribute in entity.get("attributes", ())]
+    return {**above, **{name: place for place, name in enumerate(names, len(above))}}
+
+
+def _attributes(entity: Mapping[str, Any], places: Mapping[str, int]) -> List[Attribute]:
     """The attributes that an entity itself declares."""
     key = {part["name"]: part["type"] for part in entity.get("key", ())}
-    made = (
-        [Attribute(entity["embedded"], view=partial(EmbeddedId, key))]
-        if "embedded" in entity
-        else [Attribute(part) for part in key]
-    )
-    made += [Attribute(entity["version"]["name"])] if "version" in entity else []
-    made += [Attribute(attribute["name"]) for attribute in entity.get("attributes", ())]
+    names = [] if "embedded" in entity else list(key)
+    names += [entity["version"]["name"]] if "version" in entity else []
+    names += [attribute["name"] for attribute in entity.get("attributes", ())]
+    made = [Attribute(name, place=places[name]) for name in names]
+    if "embedded" in entity:
+        made.insert(0, Attribute(entity["embedded"], view=partial(EmbeddedId, key)))
     for relation in entity.get("relations", ()):
         made.append(
             Attribute(
@@ -435,6 +456,12 @@ class Event(_Told):
     callbacks that `ran`."""
 
     __slots__ = ()
+
+    @property
+    def due(self) -> Tuple[str, int]:
+        """The name of its kind and the number of its object."""
+        it = self.of
+        return self.kind.value, it._karzhoul_number if isinstance(it, Entity) else it
 
     @property
     def object(self) -> Entity:

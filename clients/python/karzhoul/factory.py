@@ -15,7 +15,7 @@ from typing import (
 from .arguments import entity_named
 from .begun import Begun
 from .calls import CREATE, Calls
-from .classes import Classes, marked_text, marks_of
+from .classes import Classes
 from .entities import Attribute, E, Entity, check_names, classes_of
 from .finding import find_program
 from .lines import line_of
@@ -123,9 +123,9 @@ def _why_unopened(db: Words, store: Optional[MemoryStore]) -> str:
 
 @contextmanager
 def _as_file(said: bytes) -> Iterator[str]:
-    """A file that says a mapping, with its marks."""
+    """A file that says a mapping."""
     with tempfile.NamedTemporaryFile(prefix="karzhoul-", suffix=".json") as file:
-        Path(file.name).write_bytes(marked_text(said))
+        Path(file.name).write_bytes(said)
         yield file.name
 
 
@@ -146,9 +146,7 @@ class EntityManagerFactory(Calls, AbstractContextManager["EntityManagerFactory"]
 
     def _begin_run(self, program: Program) -> None:
         before: Optional[Run] = vars(self).get("_run")
-        kinds = Classes(self._classes, marks_of(self.mapping))
-        self._tally.unmarked = kinds.unmarked
-        self.program, self._run = program, Run(self, kinds)
+        self.program, self._run = program, Run(self, Classes(self._classes))
         self._turn += 1  # So that no collection shows what it read before.
         # Last but for what may be done again, since it says that all is done.
         program.run = self._run
@@ -176,6 +174,7 @@ class EntityManagerFactory(Calls, AbstractContextManager["EntityManagerFactory"]
                 finally:
                     self._calls = None
                     self.program.fault = ProgramEnded(None)  # Also where it had ended before.
+                    self._run.known.forget()  # What is read from now on is refused.
         if self._places is not None:
             self._places.wake()
 
@@ -371,18 +370,31 @@ class EntityManagerFactory(Calls, AbstractContextManager["EntityManagerFactory"]
         return self.get_many([entity], name)[0]
 
     def get_many(self, objects: Sequence[Entity], name: str) -> List[Any]:
-        """The values that objects of one class have of a member, asked without waiting for each."""
-        target = getattr(getattr(type(objects[0]), name, None), "target", "") if objects else ""
+        """The values that objects of one class have of a member, asked without waiting for each;
+        those of attributes are asked for where they may have changed since they were read."""
         if not objects:
             return self.ask_lines(None, [])
-        run = self._run_of(objects[0])
+        run, kind = self._run_of(objects[0]), type(objects[0])
+        place = kind._karzhoul_places.get(name)
+        if place is not None and all(type(it) is kind for it in objects):
+            return [values[place] for values in self._values(run, objects)]
+        target = getattr(getattr(kind, name, None), "target", "")
         return self.ask_lines(run, [run.get_line(entity, name) for entity in objects], target)
 
     def get_members(self, entity: Entity, names: Iterable[str]) -> List[Any]:
-        """The values that an object has of members that are no relations, asked without waiting for
-        each."""
-        run = self._run_of(entity)
-        return self.ask_lines(run, [run.get_line(entity, name) for name in names])
+        """The values that an object has of members that are no relations."""
+        places = type(entity)._karzhoul_places
+        [values] = self._values(self._run_of(entity), [entity])
+        return [values[places[name]] for name in names]
+
+    def _values(self, run: Run, objects: Sequence[Entity]) -> List[Sequence[Any]]:
+        """The values of objects, of which those are read that may have changed."""
+        for entity in objects:
+            run.number(entity)
+        unread = run.unread(objects)
+        if unread:
+            self.show(run, unread)
+        return [entity._karzhoul_shown.values for entity in objects]
 
     def key_at_hand(self, entity: Entity) -> Optional[List[Any]]:
         """The parts of an object's key; None where calls are kept in a pipeline, which asking would

@@ -4,7 +4,7 @@ from __future__ import annotations
 
 from contextlib import AbstractContextManager
 from typing import (
-    TYPE_CHECKING, Any, Iterable, Iterator, List, Optional, Type, Union, overload,
+    TYPE_CHECKING, Any, FrozenSet, Iterable, Iterator, List, Optional, Type, Union, overload,
 )
 from weakref import ref
 
@@ -14,6 +14,7 @@ from .fetching import fetched
 from .interrupts import begin_of_block, carried_out, end_of_block, guard, unguard
 from .lines import FlushModeType, LockModeType, line_of, spelled, text_spelled
 from .misfits import misfit
+from .pending import Due, Pending
 from .queries import Queries
 from .refusals import KarzhoulError, NoSuchManager, ProgramEnded, Refused, Restarted
 from .transactions import Attempt, EntityTransaction, attempts
@@ -35,6 +36,7 @@ class EntityManager(Queries, AbstractContextManager["EntityManager"]):
             place.run, place.number, place.manager = run, number, ref(self)
         self._run, self._em = run, str(number)
         self._transaction = EntityTransaction(self)
+        self._pending, self._mode = Pending(self), FlushModeType.AUTO
         self._concern = Concern(run.made)
 
     @begin_of_block
@@ -200,9 +202,13 @@ class EntityManager(Queries, AbstractContextManager["EntityManager"]):
         self._concern = Concern(self._run.made)
 
     def flush(self) -> None:
-        """Writes what has changed into the transaction."""
+        """Writes what has changed into the transaction. What a callback raises that runs before
+        (`EntityManagerFactory.listen`) leaves nothing written."""
+        self._pending.before(self._flush)
+
+    def _flush(self, ran: FrozenSet[Due]) -> None:
         try:
-            self._ask("flush")
+            self._ask_flushing("flush", ran)
         except Refused as refused:
             refused._concern = self._concern
             raise
@@ -211,6 +217,7 @@ class EntityManager(Queries, AbstractContextManager["EntityManager"]):
         """Says when a query in a transaction flushes first."""
         word = text_spelled(FlushModeType(mode))
         self.factory.tell(self._run, line_of("setFlushMode", {"em": self._em, "mode": word}))
+        self._mode = FlushModeType(mode)
 
     def close(self) -> None:
         """Ends the manager, which owns no open transaction."""
@@ -224,6 +231,14 @@ class EntityManager(Queries, AbstractContextManager["EntityManager"]):
     def _give_place_back(self) -> None:
         if self._place is not None and self.factory._places is not None:
             self.factory._places.give_back(self._place)
+
+    def _flushes_before(self) -> bool:
+        """Whether a query flushes first."""
+        return self._transaction.is_active and self._mode is FlushModeType.AUTO
+
+    def _ask_flushing(self, call: str, ran: FrozenSet[Due]) -> None:
+        """Does a call that flushes, before which these callbacks ran."""
+        self.factory.ask_lines(self._run, [line_of(call, {"em": self._em})], ran=ran)
 
     def _ask(self, call: str, **members: str) -> Any:
         """Does a call of this manager, whose members are JSON, and gives its answer."""

@@ -26,6 +26,10 @@ _PATIENCE = 2.0
 _CHUNK = (1 << 16,)
 # How long a program may still take for its reply once it is interrupted a second time.
 _GRACE = 1.0
+# What a program must serve, and which one does.
+HELLO = (b'{"call":"values","objects":[]}', b'{"call":"pending","em":0}')
+_SHOWN = b'{"events":[],"ok":[]}'
+NEEDED = "version 0.1.0 of 2026-11-29, or a later one"
 # Ends the program's group at the end of input, which comes without a line where this process is
 # killed, and removes what goes with it.
 _WATCH = 'read -r line || { kill -KILL "-$1"; [ -z "$2" ] || rm -rf -- "$2"; }'
@@ -268,18 +272,26 @@ class Program:
         return ended
 
     def start(self) -> None:
-        """Waits for the program to answer at all, by an empty line, which is no call. What it tells
-        meanwhile, as where it is being built, goes to standard error."""
-        hello = Exchange([b""])
+        """Waits for the program to answer at all, by lines that change nothing. What it tells
+        meanwhile, as where it is being built, goes to standard error. One that doesn't serve what
+        this client asks is a `ProgramNotFound`, which says so."""
+        hello = Exchange(HELLO)
         hello.start()
-        with suppress(BrokenPipeError):  # What it told before its end is still read.
-            hello.written += map(os.write, self._in, (b"\n",))
+        for part in hello.parts or ():
+            with suppress(BrokenPipeError):  # What it told before its end is still read.
+                part.written += map(os.write, self._in, (part.text,))
         shown = 0
         while not self._reading.poll(1000 * _PATIENCE):
             if told := self._told()[shown:]:
                 print(f"karzhoul: waiting for {self.words[0]}: {told.strip()}", file=sys.stderr)
                 shown += len(told)
-        if b'"BadLine"' not in self.replies(hello)[0]:
+        replies = self.replies(hello)
+        if any(b'"BadLine"' in reply for reply in replies):
+            raise ProgramNotFound(
+                f"{self.words[0]!r} is older than this client: it doesn't serve the calls values "
+                f"and pending. The client needs the program of {NEEDED}"
+            )
+        if replies[0] != _SHOWN:
             raise ProgramNotFound(f"{self.words[0]!r} is no program that answers calls")
 
     def close(self) -> None:

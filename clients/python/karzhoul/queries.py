@@ -4,8 +4,8 @@ from __future__ import annotations
 
 import sys
 import warnings
-from typing import TYPE_CHECKING, Any, Dict, Iterator, List, Mapping, NamedTuple, Optional
-from typing import Type, Union
+from typing import TYPE_CHECKING, Any, Dict, FrozenSet, Iterator, List, Mapping, NamedTuple
+from typing import Optional, Type, Union
 
 from .arguments import check_query, item_class, parameter_name
 from .concern import Concern
@@ -17,6 +17,7 @@ from .rows import Names, Page, Row, Rows, as_row, as_rows
 
 if TYPE_CHECKING:
     from .factory import EntityManagerFactory
+    from .pending import Due, Pending
     from .runs import Run
 
 # By name, or by number for ?1.
@@ -43,7 +44,12 @@ class Queries:
     _run: Run
     # Its number as JSON.
     _em: str
+    _pending: Pending
     _concern: Concern
+
+    def _flushes_before(self) -> bool:
+        """Whether a query flushes first."""
+        raise NotImplementedError
 
     def query(
         self,
@@ -243,16 +249,24 @@ class _Asked(NamedTuple):
 
     def answers(self, lines: List[bytes], is_one: bool = False) -> List[Any]:
         """The answers to its lines: the first has rows, or one, with an item of its class."""
-        try:
-            manager = self.manager
-            answers = manager.factory.ask_lines(manager._run, lines, timeout=self.seconds)
-        except Refused as refused:  # It may be that of the flush before a query.
-            refused._concern = self.manager._concern
-            raise
+        answers = self._asked(lines)
         if self.wanted is not None:
             for row in [answers[0]] if is_one else answers[0]:
                 _require_class(row, self.wanted)
         return answers
+
+    def _asked(self, lines: List[bytes]) -> List[Any]:
+        """The answers to lines, before which callbacks run where the first flushes."""
+        manager, timeout = self.manager, self.seconds
+
+        def ask(ran: FrozenSet[Due] = frozenset()) -> List[Any]:
+            try:
+                return manager.factory.ask_lines(manager._run, lines, timeout=timeout, ran=ran)
+            except Refused as refused:  # It may be that of the flush before a query.
+                refused._concern = manager._concern
+                raise
+
+        return manager._pending.before(ask, timeout) if manager._flushes_before() else ask()
 
     def rows(self, first: Limit, most: Limit) -> Rows:
         """Its rows, from the first on and at most so many."""

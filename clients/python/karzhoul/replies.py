@@ -4,8 +4,9 @@ from __future__ import annotations
 
 import json
 import os
+import re
 from contextlib import suppress
-from typing import List, Optional
+from typing import Any, Dict, List, Optional
 
 # What stands between the numbers of replies that are an object each, and no event.
 _BETWEEN = b'}}\n{"events":[],"ok":{"object":'
@@ -14,6 +15,8 @@ _NULL_END = b',"ok":null}'
 _LOADED = b'["PostLoad",'
 # The replies to a line that answers null and tells no event.
 NULL = [b'{"events":[],"ok":null}']
+_OBJECT = re.compile(rb'\{"object":([0-9]+)\}')
+_decode = json.JSONDecoder().raw_decode
 # Where the code is that reads replies.
 _READERS = {os.path.dirname(__file__), os.path.dirname(json.__file__)}
 
@@ -45,6 +48,17 @@ def numbers_of(replies: List[bytes]) -> Optional[List[int]]:
     if len(pieces) != len(replies) or not b"".join(pieces).isdigit() or text.find(b":0") >= 0:
         return None
     return list(map(int, pieces))
+
+
+def said_of(reply: bytes) -> Dict[str, Any]:
+    """What a reply says."""
+    said: Dict[str, Any] = _decode(reply.decode())[0]
+    return said
+
+
+def objects_in(reply: bytes) -> List[int]:
+    """The numbers of the objects in an answer. (A quote within a text is escaped.)"""
+    return list(map(int, _OBJECT.findall(reply))) if b'{"object":' in reply else []
 
 
 def is_of_reply(fault: Exception) -> bool:

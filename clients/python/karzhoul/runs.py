@@ -4,23 +4,30 @@ have their numbers in one run alone."""
 from __future__ import annotations
 
 import json
-from typing import TYPE_CHECKING, Any, Dict, List, Optional, Sequence, Tuple, Type, Union
+from typing import (
+    TYPE_CHECKING, Any, Container, Dict, FrozenSet, Iterable, List, Mapping, Optional, Sequence,
+    Tuple, Type, Union,
+)
 from weakref import ref
 
 from .classes import Classes
 from .entities import Entity, Event
 from .lines import LifecycleEvent, spelled, text_spelled
 from .misfits import misfit
-from .refusals import BadLine, Restarted
+from .refusals import BadLine, NotServed, Refused, Restarted
 from .refusing import note_written, refusal_told
+from .replies import objects_in, said_of
+from .shown import OVER, Known, Owner, Shown
 
 if TYPE_CHECKING:
     from .factory import EntityManagerFactory
 
-_decode = json.JSONDecoder().raw_decode
-_EVENTS = {kind.value: kind for kind in LifecycleEvent}
+EVENTS = {kind.value: kind for kind in LifecycleEvent}
 _set_number = Entity.__dict__["_karzhoul_number"].__set__
 _set_run = Entity.__dict__["_karzhoul_run"].__set__
+_set_shown = Entity.__dict__["_karzhoul_shown"].__set__
+# So many objects are asked for by one line.
+_AT_ONCE = 1000
 
 
 class Run:
@@ -31,7 +38,10 @@ class Run:
     only while it is on. The calls of a factory alone have it read replies, one at a time.
     """
 
-    __slots__ = ("factory", "kinds", "marked", "written", "managers", "_objects", "_most")
+    __slots__ = (
+        "factory", "kinds", "known", "marked", "written", "managers", "loaded", "_told", "_shown",
+        "_objects", "_most",
+    )
 
     def __init__(self, factory: EntityManagerFactory, kinds: Classes) -> None:
         self.factory, self.kinds = factory, kinds
@@ -44,6 +54,12 @@ class Run:
         self.managers: Optional[int] = None
         self._objects: Dict[int, ref[Entity]] = {}
         self._most = 1000
+        self.known = Known(self._held)
+        # Of the replies that are being read: who loaded objects, which objects are in the answers,
+        # and the values that were read.
+        self.loaded: Dict[int, Owner] = {}
+        self._told: List[int] = []
+        self._shown: Dict[int, Shown] = {}
 
     @property
     def made(self) -> int:
@@ -52,8 +68,10 @@ class Run:
 
     def end(self) -> None:
         """It is over: only those who hold its objects go on to hold it, and no more."""
-        self.kinds = Classes(self.factory._classes, {})
+        self.kinds = Classes(self.factory._classes)
         self.marked, self._objects = {}, {}
+        self.known.forget()
+        self.known = Known(_nobody)
 
     # ---- the numbers of objects
 
@@ -85,6 +103,15 @@ class Run:
         number, word = self.number(entity), text_spelled(name)
         return f'{{"call":"get","object":{number},"name":{word}}}'.encode()
 
+    @staticmethod
+    def values_lines(numbers: Sequence[int]) -> List[bytes]:
+        """The lines that ask for the values of objects, in their order."""
+        return [
+            b'{"call":"values","objects":[%b]}'
+            % ",".join(map(str, numbers[start : start + _AT_ONCE])).encode()
+            for start in range(0, len(numbers), _AT_ONCE)
+        ]
+
     def set_line(self, entity: Entity, name: str, value: Any) -> bytes:
         """The line that sets a member."""
         number, word = self.number(entity), text_spelled(name)
@@ -101,96 +128,176 @@ class Run:
 
     # ---- objects by their numbers
 
-    def objects(
-        self, numbers: List[int], kind: Optional[Type[Entity]], lines: Sequence[bytes]
-    ) -> List[Entity]:
+    def objects(self, numbers: Iterable[int], kind: Optional[Type[Entity]] = None) -> List[Entity]:
         """The objects of these numbers, as `object` gives each, which takes longer."""
         found: List[Entity] = []
-        for number, line in zip(numbers, lines):
+        for number in numbers:
             held = self._objects.get(number)
             known = held() if held else None
-            found.append(self._made(number, kind, line) if known is None else known)
+            found.append(self._made(number, kind) if known is None else known)
         return found
 
-    def object(
-        self, number: int, kind: Optional[Type[Entity]] = None, line: bytes = b""
-    ) -> Entity:
-        """The object of this number, which a line found or made, of this class where its own wasn't
-        told."""
+    def object(self, number: int, kind: Optional[Type[Entity]] = None) -> Entity:
+        """The object of this number, of this class where its own isn't known."""
         held = self._objects.get(number)
         known = held() if held else None
-        return self._made(number, kind, line) if known is None else known
+        return self._made(number, kind) if known is None else known
 
     def held(self) -> List[Entity]:
         """The objects that are held."""
         return [it for held in list(self._objects.values()) if (it := held()) is not None]
 
-    def _made(self, number: int, kind: Optional[Type[Entity]], line: bytes) -> Entity:
+    def _held(self, number: int) -> Optional[Entity]:
+        """The object of a number, where it is held."""
+        held = self._objects.get(number)
+        return None if held is None else held()
+
+    def _made(self, number: int, kind: Optional[Type[Entity]]) -> Entity:
         """The object of a number of which none is held."""
-        made = object.__new__(self.kinds.settled(number, kind) or self._kind(number, line))
+        own = self.kinds.settled(number, kind)
+        if own is None:
+            raise LookupError(f"the class of object #{number} isn't known")
+        made = object.__new__(own)
         _set_number(made, number)
         _set_run(made, self)
+        shown = self._shown.get(number)
+        if shown is None:
+            owner = self.loaded.get(number, self.known.anyone)
+            shown = owner.unread if len(self._told) < 2 else Shown(OVER, owner, self._told)
+        _set_shown(made, shown)
         self._objects[number] = ref(made)
         if len(self._objects) > self._most:
             self._objects = {number: held for number, held in self._objects.items() if held()}
             self._most = 1000 + 2 * len(self._objects)
         return made
 
-    def _kind(self, number: int, line: bytes) -> Type[Entity]:
-        """The class of an object that a line made, where it wasn't told."""
-        made = self._made_by(line)
-        if made is None:
-            why = (
-                "the reply that told it was lost, as by an interrupt; find the object again when "
-                "its manager has let it go"
-            )
-            raise LookupError(f"the class of object #{number} isn't known: {why}")
-        self.kinds.settled(number, made)
-        return made
-
-    def _made_by(self, line: bytes) -> Optional[Type[Entity]]:
-        """The class of the object that a line makes: a new one, or a merged one's image; None where
-        it is another line."""
-        said = json.loads(line or b"{}")
-        if said.get("call") == "merge":
-            return self.kinds[said["object"]]
-        return self.factory._classes[said["entity"]] if said.get("call") == "new" else None
-
     # ---- replies
 
+    def are_known(self, numbers: Iterable[int]) -> bool:
+        """Whether the classes of all these objects are known."""
+        return None not in map(self.kinds.__getitem__, numbers)
+
+    def hear(
+        self, line: bytes, reply: bytes, said: Mapping[str, Any], kind: Optional[Type[Entity]],
+        heard: FrozenSet[str],
+    ) -> List[int]:
+        """Takes in what a reply tells of objects, of this class where their own isn't known; and
+        whose class isn't known of those in the answer, and in the events that are heard of."""
+        if "ok" not in said:  # It gives up the objects that it loaded, and their numbers.
+            return []
+        events = said["events"]
+        if events:
+            note_written(self, line, events)
+        loaded = self.kinds.hear(events)
+        if loaded:
+            self.loaded.update(dict.fromkeys(loaded, self.known.owner(line)))
+        settled = self.kinds.settled
+        told = objects_in(reply)
+        self._told += told
+        unknown = [number for number in told if settled(number, kind) is None]
+        for event in events if heard else ():
+            if event[0] in heard and settled(event[1], None) is None:
+                unknown.append(event[1])
+        return unknown
+
+    def show(
+        self, lines: Sequence[bytes], replies: Sequence[bytes], places: Dict[int, Shown]
+    ) -> Optional[Refused]:
+        """Takes in the replies to lines that ask for the values of objects, or their refusal."""
+        coming = iter(places.items())
+        for line, reply in zip(lines, replies):
+            said = said_of(reply)
+            if "ok" not in said:
+                return self._refusal(line, said, NotServed)
+            has_bytes = b'{"hex":' in reply
+            for each, (number, place) in zip(said["ok"], coming):
+                values = each["values"]
+                place.values = list(map(_value, values)) if has_bytes else values
+                self.kinds.settled(number, self.factory._classes[each["entity"]])
+                entity = self._held(number)
+                if entity is not None:
+                    entity._karzhoul_shown = place
+        self._shown = places
+        return None
+
+    def done(self, places: Dict[int, Shown]) -> None:
+        """All replies are read for which these values were. Those of the other objects in them are
+        read together, once one of them is asked for."""
+        self.known.have(places)
+        told = self._told
+        for number in told if len(told) > 1 else ():
+            entity = self._held(number)
+            if entity is not None:
+                shown = entity._karzhoul_shown
+                if shown.epoch.is_over and shown.group is not told:
+                    entity._karzhoul_shown = Shown(OVER, shown.owner, told)
+        self._shown, self.loaded, self._told = {}, {}, []
+
+    def unread(self, objects: Iterable[Entity]) -> List[int]:
+        """Of which objects the values are to be read before these have theirs, by their numbers:
+        of them, and of those that were told together with them."""
+        numbers: Dict[int, None] = {}
+        groups: Dict[int, Sequence[int]] = {}
+        for entity in objects:
+            shown = entity._karzhoul_shown
+            if shown.epoch.is_over:
+                numbers[entity._karzhoul_number] = None
+                if shown.group:
+                    groups[id(shown.group)] = shown.group
+        for group in groups.values():
+            for number in group:
+                held = self._held(number)
+                if held is not None and held._karzhoul_shown.group is group:
+                    numbers[number] = None
+        return sorted(numbers)
+
     def answer(
-        self, line: bytes, reply: bytes, kind: Optional[Type[Entity]], bad_line: Type[BadLine]
+        self, line: bytes, reply: bytes, said: Mapping[str, Any], bad_line: Type[BadLine],
+        heard: FrozenSet[str],
     ) -> Tuple[Any, Tuple[Event, ...]]:
-        """The answer to a line, or its refusal, and its events."""
-        said = _decode(reply.decode())[0]
-        is_done = "ok" in said
-        if is_done:
-            # A call that is refused gives up the objects that it loaded, and their numbers.
-            for kind_of_event, number, *ran in said["events"]:
-                self.kinds.learn(number, ran, kind_of_event == "PostLoad")
-            if said["events"]:
-                note_written(self, line, said["events"])
-        answer = self._found(said.get("ok"), kind, line)
-        events = tuple([self._event(*told) for told in said["events"]])
-        if is_done:
-            return answer, events
+        """The answer to a line, or its refusal, and its events that are heard of."""
+        if "ok" not in said:
+            refused = self._refusal(line, said, bad_line)
+            return refused, tuple([event for event in refused.events if event.kind.value in heard])
+        answer = said["ok"]
+        if reply.count(b"{") > 1:
+            answer = self._found(answer)
+        return answer, self.events(said, heard) if heard else ()
+
+    def _refusal(self, line: bytes, said: Mapping[str, Any], bad_line: Type[BadLine]) -> Refused:
         if "error" not in said:
-            raise ValueError(f"{reply[:100]!r} is no reply")
-        return refusal_told(self, said["error"], events, line, bad_line), events
+            raise ValueError(f"{json.dumps(said)[:100]!r} is no reply")
+        return refusal_told(self, said["error"], self.events(said), line, bad_line)
 
-    def _event(self, name: str, number: int, *ran: str) -> Event:
+
+    def events(
+        self, said: Mapping[str, Any], heard: Container[str] = EVENTS
+    ) -> Tuple[Event, ...]:
+        """The events of these kinds that a reply tells."""
+        return tuple([self.event(*told) for told in said["events"] if EVENTS[told[0]].value in heard])
+
+    def event(self, name: str, number: int, *ran: str) -> Event:
+        """The event of an object, as a reply tells it."""
         of: Union[Entity, int] = number if self.kinds[number] is None else self.object(number)
-        return Event(_EVENTS[name], of, self.kinds.without_marks(ran))
+        return Event(EVENTS[name], of, ran)
 
-    def _found(self, answer: Any, kind: Optional[Type[Entity]], line: bytes) -> Any:
-        """What an answer says: values, bytes, and objects, which are of this class where theirs
-        wasn't told."""
+    def _found(self, answer: Any) -> Any:
+        """What an answer says: values, bytes, and objects."""
         if isinstance(answer, list):
-            return [self._found(item, kind, line) for item in answer]
+            return [self._found(item) for item in answer]
         if not isinstance(answer, dict):
             return answer
-        return (
-            bytes.fromhex(answer["hex"])
-            if "hex" in answer
-            else self.object(answer["object"], kind, line)
-        )
+        if "object" in answer:
+            return self.object(answer["object"])
+        if "hex" in answer:
+            return bytes.fromhex(answer["hex"])
+        return {name: self._found(item) for name, item in answer.items()}
+
+
+def _nobody(_: int) -> Optional[Entity]:
+    return None
+
+
+def _value(said: Any) -> Any:
+    """A value as `values` says it."""
+    return bytes.fromhex(said["hex"]) if isinstance(said, dict) else said

@@ -4,13 +4,12 @@ wanted, on standard error (`echo`) or by the logger `karzhoul`."""
 from __future__ import annotations
 
 import html
-import json
 import logging
 import sys
 import threading
 from collections import Counter
 from dataclasses import dataclass
-from typing import Callable, Dict, Iterable, List, Mapping, Optional, Sequence, Tuple
+from typing import Dict, Iterable, List, Mapping, Optional, Sequence, Tuple
 
 from .refusals import Refused
 
@@ -77,9 +76,8 @@ class Tally:
     """Counts calls and events, and tells lines. `echo` says whether they are told on standard
     error."""
 
-    def __init__(self, echo: bool, unmarked: Callable[[bytes], bytes]) -> None:
-        """With what a reply is without the marks of this client."""
-        self.echo, self.unmarked = echo, unmarked
+    def __init__(self, echo: bool) -> None:
+        self.echo = echo
         self._calls: Counter[bytes] = Counter()
         self._objects: Dict[str, int] = dict.fromkeys(_EVENTS.values(), 0)
         self._refusals: Counter[str] = Counter()
@@ -158,7 +156,7 @@ class Tally:
         for place, (line, reply) in enumerate(zip(lines, replies), 1):
             span = _span(seconds)
             time = span if len(lines) == 1 else f"{place} of {len(lines)} together in {span}"
-            self._tell(f"{_shown(line)} -> {_shown(self.unmarked(reply))} ({time})")
+            self._tell(f"{_shown(line)} -> {_shown(reply)} ({time})")
 
     def tell_fault(self, lines: Sequence[bytes], fault: BaseException) -> None:
         """Tells lines that got no replies, or not all."""
@@ -187,15 +185,3 @@ def _shown(data: bytes) -> str:
 
 def _cut(text: str) -> str:
     return text if len(text) <= _MOST else f"{text[:_MOST]}.. ({len(text):,} characters)"
-
-
-def without_marks(reply: bytes, marks: Mapping[str, object]) -> bytes:
-    """A reply without the listeners that are marks."""
-    if not any(mark.encode() in reply for mark in marks):
-        return reply
-    said = json.loads(reply)
-    said["events"] = [
-        [*event[:2], *(name for name in event[2:] if name not in marks)]
-        for event in said["events"]
-    ]
-    return json.dumps(said, ensure_ascii=False, separators=(",", ":")).encode()

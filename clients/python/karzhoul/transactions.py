@@ -4,12 +4,13 @@ from __future__ import annotations
 
 from contextlib import suppress
 from types import TracebackType
-from typing import TYPE_CHECKING, Iterator, Optional, Type
+from typing import TYPE_CHECKING, FrozenSet, Iterator, Optional, Type
 
 from .concern import Concern
 from .interrupts import begin_of_block, carried_out, end_of_block, guard, is_guarded, unguard
 from .lines import line_of
 from .pausing import note_refusals, pause
+from .pending import Due
 from .refusals import IllegalState, KarzhoulError, OptimisticLock, ProgramEnded, Restarted, Rollback
 
 if TYPE_CHECKING:
@@ -42,10 +43,14 @@ class EntityTransaction:
 
     def commit(self) -> None:
         """Stores the manager's new and changed objects, all or none. After a `Rollback` it is
-        rolled back."""
+        rolled back. What a callback raises that runs before (`EntityManagerFactory.listen`) leaves
+        it open, with nothing stored."""
         self._manager.factory.tell_kept()
+        self._manager._pending.before(self._commit)
+
+    def _commit(self, ran: FrozenSet[Due]) -> None:
         try:
-            self._ask("commit")
+            self._manager._ask_flushing("commit", ran)
         except Exception as fault:
             is_told = is_of_callback(fault)  # Then the commit was done.
             if isinstance(fault, Rollback) and not is_told:
