@@ -23,6 +23,14 @@ class Begun(AbstractContextManager["EntityManager"]):
         self._factory = factory
         self._manager: Optional[EntityManager] = None
 
+    if not TYPE_CHECKING:
+
+        def __getattr__(self, name: str) -> object:
+            # Of a manager, which it isn't.
+            raise AttributeError(
+                f"begin() is for a block, whose manager has {name!r}: with app.begin() as manager: .."
+            )
+
     @begin_of_block
     def __enter__(self) -> EntityManager:
         manager = self._manager = self._factory._created(Place(True))

@@ -197,6 +197,13 @@ class EntityManagerFactory(Calls, AbstractContextManager["EntityManagerFactory"]
             except KarzhoulError:
                 self._start_again()
 
+    def reopen(self) -> None:
+        """Opens the program again where it has ended, as after a `GivenUp` or a crash; else it does
+        nothing. Threads may call it at one time: one of them opens it, and the others wait."""
+        with self._lock:
+            if self.program.fault is not None:
+                self.restart()
+
     def _start_again(self) -> None:
         """Ends the program, and starts another one over its file. Numbers of generated keys that no
         commit has stored are given again."""

@@ -18,10 +18,16 @@ from .pending import Due, Pending
 from .queries import Queries
 from .refusals import KarzhoulError, NoSuchManager, ProgramEnded, Refused, Restarted
 from .transactions import Attempt, EntityTransaction, attempts
+from .warned import warn
 
 if TYPE_CHECKING:
     from .places import Place
     from .runs import Run
+
+_LOST = (
+    "a manager is closed that was told to persist or to remove outside of a transaction, and no "
+    "commit came since: that is not stored"
+)
 
 
 class EntityManager(Queries, AbstractContextManager["EntityManager"]):
@@ -220,13 +226,16 @@ class EntityManager(Queries, AbstractContextManager["EntityManager"]):
         self._mode = FlushModeType(mode)
 
     def close(self) -> None:
-        """Ends the manager, which owns no open transaction."""
+        """Ends the manager, which owns no open transaction. What was persisted or removed outside of
+        a transaction, and in none since, is lost then: a `RuntimeWarning` says so."""
         try:
             self._ask("close")
         except (NoSuchManager, ProgramEnded, Restarted):  # It is gone already.
             self._give_place_back()
             raise
         self._give_place_back()
+        if self._concern.persisted or self._concern.removed:
+            warn(_LOST, RuntimeWarning)
 
     def _give_place_back(self) -> None:
         if self._place is not None and self.factory._places is not None:

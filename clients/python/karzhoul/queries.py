@@ -2,8 +2,6 @@
 
 from __future__ import annotations
 
-import sys
-import warnings
 from typing import TYPE_CHECKING, Any, Dict, FrozenSet, Iterator, List, Mapping, NamedTuple
 from typing import Optional, Type, Union
 
@@ -14,6 +12,7 @@ from .misfits import misfit, misfit_of
 from .refusals import NoResult, Refused
 from .rewriting import ByKey, by_key, counting, is_list, with_lists
 from .rows import Names, Page, Row, Rows, as_row, as_rows
+from .warned import warn
 
 if TYPE_CHECKING:
     from .factory import EntityManagerFactory
@@ -311,18 +310,10 @@ def _seconds(given: Optional[float], named: Dict[str, Any]) -> Optional[float]:
             raise TypeError("timeout is the former name of end_program_after: both are given")
         word, given = "timeout", former
         told = "timeout ends the program for all threads, and is called end_program_after now"
-        warnings.warn(told, DeprecationWarning, stacklevel=_frames_here())
+        warn(told, DeprecationWarning)
     if given is not None and not given > 0:
         raise ValueError(f"{word}={given!r} is no number of seconds above 0")
     return given
-
-
-def _frames_here() -> int:
-    """How many frames of this file stand above the caller's own."""
-    frame, count = sys._getframe(1), 1
-    while frame.f_back is not None and frame.f_code.co_filename == __file__:
-        frame, count = frame.f_back, count + 1
-    return count
 
 
 def _given(params: Params, named: Mapping[str, Any]) -> Dict[str, Any]:

@@ -4,6 +4,7 @@ commit came first, or since another thread's call ended the program."""
 from __future__ import annotations
 
 import threading
+from types import CoroutineType, GeneratorType
 from typing import TYPE_CHECKING, Callable, Optional, TypeVar
 
 from .begun import is_too_late
@@ -16,6 +17,10 @@ if TYPE_CHECKING:
     from .managers import EntityManager
 
 T = TypeVar("T")
+_LATE = (
+    "the work gave a {kind}, which would run after its transaction has ended: let it be an ordinary "
+    "function, and give a list"
+)
 
 class Retry:
     """One piece of work that is done until it is done, at most so many times in all."""
@@ -41,17 +46,9 @@ class Retry:
                         note_refusals(fault, self._refused)
                     raise
                 if not isinstance(fault, Refused):
-                    self._open_again()
+                    self._factory.reopen()
             self._factory._tally.note_retry()
             pause(self._refused)
-
-    def _open_again(self) -> None:
-        """Opens the program again where it has ended, which one thread does while others wait."""
-        factory = self._factory
-        with factory._lock:
-            if factory.program.fault is not None:
-                factory.restart()
-
 
 class _Attempt:
     """One time that work is done."""
@@ -65,6 +62,8 @@ class _Attempt:
         with self._factory.begin() as manager:
             self._manager, self._program = manager, self._factory.program
             answer = work(manager)
+            if isinstance(answer, (CoroutineType, GeneratorType)):
+                raise TypeError(_LATE.format(kind=type(answer).__name__))
         return answer
 
     def is_lost(self, fault: Exception) -> bool:

@@ -10,6 +10,7 @@ import traceback
 import unittest
 import warnings
 from concurrent.futures import ThreadPoolExecutor
+from contextlib import suppress
 from typing import Any, Callable, List, Optional
 from unittest import mock
 
@@ -188,7 +189,8 @@ class Ends(StoreTest):
             manager.query(ASK, end_program_after=0.1)
 
     def kill(self) -> None:
-        os.kill(self.app.program.pid, signal.SIGKILL)
+        with suppress(ProcessLookupError):  # As of one that has ended.
+            os.kill(self.app.program.pid, signal.SIGKILL)
 
     def test_what_another_thread_ended_is_opened_and_done_again(self) -> None:
         work = self.meanwhile(self.in_another_thread(self.end))
@@ -228,6 +230,48 @@ class Ends(StoreTest):
             counts = [each.result() for each in working]
         self.assertEqual(self.amount(), sum(counts))
         self.assertEqual(self.restarts, 4)
+
+    def test_a_program_that_is_killed_again_and_again(self) -> None:
+        """What is answered is stored once; what isn't, at most once."""
+        ends = threading.Event()
+        stored: List[int] = []
+        unknown: List[int] = []
+        lost: List[int] = []
+
+        def work(worker: int) -> None:
+            number = worker * 100_000
+            while not ends.is_set():
+                number += 1
+                row = {"number": number + 10, "amount": 1}
+                try:
+                    self.app.retry(lambda manager: self.store(manager, row))
+                    stored.append(number + 10)
+                except karzhoul.ProgramEnded as ended:
+                    (unknown if ended.may_be_stored else lost).append(number + 10)
+
+        with ThreadPoolExecutor(8) as pool:
+            working = [pool.submit(work, each) for each in range(8)]
+            for _ in range(8):
+                time.sleep(0.2)
+                self.kill()
+            ends.set()
+            for each in working:
+                each.result()
+        with self.app.begin() as manager:
+            found = manager.query("SELECT o.number FROM Order o WHERE o.number > 1")
+        self.assertEqual(len(set(found)), len(found))
+        self.assertEqual(set(stored) - set(found), set())
+        self.assertEqual(set(found) & set(lost), set())
+        self.assertLessEqual(set(found), {*stored, *unknown})
+        self.assertEqual(self.amount_of(1), len(found))
+
+    def store(self, manager: EntityManager, row: Any) -> None:
+        self.add(manager)
+        manager.persist(self.app.new("Order", **row))
+
+    def amount_of(self, number: int) -> Any:
+        with self.app.begin() as manager:
+            return manager.get_reference("Order", number).amount
 
     def test_a_commit_that_waited_and_was_not_sent_is_done_again(self) -> None:
         ends = threading.Thread(target=self.end, args=(0.5,))
@@ -374,6 +418,59 @@ class Unanswered(unittest.TestCase):
                 app.create_entity_manager()
         self.assertFalse(raised.exception.may_be_stored)
         self.assertNotIn("may be stored", str(raised.exception))
+
+
+@needs_program
+class Misuse(StoreTest):
+    """Work that would be lost without a word."""
+
+    def test_work_that_would_run_after_its_transaction(self) -> None:
+        async def coroutine(manager: EntityManager) -> None:
+            self.add(manager)
+
+        def generator(manager: EntityManager) -> Any:
+            yield self.add(manager)
+
+        for work, kind in ((coroutine, "coroutine"), (generator, "generator")):
+            given: List[Any] = []
+
+            def keep(manager: EntityManager) -> Any:
+                given.append(work(manager))
+                return given[-1]
+
+            with self.assertRaises(TypeError) as raised:
+                self.app.retry(keep)
+            self.assertIn(f"gave a {kind}, which would run after", str(raised.exception))
+            given[0].close()
+        self.assertEqual(self.tries, 0)
+
+    def test_a_begin_without_its_block(self) -> None:
+        with self.assertRaises(AttributeError) as raised:
+            self.app.begin().persist  # type: ignore[attr-defined]
+        self.assertIn("with app.begin() as manager", str(raised.exception))
+
+    def test_what_is_persisted_and_never_committed(self) -> None:
+        with self.assertWarns(RuntimeWarning) as warned:
+            manager = self.app.create_entity_manager()
+            manager.persist(self.app.new("Order", number=2))
+            manager.close()
+        self.assertEqual(warned.filename, __file__)
+        self.assertIn("not stored", str(warned.warning))
+        with self.assertWarns(RuntimeWarning):
+            with self.app.begin() as manager:
+                manager.transaction().commit()
+                manager.remove(manager.get_reference("Order", 1))
+        with warnings.catch_warnings():
+            warnings.simplefilter("error")
+            with self.app.create_entity_manager() as manager:
+                manager.persist(self.app.new("Order", number=2))
+                with manager.transaction():
+                    pass
+            with self.assertRaises(ZeroDivisionError), self.app.begin() as manager:
+                manager.persist(self.app.new("Order", number=3))
+                raise ZeroDivisionError
+        with self.app.begin() as manager:
+            self.assertEqual(manager.query("SELECT o.number FROM Order o"), [1, 2])
 
 
 @needs_program
