@@ -291,9 +291,14 @@ class Busy(Refused, number=18):
 
 
 MOST_LINE_BYTES = 1_048_576
-_RESTART = ": commit, and app.restart() begins another one"
+_RESTART = (
+    ": commit, and app.restart() begins another one, as karzhoul.open(.., threads=True) does by itself"
+)
 _OBJECTS = f"a run makes at most 1,000,000 objects, loads counted{_RESTART}"
-_OPEN = "at most 16 managers are open at a time: close one that isn't used"
+_OPEN = (
+    "at most 16 managers are open at a time: close one that isn't used, or have "
+    "karzhoul.open(.., threads=True) wait for one"
+)
 _MADE = f"a run makes at most 1,000,000 managers{_RESTART}"
 _TEXT, _LINE = "a text or bytes have at most 65,535 bytes", "a line has at most 1,048,576 bytes"
 _QUERY = "the query is over the limits of docs/QUERIES.md"
