@@ -73,6 +73,11 @@ class Run:
         self.known.forget()
         self.known = Known(_nobody)
 
+    def transaction_over(self, manager: int) -> None:
+        """Lets go what is known of the transaction of a manager of this number."""
+        self.marked.pop(manager, None)
+        self.written.pop(manager, None)
+
     # ---- the numbers of objects
 
     def number(self, entity: Entity) -> str:

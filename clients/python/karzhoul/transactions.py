@@ -34,8 +34,7 @@ class EntityTransaction:
             # Before it is, so that no interrupt leaves one open that isn't known to be.
             self.is_active = True
             self._ask("begin")
-            self._manager._run.marked.pop(self._manager.number, None)
-            self._manager._run.written.pop(self._manager.number, None)
+            self._manager._run.transaction_over(self._manager.number)
         except KarzhoulError:
             self.is_active = was_active
             raise
@@ -76,6 +75,7 @@ class EntityTransaction:
 
     def _end(self) -> None:
         self.is_active = False
+        self._manager._run.transaction_over(self._manager.number)
         self._manager._concern = Concern(self._manager._run.made)
 
     def set_rollback_only(self) -> None:
