@@ -3,6 +3,7 @@ are of, and what comes of them is told."""
 
 from __future__ import annotations
 
+import re
 import sys
 import threading
 from collections import deque
@@ -30,7 +31,7 @@ from .tally import Tally
 _taken_off: Callable[
     [Deque[Tuple[Callable[[Event], None], Event]]], Tuple[Callable[[Event], None], Event]
 ] = deque.popleft
-CREATE, RESTART = line_of("createEntityManager", {}), line_of("restart", {})
+_CREATE, RESTART = line_of("createEntityManager", {}), line_of("restart", {})
 _REPLIES = Program.replies.__code__
 
 
@@ -66,7 +67,7 @@ class _Calls(Exchange):
         self.are_noted = False
         # Whether another run is on once they are done.
         self.is_restart = False
-        # Whether they were interrupted, so that nobody waits for their answers.
+        # Whether they create a manager and were interrupted, so that nobody gets it.
         self.is_left = False
         # How often values had been read when it was noted what they change.
         self.reads = -1
@@ -173,11 +174,31 @@ class Calls:
             reads = self._note(lines, bad_line)
             calls = self._calls = _Calls(run, lines, entity, bad_line, False)
             calls.reads, calls.ran = reads, ran
-            try:
-                return self._answers(calls, timeout)
-            except BaseException:
-                calls.is_left = True
-                raise
+            return self._answers(calls, timeout)
+
+    def ask_manager(self, run: Run) -> int:
+        """Creates a manager, and gives its number. Where that is interrupted, it is `_left`."""
+        calls = _Calls(run, [_CREATE], "", NotServed, False)
+        try:
+            with self._lock:
+                while self._calls:  # As in `ask_lines`.
+                    self._settle()
+                self._calls = calls
+                number: int = self._answers(calls)[0]
+            return number
+        except BaseException:
+            calls.is_left = True
+            self._take_note(calls, calls.read)
+            raise
+
+    def _take_note(self, calls: _Calls, replies: List[bytes]) -> None:
+        """What replies to a restart and to what was interrupted mean for other calls. It is taken
+        note of before the calls are over, and so perhaps twice."""
+        if calls.is_restart and replies == NULL and self.program.run is calls.run:
+            self._begin_run(self.program)
+        if calls.is_left and calls.run is not None:
+            for number in re.findall(rb'"ok":([0-9]+)}', b"".join(replies)):
+                self._left.append((calls.run, int(number)))
 
     def tell(self, run: Optional[Run], line: bytes, *more: bytes) -> None:
         """Does the calls of lines, which answer null; within a pipeline they are kept."""
@@ -273,9 +294,7 @@ class Calls:
             return
         self._refuse_within()
         try:
-            answers = self._answers(calls, timeout)
-            if calls.is_left and calls.lines[0] == CREATE and calls.run is not None:
-                self._left.append((calls.run, answers[0]))
+            self._answers(calls, timeout)
         except KarzhoulError:
             if self._calls is calls:  # The program has ended.
                 self._calls = None
@@ -315,8 +334,8 @@ class Calls:
             self._note(calls.lines, calls.bad_line)
         replies = self._replies(calls, timeout)
         run = calls.run or self._run
-        if calls.is_restart and replies == NULL and self.program.run is run:
-            self._begin_run(self.program)
+        if calls.is_restart or calls.is_left:
+            self._take_note(calls, replies)
         try:
             kind = None
             # What most calls answer: an object each and no event, or null.

@@ -14,7 +14,7 @@ from typing import (
 
 from .arguments import entity_named
 from .begun import Begun
-from .calls import CREATE, Calls
+from .calls import Calls
 from .classes import Classes
 from .entities import Attribute, E, Entity, check_names, classes_of
 from .finding import find_program
@@ -248,24 +248,25 @@ class EntityManagerFactory(Calls, AbstractContextManager["EntityManagerFactory"]
     def _created(self, place: Place, at_once: bool = False) -> EntityManager:
         """A manager at a place, which is waited for, unless it is to be had at once."""
         places = self._places
-        if places is None:
-            return self._manager(None)
         try:
-            places.take(place, 0 if at_once else places.wait)
+            if places is not None:
+                places.take(place, 0 if at_once else places.wait)
             return self._manager(place)
         except BaseException:
             if place.run is not None:  # It was made, and nobody gets it.
                 self._left.append((place.run, place.number))
-            places.give_back(place)
+            if places is not None:
+                places.give_back(place)
             raise
 
-    def _manager(self, place: Optional[Place]) -> EntityManager:
+    def _manager(self, place: Place) -> EntityManager:
         if self._left:
             self._close_left()
         while True:
             run = self._run
             try:
-                number: int = self.ask_lines(run, [CREATE])[0]
+                number = self.ask_manager(run)
+                place.run, place.number = run, number  # First, so that it isn't left open.
                 run.managers = number
                 return EntityManager(run, number, place)
             except Restarted:  # While it waited.
@@ -276,10 +277,11 @@ class EntityManagerFactory(Calls, AbstractContextManager["EntityManagerFactory"]
         """Closes the managers that nobody has; what these haven't committed is gone."""
         with self._lock:
             while self._left:
-                run, number = self._left.pop()
+                run, number = self._left[0]
                 members = {"em": str(number)}
                 with suppress(KarzhoulError):
                     self.ask_lines(run, [line_of("rollback", members), line_of("close", members)])
+                self._left.remove((run, number))
 
     def begin(self) -> Begun:
         """A new manager with its transaction open, for a block: the block's end commits, or rolls

@@ -34,12 +34,10 @@ class EntityManager(Queries, AbstractContextManager["EntityManager"]):
     """A manager of objects, whose context lasts over its commits.
     `EntityManagerFactory.create_entity_manager` makes one."""
 
-    def __init__(self, run: Run, number: int, place: Optional[Place] = None) -> None:
-        """With its place, where the factory has places."""
-        self.factory, self.number = run.factory, number
-        self._place = place
-        if place is not None:
-            place.run, place.number, place.manager = run, number, ref(self)
+    def __init__(self, run: Run, number: int, place: Place) -> None:
+        """With its place, which is taken where the factory has places."""
+        self.factory, self.number, self._place = run.factory, number, place
+        place.manager = ref(self)
         self._run, self._em = run, str(number)
         self._transaction = EntityTransaction(self)
         self._pending, self._mode = Pending(self), FlushModeType.AUTO
@@ -238,7 +236,7 @@ class EntityManager(Queries, AbstractContextManager["EntityManager"]):
             warn(_LOST, RuntimeWarning)
 
     def _give_place_back(self) -> None:
-        if self._place is not None and self.factory._places is not None:
+        if self.factory._places is not None:
             self.factory._places.give_back(self._place)
 
     def _flushes_before(self) -> bool:

@@ -9,6 +9,7 @@ second at a time, unless fewer than a tenth of the run's objects are left.
 
 from __future__ import annotations
 
+import gc
 import math
 import os
 import threading
@@ -143,8 +144,11 @@ class Places:
                 continue
             if now >= deadline or self._is_stuck():
                 raise NoFreeManager(self._why(wait))
-            # (Whatever was interrupted that would have woken it, it looks again.)
-            waiter.woken.wait(min(deadline, self._closed_until or math.inf, now + 1) - now)
+            # It looks again after a second, whatever was interrupted that would have woken it.
+            if not waiter.woken.wait(min(deadline, self._closed_until or math.inf, now + 1) - now):
+                gc.collect()  # What is dropped stays until then.
+                self._look_after()
+                self._let_in()
 
     def _let_in(self) -> None:
         """Lets those in that may: first who holds a place already, and the others in turn."""
@@ -183,9 +187,9 @@ class Places:
         """Takes the places of managers that are gone, and has these closed."""
         for place in list(self._held):
             if place.is_left():
-                del self._held[place]
                 if place.run is self._factory._run:
                     self._factory._left.append((place.run, place.number))
+                del self._held[place]
 
     def _why(self, wait: Optional[float]) -> str:
         """Why no manager is free, and who has those that are open."""

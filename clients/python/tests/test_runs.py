@@ -5,7 +5,6 @@ from __future__ import annotations
 import contextlib
 import random
 import re
-import sys
 import threading
 import time
 import unittest
@@ -17,6 +16,7 @@ import karzhoul
 from karzhoul import LifecycleEvent, Restarted
 from karzhoul.program import Exchange, Program
 
+from .steps import interrupted_at_step
 from .support import HERE, PERSONS, PROGRAM, FolderTest, needs_program, present
 
 # Whose orders are a collection of it, and whose place has a key of three parts.
@@ -533,27 +533,6 @@ class ByCall(RunsTest):
         self.assertGreater(step, 10)
         self.assertGreater(done, 3)
         self.assertEqual(self.names(), list(NAMES))
-
-
-def interrupted_at_step(number: int, work: Callable[[], object]) -> bool:
-    """Does work, interrupted at its step of this number; whether it has as many."""
-    left, package = number, str(HERE.parent / "karzhoul")
-
-    def profile(frame: Any, event: str, _: object) -> None:
-        nonlocal left
-        if event in ("call", "c_return") and frame.f_code.co_filename.startswith(package):
-            left -= 1
-            if left == 0:
-                raise KeyboardInterrupt
-
-    try:
-        sys.setprofile(profile)
-        work()
-    except KeyboardInterrupt:
-        return True
-    finally:
-        sys.setprofile(None)
-    return False
 
 
 @needs_program

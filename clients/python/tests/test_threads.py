@@ -10,19 +10,18 @@ import signal
 import threading
 import time
 import unittest
-from typing import Any, Callable, Dict, Iterator, List, Optional
+from typing import Any, Callable, Iterator, List
 from unittest import mock
 
 import karzhoul
 from karzhoul import LifecycleEvent, NoFreeManager, Restarted, places
 
+from .steps import interrupted_at_step
 from .support import PERSONS, PROGRAM, FolderTest, needs_program, present
 
 
 class ThreadsTest(FolderTest):
     """A test over a factory that is opened for threads, whose runs are due after 200 objects."""
-
-    wait: Optional[float] = 10.0
 
     def setUp(self) -> None:
         super().setUp()
@@ -31,11 +30,23 @@ class ThreadsTest(FolderTest):
             patched.start()
             self.addCleanup(patched.stop)
         self.app = karzhoul.open(
-            PERSONS, self.place / "app.db", program=PROGRAM, threads=True, wait=self.wait
+            PERSONS, self.place / "app.db", program=PROGRAM, threads=True, wait=60
         )
         self.addCleanup(self.app.close)
         self.Person = self.app.entity("Person")
         self.pid = self.app.program.pid
+
+    def until(self, is_so: Callable[[], bool]) -> None:
+        """Waits until something is so."""
+        deadline = time.monotonic() + 60
+        while not is_so() and time.monotonic() < deadline:
+            time.sleep(0.001)
+        self.assertTrue(is_so())
+
+    @property
+    def places(self) -> places.Places:
+        assert self.app._places is not None
+        return self.app._places
 
     def make(self, count: int) -> List[Any]:
         """New objects of the run."""
@@ -160,14 +171,13 @@ class Services(ThreadsTest):
 
 @needs_program
 class Waiting(ThreadsTest):
-    wait = 0.2
-
     def test_no_manager_in_time(self) -> None:
         managers = [self.app.create_entity_manager() for _ in range(16)]
         for ask in (self.app.create_entity_manager, self.app.begin().__enter__):
             began = time.monotonic()
-            with self.assertRaises(NoFreeManager) as raised:
-                ask()
+            with mock.patch.object(self.places, "wait", 0.2):
+                with self.assertRaises(NoFreeManager) as raised:
+                    ask()
             self.assertGreaterEqual(time.monotonic() - began, 0.2)
             self.assertIn("none became free within 0.2 seconds; 16 are open", str(raised.exception))
             self.assertIn("MainThread (a manager, ", str(raised.exception))
@@ -194,7 +204,7 @@ class Waiting(ThreadsTest):
         threads = [threading.Thread(target=work, args=(place,)) for place in range(8)]
         for thread in threads:
             thread.start()
-            time.sleep(0.01)
+            self.until(lambda: len(self.places._waiting) == threads.index(thread) + 1)
         managers[0].close()
         for thread in threads:
             thread.join()
@@ -208,7 +218,6 @@ class Waiting(ThreadsTest):
                 manager.transaction().begin()
                 manager.persist(self.Person(name="Ada"))
             del managers, manager
-            gc.collect()
         self.assertEqual(self.counted(), 0)
 
     def test_the_block_of_a_begin_that_raises(self) -> None:
@@ -242,7 +251,7 @@ class Waiting(ThreadsTest):
                 except NoFreeManager as fault:
                     refused.append(fault)
 
-        with mock.patch.object(self.app._places, "wait", 60):
+        with mock.patch.object(self.places, "wait", 60):
             began = time.monotonic()
             self.assertEqual(self.all_of([work] * 16), [])
             self.assertLess(time.monotonic() - began, 30)
@@ -253,7 +262,7 @@ class Waiting(ThreadsTest):
     def test_a_pipeline_and_a_callback_do_not_wait(self) -> None:
         """No other thread goes on meanwhile."""
         managers = [self.app.create_entity_manager() for _ in range(16)]
-        with mock.patch.object(self.app._places, "wait", 60):
+        with mock.patch.object(self.places, "wait", 60):
             with self.assertRaisesRegex(NoFreeManager, "keeps all others from going on"):
                 with self.app.pipeline(), self.app.begin():
                     pass
@@ -274,7 +283,7 @@ class Waiting(ThreadsTest):
     def test_an_end_while_one_waits(self) -> None:
         managers = [self.app.create_entity_manager() for _ in range(16)]
         for end in (self.app.close, managers.clear):
-            with mock.patch.object(self.app._places, "wait", 60):
+            with mock.patch.object(self.places, "wait", 60):
                 threading.Timer(0.1, end).start()
                 with self.assertRaises(karzhoul.ProgramEnded):
                     self.app.create_entity_manager()
@@ -286,7 +295,7 @@ class Waiting(ThreadsTest):
         self.assertEqual(self.counted(), 0)
 
     def test_an_explanation_does_not_wait(self) -> None:
-        with mock.patch.object(self.app._places, "wait", 60):
+        with mock.patch.object(self.places, "wait", 60):
             managers = [self.app.create_entity_manager() for _ in range(16)]
             with self.assertRaises(karzhoul.Rollback) as raised:
                 with managers[0].transaction():
@@ -307,11 +316,10 @@ class Interrupts(ThreadsTest):
         """No place is lost, and who comes after is let in."""
         for _ in range(20):
             managers = [self.app.create_entity_manager() for _ in range(16)]
-            threading.Timer(random.uniform(0, 0.02), os.kill, (os.getpid(), signal.SIGINT)).start()
             with self.assertRaises(KeyboardInterrupt):
+                signal.setitimer(signal.ITIMER_REAL, random.uniform(0.001, 0.02))
                 with self.app.begin():
                     self.fail("16 are open")
-                time.sleep(1)
             for manager in managers:
                 manager.close()
         self.assertEqual(len([self.app.create_entity_manager() for _ in range(16)]), 16)
@@ -321,25 +329,59 @@ class Interrupts(ThreadsTest):
             with self.app.begin() as manager:
                 manager.persist(self.Person(name="Ada"))
 
-        with mock.patch.object(self.app._places, "wait", 60):
-            for _ in range(200):
-                deadline = time.monotonic() + 60
-                try:
-                    signal.setitimer(signal.ITIMER_REAL, random.uniform(0.0001, 0.003))
-                    while time.monotonic() < deadline:
-                        work()
-                    self.fail("an interrupt was lost")
-                except KeyboardInterrupt:
-                    pass
-                finally:
-                    signal.setitimer(signal.ITIMER_REAL, 0)
+        for _ in range(100):
+            deadline = time.monotonic() + 60
+            try:
+                signal.setitimer(signal.ITIMER_REAL, random.uniform(0.0001, 0.003))
+                while time.monotonic() < deadline:
+                    work()
+                self.fail("an interrupt was lost")
+            except KeyboardInterrupt:
+                pass
+            finally:
+                signal.setitimer(signal.ITIMER_REAL, 0)
+        self.assertEqual(len([self.app.create_entity_manager() for _ in range(16)]), 16)
+
+    def test_an_interrupt_at_each_step(self) -> None:
+        """No place is lost, nobody waits for a new run that doesn't come, and what was committed
+        stays."""
+        patched = mock.patch.object(places, "_DUE", 2)
+        patched.start()
+        self.addCleanup(patched.stop)
+        committed = 0
+
+        def work() -> None:
+            with self.app.begin() as manager:
+                manager.persist(self.Person())
+                manager.persist(self.Person())
+
+        step = 1
+        while interrupted_at_step(step, work):
+            step += 1
+            began = time.monotonic()
+            count = self.counted()
+            self.assertIn(count, (committed, committed + 2))
+            committed = count
+            self.assertLess(time.monotonic() - began, 5)
+        self.assertGreater(step, 100)
+        gc.collect()
+        self.assertEqual(len([self.app.create_entity_manager() for _ in range(16)]), 16)
+        self.assertEqual(self.app.program.pid, self.pid)
+
+    def test_an_interrupt_at_each_step_of_a_manager_of_one_s_own(self) -> None:
+        step = 1
+        while interrupted_at_step(step, lambda: self.app.create_entity_manager().close()):
+            step += 1
             gc.collect()
-            self.assertEqual(len([self.app.create_entity_manager() for _ in range(16)]), 16)
+        self.assertGreater(step, 20)
+        self.assertEqual(len([self.app.create_entity_manager() for _ in range(16)]), 16)
 
     def setUp(self) -> None:
         super().setUp()
         before = signal.signal(signal.SIGALRM, lambda *_: os.kill(os.getpid(), signal.SIGINT))
         self.addCleanup(signal.signal, signal.SIGALRM, before)
+        before = signal.signal(signal.SIGINT, signal.default_int_handler)
+        self.addCleanup(signal.signal, signal.SIGINT, before)
 
 
 @needs_program
@@ -357,29 +399,29 @@ class Runs(ThreadsTest):
         self.assertEqual(self.made(), 0)
 
     def test_a_transaction_holds_it_off_and_is_waited_for(self) -> None:
-        """A second at a time, while objects are left."""
-        with self.other_thread(lambda ended: self.app.begin()) as ended:
+        """For a time, while objects are left."""
+        patience = mock.patch.object(places, "_PATIENCE", 3)
+        with patience, self.other_thread(lambda ended: self.app.begin()):
             self.make(250)
             began = time.monotonic()
             with self.app.begin() as manager:
                 manager.persist(self.Person(name="Ada"))
-            self.assertGreaterEqual(time.monotonic() - began, 0.9)
+            self.assertGreaterEqual(time.monotonic() - began, 2.9)
             self.assertEqual(self.made(), 251)
             began = time.monotonic()
             with self.app.begin():  # Not yet again.
                 self.make(10)
-            self.assertLess(time.monotonic() - began, 0.9)
+            self.assertLess(time.monotonic() - began, 2.9)
             self.assertEqual(self.made(), 261)
         self.assertEqual(self.made(), 0)
         self.assertEqual(self.counted(), 1)
 
     def test_who_waits_goes_on_in_the_new_run(self) -> None:
-        with self.other_thread(lambda ended: self.app.begin()) as ended:
+        patience = mock.patch.object(places, "_PATIENCE", 60)
+        with patience, self.other_thread(lambda ended: self.app.begin()) as ended:
             self.make(250)
             threading.Timer(0.2, ended.set).start()
-            began = time.monotonic()
             with self.app.begin():
-                self.assertLess(time.monotonic() - began, 0.9)
                 self.assertEqual(self.made(), 0)
 
     def test_few_objects_are_left(self) -> None:
@@ -393,7 +435,7 @@ class Runs(ThreadsTest):
                 self.assertEqual(self.made(), 0)
 
     def test_few_objects_are_left_and_a_transaction_does_not_end(self) -> None:
-        with mock.patch.object(self.app._places, "wait", 0.3):
+        with mock.patch.object(self.places, "wait", 0.3):
             with self.other_thread(lambda ended: self.app.begin()):
                 self.make(370)
                 with self.assertRaises(NoFreeManager) as raised:
@@ -424,6 +466,24 @@ class Runs(ThreadsTest):
         manager.close()
         self.assertEqual((self.made(), self.counted()), (0, 1))
 
+    def test_who_holds_a_manager_is_let_in_while_others_wait(self) -> None:
+        """Else the transaction that they wait for would wait for them."""
+        order: List[str] = []
+        with self.app.begin():
+            self.make(250)
+
+            def work() -> None:
+                with self.app.begin():
+                    order.append(f"other {self.made()}")
+
+            thread = threading.Thread(target=work)
+            thread.start()
+            self.until(lambda: len(self.places._waiting) == 1)
+            with self.app.begin():
+                order.append(f"inner {self.made()}")
+        thread.join()
+        self.assertEqual(order, ["inner 250", "other 0"])
+
     def test_a_program_that_does_not_restart_itself(self) -> None:
         """It is started again, between transactions."""
         refused = mock.Mock(side_effect=karzhoul.BadLine)
@@ -446,7 +506,7 @@ class Runs(ThreadsTest):
     def test_a_forked_process(self) -> None:
         """Its calls are refused, also where others held all places."""
         managers = [self.app.create_entity_manager() for _ in range(16)]
-        with self.app._places._lock:  # type: ignore[union-attr]
+        with self.places._lock:
             fork = os.fork()
             if fork == 0:
                 threading.Thread(target=self.forked).start()
