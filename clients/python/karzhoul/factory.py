@@ -299,7 +299,9 @@ class EntityManagerFactory(Calls, AbstractContextManager["EntityManagerFactory"]
         - where another manager's commit came first: after an `OptimisticLock` or a `Busy`, be it of
           a call or of the commit;
         - where another thread's call ended the program, as by `end_program_after`: then it is
-          opened again first. So it is where the program had ended before the work began.
+          opened again first. So it is where the program had ended before the work began;
+        - opened for threads: where the run had too few objects left for the work (`ObjectLimit`).
+          Then it is done in the next run.
 
         Before each time it waits for a time at random, up to 50 ms. The last refusal is raised,
         with `times_refused`, and anything else at once: also a `ProgramEnded` that a call of the

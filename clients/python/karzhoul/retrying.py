@@ -9,7 +9,7 @@ from typing import TYPE_CHECKING, Callable, Optional, TypeVar
 
 from .begun import is_too_late
 from .pausing import note_refusals, pause
-from .refusals import ProgramEnded, Refused, Restarted
+from .refusals import ObjectLimit, ProgramEnded, Refused, Restarted, Rollback
 from .transactions import is_of_callback
 
 if TYPE_CHECKING:
@@ -55,12 +55,15 @@ class _Attempt:
 
     def __init__(self, factory: EntityManagerFactory) -> None:
         self._factory, self._program = factory, factory.program
+        # How many objects its run had made before it.
+        self._made = 0
         # Once the work has begun.
         self._manager: Optional[EntityManager] = None
 
     def answer(self, work: Callable[[EntityManager], T]) -> T:
         with self._factory.begin() as manager:
             self._manager, self._program = manager, self._factory.program
+            self._made = manager._run.made
             answer = work(manager)
             if isinstance(answer, (CoroutineType, GeneratorType)):
                 raise TypeError(_LATE.format(kind=type(answer).__name__))
@@ -71,10 +74,17 @@ class _Attempt:
         if is_of_callback(fault):  # The commit was done.
             return False
         if isinstance(fault, Refused):
-            return is_too_late(fault)
+            return is_too_late(fault) or self._is_at_an_end(fault)
         if isinstance(fault, ProgramEnded):
             return self._is_end_lost(fault)
         return isinstance(fault, Restarted) and self._is_of_before() and not self._has_ended_it()
+
+    def _is_at_an_end(self, refused: Refused) -> bool:
+        """Whether the run had no objects left for the work, and the next one has more. Opened for
+        threads, the factory begins it before the next attempt."""
+        found = refused.cause if isinstance(refused, Rollback) else refused
+        is_renewed = self._factory._places is not None and self._made > 0
+        return isinstance(found, ObjectLimit) and is_renewed
 
     def _is_end_lost(self, ended: ProgramEnded) -> bool:
         """Whether the program's end, which isn't the factory's own, came before the work began, or

@@ -130,6 +130,26 @@ class Services(ThreadsTest):
         with self.app.begin() as manager:
             self.assertEqual(present(manager, "Person", 1).name, "160")
 
+    def test_work_for_which_a_run_has_too_few_objects_left(self) -> None:
+        """It is done in the next run; but once more than a whole run has is refused."""
+        begun: List[int] = []
+
+        def work(manager: karzhoul.EntityManager) -> None:
+            begun.append(self.app.statistics().made)
+            self.make(200)
+            if begun[-1] > 0:
+                raise karzhoul.ObjectLimit()
+            manager.persist(self.Person(name="Ada"))
+
+        self.make(10)
+        self.app.retry(work)
+        self.assertEqual((begun, self.counted()), ([10, 0], 1))
+        with self.assertRaises(karzhoul.ObjectLimit):
+            self.app.retry(self.limited)
+
+    def limited(self, manager: karzhoul.EntityManager) -> None:
+        raise karzhoul.ObjectLimit()
+
     def test_forty_threads_wait_for_sixteen_managers(self) -> None:
         most = [0]
         opened: List[int] = []
