@@ -19,10 +19,10 @@ from .lines import FlushModeType, LifecycleEvent, LockModeType
 from .managers import EntityManager
 from .refusals import (
     BadLine, Busy, Damaged, EntityExists, EntityNotFound, GivenUp, IllegalArgument,
-    IllegalState, KarzhoulError, Limit, Listener, Mapping, NoResult, NoSuchManager,
-    NoSuchObject, NonUniqueResult, NotServed, OptimisticLock, OutOfMemory, Overflow,
-    Persistence, ProgramEnded, ProgramNotFound, Refused, Restarted, Rollback, StoreFault,
-    StoreInMemory, TransactionRequired,
+    IllegalState, KarzhoulError, Limit, LineLimit, Listener, ManagerLimit, Mapping, NoFreeManager,
+    NoResult, NoSuchManager, NoSuchObject, NonUniqueResult, NotServed, ObjectLimit, OptimisticLock,
+    OutOfMemory, Overflow, Persistence, ProgramEnded, ProgramNotFound, QueryLimit, Refused,
+    Restarted, Rollback, StoreFault, StoreInMemory, TextLimit, TransactionRequired,
 )
 from .tally import Statistics
 from .transactions import Attempt, EntityTransaction
@@ -35,10 +35,11 @@ __all__ = [
     "Attempt", "EmbeddedId", "Entity", "EntityManager", "EntityManagerFactory", "EntityTransaction",
     "Event", "FlushModeType", "LifecycleEvent", "LockModeType", "Statistics", "refusals",
     "BadLine", "Busy", "Damaged", "EntityExists", "EntityNotFound", "GivenUp",
-    "IllegalArgument", "IllegalState", "KarzhoulError", "Limit", "Listener", "NoResult",
-    "NoSuchManager", "NoSuchObject", "NonUniqueResult", "NotServed", "OptimisticLock",
-    "OutOfMemory", "Overflow", "Persistence", "ProgramEnded", "ProgramNotFound", "Refused",
-    "Restarted", "Rollback", "StoreFault", "StoreInMemory", "TransactionRequired",
+    "IllegalArgument", "IllegalState", "KarzhoulError", "Limit", "LineLimit", "Listener",
+    "ManagerLimit", "NoFreeManager", "NoResult", "NoSuchManager", "NoSuchObject",
+    "NonUniqueResult", "NotServed", "ObjectLimit", "OptimisticLock", "OutOfMemory", "Overflow",
+    "Persistence", "ProgramEnded", "ProgramNotFound", "QueryLimit", "Refused", "Restarted",
+    "Rollback", "StoreFault", "StoreInMemory", "TextLimit", "TransactionRequired",
 ]
 if TYPE_CHECKING:
     __all__ += ["Collection", "Mapping", "open"]

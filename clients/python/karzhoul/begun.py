@@ -7,6 +7,7 @@ from typing import TYPE_CHECKING, Optional, Type
 
 from .interrupts import begin_of_block, end_of_block
 from .managers import EntityManager
+from .places import Place
 from .refusals import Busy, OptimisticLock, Refused, Rollback
 from .transactions import is_of_callback
 
@@ -22,9 +23,18 @@ class Begun(AbstractContextManager["EntityManager"]):
         self._factory = factory
         self._manager: Optional[EntityManager] = None
 
+    if not TYPE_CHECKING:
+
+        def __getattr__(self, name: str) -> object:
+            # Of a manager, which it isn't.
+            raise AttributeError(
+                f"begin() is for a block, whose manager has {name!r}: "
+                "with app.begin() as manager: .."
+            )
+
     @begin_of_block
     def __enter__(self) -> EntityManager:
-        manager = self._manager = self._factory.create_entity_manager()
+        manager = self._manager = self._factory._created(Place(True))
         try:
             manager.__enter__()
             manager.transaction().__enter__()

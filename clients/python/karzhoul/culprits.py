@@ -9,12 +9,15 @@ from __future__ import annotations
 
 from contextlib import suppress
 from functools import cached_property
-from typing import TYPE_CHECKING, Any, Dict, Iterable, Iterator, List, Optional, Sequence, Set
-from typing import Tuple
+from typing import (
+    TYPE_CHECKING, Any, Dict, Iterable, Iterator, List, Mapping, Optional, Sequence, Set, Tuple,
+)
 
 from .concern import Concern
+from .converters import column_value, value_of
 from .entities import Entity
 from .lines import LifecycleEvent
+from .places import Place
 from .refusals import EntityNotFound, KarzhoulError, Refused
 from .show import value_text
 from .unit import EntityDescription, Member, MemberKind, entities_of
@@ -29,18 +32,21 @@ _WRITTEN = {
     LifecycleEvent.PRE_PERSIST, LifecycleEvent.POST_PERSIST, LifecycleEvent.PRE_UPDATE,
     LifecycleEvent.POST_UPDATE,
 }
+_PERSISTED = {LifecycleEvent.PRE_PERSIST, LifecycleEvent.POST_PERSIST}
 _DROPPED = {LifecycleEvent.PRE_REMOVE, LifecycleEvent.POST_REMOVE}
 _RELATIONS = (MemberKind.TO_ONE, MemberKind.COLLECTION)
 # So many objects are looked at, and so many rows are told of each.
 _MOST, _MOST_ROWS = 10_000, 3
+# So many values of a converter are told.
+_MOST_VALUES = 10
 
 
 class Culprits:
     """The objects that a refused flush, commit or call was about."""
 
     def __init__(self, factory: EntityManagerFactory, refused: Refused) -> None:
-        self._factory, self._refused = factory, refused
-        self._concern = refused._concern or Concern(factory._kinds.made)
+        self._factory, self._refused, self._run = factory, refused, refused._run or factory._run
+        self._concern = refused._concern or Concern(self._run.made)
         self._described = entities_of(factory.mapping)
         self._keys: Dict[Entity, Optional[Key]] = {}
 
@@ -51,47 +57,65 @@ class Culprits:
         """What was to be inserted: what was persisted and what that leads to along cascades, but
         for what was loaded."""
         told = [it.of for it in self._refused.events if it.kind in _WRITTEN]
-        found = self._of([*self._concern.persisted, *told])
+        found = self.of([*self._concern.persisted, *told])
         found += self._beyond(found, "PERSIST")
-        return [it for it in dict.fromkeys(found) if not self._was_loaded(it)][:_MOST]
+        return [it for it in dict.fromkeys(found) if not self._was_stored(it)][:_MOST]
 
     @cached_property
     def _perhaps(self) -> List[Entity]:
         """New objects that were made since the last transaction, and that a cascade may have
         reached."""
         known = set(self._new)
-        return [it for it in self._since if it not in known and not self._was_loaded(it)]
+        return [it for it in self._since if it not in known and not self._was_stored(it)]
 
     @cached_property
     def _since(self) -> List[Entity]:
         """The last objects that were made or loaded since the last transaction."""
-        made = self._factory._kinds.made
-        return self._of(range(max(self._concern.since, made - _MOST) + 1, made + 1))
+        made = self._run.made
+        return self.of(range(max(self._concern.since, made - _MOST) + 1, made + 1))
 
     @cached_property
     def _changed(self) -> List[Entity]:
         """What was to be replaced, in the order in which that was told."""
         told = [it.of for it in self._refused.events if it.kind in _WRITTEN]
-        return [it for it in self._of(told) if self._was_loaded(it)][:_MOST]
+        found = self.of([*told, *self._refused._written])
+        return [it for it in found if self._was_stored(it)][:_MOST]
 
     @cached_property
     def _removed(self) -> List[Entity]:
         told = [it.of for it in self._refused.events if it.kind in _DROPPED]
-        found = self._of([*self._concern.removed, *told])
+        found = self.of([*self._concern.removed, *told])
         return list(dict.fromkeys([*found, *self._beyond(found, "REMOVE")]))[:_MOST]
 
-    def _of(self, told: Iterable[Any]) -> List[Entity]:
-        """The objects of numbers, each once; those whose class isn't known are left out."""
+    def of(self, told: Iterable[Any]) -> List[Entity]:
+        """The objects of numbers, each once; those that a refused call gave up are left out."""
         found: Dict[Entity, None] = {}
+        told = list(told)
+        numbers = [it for it in told if not isinstance(it, Entity) and 0 < it <= self._run.made]
+        with suppress(KarzhoulError):  # So that their classes are known.
+            self._factory.objects(self._run, numbers)
         for each in told:
             if isinstance(each, Entity):
                 found[each] = None
-            elif self._factory._kinds[each] is not None:
-                found[self._factory._object(each)] = None
+            elif self._run.kinds[each] is not None:
+                with self._factory._lock:  # So that no number becomes two objects.
+                    found[self._run.object(each)] = None
         return list(found)
 
-    def _was_loaded(self, each: Entity) -> bool:
-        return self._factory._kinds.was_loaded(each._karzhoul_number)
+    def _was_stored(self, each: Entity) -> bool:
+        """Whether an object was stored before the transaction, as far as that can be told: it was
+        loaded, or it was made before and wasn't persisted since."""
+        number = each._karzhoul_number
+        if self._run.kinds.was_loaded(number) or self._refused._concern is None:
+            return self._run.kinds.was_loaded(number)
+        return number <= self._concern.since and number not in self._persisted
+
+    @cached_property
+    def _persisted(self) -> Set[int]:
+        """The numbers of what was persisted in the transaction."""
+        told = [it.of for it in self._refused.events if it.kind in _PERSISTED]
+        numbers = [it if isinstance(it, int) else it._karzhoul_number for it in told]
+        return {*self._concern.persisted, *numbers}
 
     def _beyond(self, objects: Sequence[Entity], operation: str) -> List[Entity]:
         """What these lead to along relations that cascade an operation."""
@@ -154,7 +178,7 @@ class Culprits:
     def _name(self, each: Entity) -> str:
         key, kind = self._key(each), type(each).__name__
         word = f"{kind} #{each._karzhoul_number}" if key is None else _named(kind, key)
-        return word if self._was_loaded(each) else f"the new {word}"
+        return word if self._was_stored(each) else f"the new {word}"
 
     # ---- what is stored
 
@@ -172,7 +196,7 @@ class Culprits:
     def _asked(self, text: str, key: Key) -> List[List[Any]]:
         """The first rows of a query for a key, as lists."""
         params = {f"k{place}": part for place, part in enumerate(key)}
-        with self._factory.create_entity_manager() as manager:
+        with self._factory._created(Place(True), at_once=True) as manager:
             rows = manager.query(text, params=params, max=_MOST_ROWS)
         return [row if isinstance(row, list) else [row] for row in rows]
 
@@ -209,6 +233,32 @@ class Culprits:
             word = "is null, and is required" if len(names) == 1 else "are null, and are required"
             yield f"{self._name(each)}: {' and '.join(names)} {word}"
 
+    def converter(self) -> Iterator[str]:
+        """Of each object the values that a converter doesn't take."""
+        return _first(
+            self._unconverted([*self._new, *self._changed]), self._unconverted(self._perhaps)
+        )
+
+    def _unconverted(self, objects: Sequence[Entity]) -> Iterator[str]:
+        for each, member, value in self._members(objects, MemberKind.ATTRIBUTE):
+            function = self._converters.get((member.declarer, member.name))
+            if function is not None and isinstance(value, (int, str, bytes)):
+                if column_value(function, value) is None:
+                    way = f"which its converter {function['name']} doesn't take{_taken(function)}"
+                    yield f"{self._name(each)}: {member.name} is {_quoted(value)}, {way}"
+
+    @cached_property
+    def _converters(self) -> Dict[Tuple[str, str], Any]:
+        """The converters of attributes."""
+        mapping = self._factory.mapping
+        functions = {each["name"]: each for each in mapping.get("functions", ())}
+        return {
+            (entity["name"], attribute["name"]): functions[attribute["converter"]]
+            for entity in mapping["entities"]
+            for attribute in entity.get("attributes", ())
+            if "converter" in attribute
+        }
+
     def reference(self) -> Iterator[str]:
         """What leads to an object that was removed, and what leads to one that isn't stored."""
         removed = dict.fromkeys(self._removed)
@@ -240,11 +290,11 @@ class Culprits:
 
     def unpersisted(self) -> Iterator[str]:
         """What leads to a new object that isn't persisted, or to one that is removed."""
-        loaded = [it for it in self._since if self._was_loaded(it)]
-        held = [it for ref in list(self._factory._objects.values()) if (it := ref()) is not None]
+        loaded = [it for it in self._since if self._was_stored(it)]
+        held = self._run.held()
         return _first(
             self._unpersisted(dict.fromkeys([*self._new, *self._changed, *loaded])),
-            self._unpersisted([it for it in held if self._was_loaded(it)][:_MOST]),
+            self._unpersisted([it for it in held if self._was_stored(it)][:_MOST]),
         )
 
     def _unpersisted(self, objects: Iterable[Entity]) -> Iterator[str]:
@@ -254,7 +304,7 @@ class Culprits:
                 way = f"{self._name(each)} leads by {member.name} to"
                 if target in removed:
                     yield f"{way} {self._name(target)}, which is removed"
-                elif target not in inserted and not self._was_loaded(target):
+                elif target not in inserted and not self._was_stored(target):
                     hint = f"persist it too, or have {member.name} cascade PERSIST"
                     yield f"{way} {self._name(target)}, which isn't persisted: {hint}"
 
@@ -295,7 +345,7 @@ class Culprits:
     def persisted(self, each: Entity) -> Iterator[str]:
         """Why an object can't be persisted."""
         key, kind = self._key(each), type(each).__name__
-        if self._was_loaded(each):
+        if self._was_stored(each):
             yield f"{self._name(each)} is no new object, and this manager doesn't have it: merge it"
         elif key is not None:
             hint = "change that one, or give the new one another key"
@@ -304,7 +354,8 @@ class Culprits:
     def stale(self) -> Iterator[str]:
         """What another commit changed or removed since it was read."""
         told = [it.of for it in self._refused.events if it.kind in _WRITTEN | _DROPPED]
-        found = self._of([*told, *self._concern.locked, *self._concern.removed])
+        told += self._refused._written
+        found = self.of([*told, *self._concern.locked, *self._concern.removed])
         perhaps: List[str] = []
         is_told = False
         for each in found[:_MOST]:
@@ -325,18 +376,22 @@ class Culprits:
         members = self._entity(each).members
         version = next((it.name for it in members if it.kind is MemberKind.VERSION), None)
         stored = self._stored(each, *([version] if version else []))
-        if not self._was_loaded(each):
-            return f"{self._name(each)} was stored by another commit too", stored is not None
+        if not self._was_stored(each):
+            is_there = stored is not None
+            word = f"{self._name(each)} was stored by another commit too"
+            return (word if is_there else ""), is_there
         if stored is None:
             return f"{self._name(each)} was removed by another commit", True
-        if version is None:
+        held = None if version is None else self._value(each, version)
+        if not isinstance(held, int):
             return self._name(each), False
-        held = self._value(each, version)
-        if isinstance(held, int) and stored[0] > held:
-            versions = f"version {stored[0]} is stored, and {held} was read"
+        # An earlier flush of the transaction may have raised it.
+        was_raised = each._karzhoul_number in self._refused._written
+        if stored[0] > held or (stored[0] == held and was_raised):
+            read = "an older one" if was_raised else str(held)
+            versions = f"version {stored[0]} is stored, and {read} was read"
             return f"{self._name(each)} was changed by another commit: {versions}", True
-        # An earlier flush raised it, and it stands as it was read.
-        return ("" if isinstance(held, int) and stored[0] < held else self._name(each)), False
+        return ("" if stored[0] < held else self._name(each)), False
 
 
 def _first(*ways: Iterator[str]) -> Iterator[str]:
@@ -346,6 +401,19 @@ def _first(*ways: Iterator[str]) -> Iterator[str]:
             yield word
             yield from way
             return
+
+
+def _quoted(value: Any) -> str:
+    return repr(value) if isinstance(value, str) else value_text(value)
+
+
+def _taken(function: Mapping[str, Any]) -> str:
+    """What a converter takes, where that is a table of values."""
+    if function["make"] != "table":
+        return ""
+    values = [_quoted(value_of(here)) for here, _ in function["pairs"]]
+    more = f" and {len(values) - _MOST_VALUES} more" if len(values) > _MOST_VALUES else ""
+    return f": it takes {', '.join(values[:_MOST_VALUES])}{more}"
 
 
 def _by_class(objects: Iterable[Entity]) -> Dict[str, List[Entity]]:

@@ -7,14 +7,17 @@ import sys
 from collections.abc import Callable, Iterable, Iterator, Mapping, MutableSequence, Sequence
 from functools import partial
 from typing import (
-    TYPE_CHECKING, Any, ClassVar, Dict, List, NamedTuple, Optional, Tuple, Type, TypeVar, Union,
-    overload,
+    TYPE_CHECKING, Any, ClassVar, Dict, List, NamedTuple, NoReturn, Optional, Tuple, Type, TypeVar,
+    Union, overload,
 )
 
 from .lines import LifecycleEvent, line_of, text_spelled
+from .misfits import misfit, unknown
 
 if TYPE_CHECKING:
     from .factory import EntityManagerFactory
+    from .runs import Run
+    from .shown import Shown
 
 E = TypeVar("E", bound="Entity")
 # A text or bytes have at most so many bytes.
@@ -29,11 +32,17 @@ class Entity:
     its attributes are the entity's members. The class of a subclass is a subclass.
     """
 
-    __slots__ = ("_karzhoul_number", "__weakref__")
+    __slots__ = ("_karzhoul_number", "_karzhoul_run", "_karzhoul_shown", "__weakref__")
     _karzhoul_number: int
+    # The run of the program that knows it by that number.
+    _karzhoul_run: Run
+    # Its values as they were read last.
+    _karzhoul_shown: Shown
     _karzhoul_factory: ClassVar[EntityManagerFactory]
     # The line that makes one.
     _karzhoul_line: ClassVar[bytes]
+    # The place of each member that is no relation among the values.
+    _karzhoul_places: ClassVar[Mapping[str, int]] = {}
     # The attribute that is the key, and the members that are its parts.
     _karzhoul_key: ClassVar[Tuple[str, Sequence[str]]]
 
@@ -43,7 +52,10 @@ class Entity:
             raise TypeError(f"{cls.__name__}: the class of an entity takes no subclass of your own")
 
     def __new__(cls: Type[E], /, **values: Any) -> E:
-        made: E = cls._karzhoul_factory.ask_lines([cls._karzhoul_line], cls.__name__)[0]
+        if values:
+            check_names(cls, values)  # Before anything is made.
+        factory = cls._karzhoul_factory
+        made: E = factory.ask_lines(None, [cls._karzhoul_line], cls.__name__)[0]
         return made
 
     def __init__(self, /, **values: Any) -> None:
@@ -56,8 +68,18 @@ class Entity:
 
         def __setattr__(self, name: str, value: Any) -> None: ...
 
-    def __reduce__(self) -> str:
-        return _named(self, None)  # So a copy is the object itself, and none can be pickled.
+    def __copy__(self: E) -> E:
+        return self
+
+    def __deepcopy__(self: E, memo: object) -> E:
+        return self
+
+    def __reduce_ex__(self, protocol: object) -> NoReturn:
+        kind, key = type(self).__name__, self._karzhoul_key[0]
+        raise TypeError(
+            f"an object of {kind} can't be pickled, since its program alone has its values: pickle "
+            f"its {key}, by which it is found again, or the values that are needed"
+        )
 
     def __repr__(self) -> str:
         return _named(self, self._karzhoul_factory.key_at_hand(self))
@@ -68,13 +90,23 @@ class Entity:
         return object_html(self)
 
 
+def check_names(kind: Type[Entity], names: Iterable[str]) -> None:
+    """Refuses names that are no attributes of an entity's class: an `AttributeError` says which is
+    meant."""
+    for name in names:
+        if not isinstance(getattr(kind, name, None), Attribute):
+            members = [item for each in kind.__mro__[::-1] for item in vars(each).items()]
+            known = [name for name, member in members if isinstance(member, Attribute)]
+            raise unknown(kind.__name__, name, known)
+
+
 def _named(entity: Entity, key: Optional[Sequence[Any]]) -> str:
     """An object with its key, or with its number where the key isn't at hand."""
     name, parts = entity._karzhoul_key
     value = None if key is None else key[0] if parts == [name] else tuple(key)
     return (
         f"<{type(entity).__name__} "
-        f"{f'#{abs(entity._karzhoul_number)}' if key is None else f'{name}={value!r}'}>"
+        f"{f'#{entity._karzhoul_number}' if key is None else f'{name}={value!r}'}>"
     )
 
 
@@ -128,15 +160,15 @@ class EmbeddedId:
     def _karzhoul_assign(self, given: Union[Mapping[str, Any], Iterable[Any]]) -> None:
         """Sets all parts together, or none."""
         entity, values = self._karzhoul_entity, self._karzhoul_each(given)
-        factory = entity._karzhoul_factory
+        factory, run = entity._karzhoul_factory, entity._karzhoul_run
         lines = {
-            part: factory.set_line(entity, self._karzhoul_member(part), value)
+            part: run.set_line(entity, self._karzhoul_member(part), value)
             for part, value in values
         }
         for part, value in values:
             if not _fits(self._karzhoul_parts[part], value):
-                factory.ask_lines([lines[part]])  # It is refused, and so no other one is sent.
-        factory.tell(*lines.values())
+                factory.ask_lines(run, [lines[part]])  # It is refused, and no other one is sent.
+        factory.tell(run, *lines.values())
 
     def _karzhoul_each(
         self, given: Union[Mapping[str, Any], Iterable[Any]]
@@ -307,17 +339,23 @@ class Attribute(property):
     def __init__(
         self, name: str, target: str = "",
         view: Optional[Callable[[Entity, str], Union[Collection[Any], EmbeddedId]]] = None,
+        place: Optional[int] = None,
     ) -> None:
+        """With the place among an object's values, where it has one."""
         self.name, self.target, self.is_viewed = name, target, view is not None
         # What stands between an object's number and a value in the line that sets it.
         self.between = f',"name":{text_spelled(name)},"value":'
 
         def read(it: Entity) -> Any:
+            if place is not None:
+                shown = it._karzhoul_shown
+                if not shown.epoch.is_over:
+                    return shown.values[place]
             return it._karzhoul_factory.get(it, name) if view is None else view(it, name)
 
         def assign(it: Entity, value: Any) -> None:
             if view is None:
-                it._karzhoul_factory.tell(self.line(it, value))
+                it._karzhoul_factory.tell(it._karzhoul_run, self.line(it, value))
             else:
                 view(it, name)._karzhoul_assign(value)
 
@@ -325,9 +363,12 @@ class Attribute(property):
 
     def line(self, entity: Entity, value: Any) -> bytes:
         """The line that sets it."""
-        factory = entity._karzhoul_factory
-        number, given = factory.number(entity), factory.given(value)
-        return f'{{"call":"set","object":{number}{self.between}{given}}}'.encode()
+        number = entity._karzhoul_number
+        try:
+            given = entity._karzhoul_run.given(value)
+            return f'{{"call":"set","object":{number}{self.between}{given}}}'.encode()
+        except (TypeError, ValueError, OverflowError) as fault:
+            raise misfit(fault, f"{type(entity).__name__}.{self.name}", value) from None
 
 
 def classes_of(
@@ -348,15 +389,17 @@ def _make_class(
     """The class of an entity, which is a subclass of that of the entity that it extends."""
     if name not in made:
         entity = declared[name]
-        base = (
+        base: Type[Entity] = (
             _make_class(factory, declared, entity["extends"], made)
             if "extends" in entity
             else Entity
         )
-        own: Dict[str, Any] = {attribute.name: attribute for attribute in _attributes(entity)}
+        places = _places(entity, base._karzhoul_places)
+        own: Dict[str, Any] = {it.name: it for it in _attributes(entity, places)}
         own.update(__slots__=(), __doc__=f"An object of the entity {name}.")
         own.update(
-            _karzhoul_factory=factory, _karzhoul_line=line_of("new", {"entity": text_spelled(name)})
+            _karzhoul_factory=factory, _karzhoul_places=places,
+            _karzhoul_line=line_of("new", {"entity": text_spelled(name)}),
         )
         if base is Entity:
             own["_karzhoul_key"] = _key(entity)
@@ -372,16 +415,24 @@ def _key(entity: Mapping[str, Any]) -> Tuple[str, List[str]]:
     return (name, [f"{name}.{part}" for part in parts]) if name else (parts[0], parts)
 
 
-def _attributes(entity: Mapping[str, Any]) -> List[Attribute]:
+def _places(entity: Mapping[str, Any], above: Mapping[str, int]) -> Dict[str, int]:
+    """The place of each member that is no relation among the values of an object: the key's parts
+    come first, then the version, then the attributes, of the superclass first."""
+    names = _key(entity)[1] if "key" in entity else []
+    names += [entity["version"]["name"]] if "version" in entity else []
+    names += [attribute["name"] for attribute in entity.get("attributes", ())]
+    return {**above, **{name: place for place, name in enumerate(names, len(above))}}
+
+
+def _attributes(entity: Mapping[str, Any], places: Mapping[str, int]) -> List[Attribute]:
     """The attributes that an entity itself declares."""
     key = {part["name"]: part["type"] for part in entity.get("key", ())}
-    made = (
-        [Attribute(entity["embedded"], view=partial(EmbeddedId, key))]
-        if "embedded" in entity
-        else [Attribute(part) for part in key]
-    )
-    made += [Attribute(entity["version"]["name"])] if "version" in entity else []
-    made += [Attribute(attribute["name"]) for attribute in entity.get("attributes", ())]
+    names = [] if "embedded" in entity else list(key)
+    names += [entity["version"]["name"]] if "version" in entity else []
+    names += [attribute["name"] for attribute in entity.get("attributes", ())]
+    made = [Attribute(name, place=places[name]) for name in names]
+    if "embedded" in entity:
+        made.insert(0, Attribute(entity["embedded"], view=partial(EmbeddedId, key)))
     for relation in entity.get("relations", ()):
         made.append(
             Attribute(
@@ -405,6 +456,12 @@ class Event(_Told):
     callbacks that `ran`."""
 
     __slots__ = ()
+
+    @property
+    def due(self) -> Tuple[str, int]:
+        """The name of its kind and the number of its object."""
+        it = self.of
+        return self.kind.value, it._karzhoul_number if isinstance(it, Entity) else it
 
     @property
     def object(self) -> Entity:

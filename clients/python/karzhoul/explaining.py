@@ -5,31 +5,68 @@ from __future__ import annotations
 
 import json
 from itertools import islice
-from typing import TYPE_CHECKING, Any, Dict, Iterable, Iterator, Mapping, Optional
+from typing import TYPE_CHECKING, Any, Callable, Dict, Iterable, Iterator, Mapping, Optional
 
 from .arguments import meant
 from .culprits import Culprits
 from .jpql_check import BYTES, INT, TEXT, Kind, check
 from .line_check import faults_of_line
 from .meanings import meaning
-from .refusals import BadLine, KarzhoulError
+from .refusals import BadLine, KarzhoulError, Refused, Rollback, StoreFault
 from .unit import EntityDescription, MemberKind, entities_of
 
 if TYPE_CHECKING:
     from .factory import EntityManagerFactory
-    from .refusals import Refused
 
-# So many lines are told.
-_MOST = 10
+# So many lines are told, and so many characters of each.
+_MOST, _LONGEST = 10, 500
 _KINDS = {"int": "a whole number", "text": "a text", "bytes": "bytes"}
+_OF_QUERIES = {
+    "IllegalArgument(syntax)", "IllegalArgument(typing)", "IllegalArgument(parameter)",
+    "Limit(query)",
+}
+# Those of which the objects are looked at that they are about.
+_ASKED: Dict[str, Callable[[Culprits], Iterable[str]]] = {
+    "Persistence(null)": Culprits.null,
+    "Persistence(reference)": Culprits.reference,
+    "Persistence(unique)": Culprits.unique,
+    "Persistence(converter)": Culprits.converter,
+    "IllegalState(reference)": Culprits.unpersisted,
+    "OptimisticLock": Culprits.stale,
+    "EntityExists": Culprits.exists,
+}
 
 
 def explained(refused: Refused, factory: Optional[EntityManagerFactory]) -> str:
-    """What can be told of a refusal: at the least what it means."""
-    told = list(islice(_told(refused, factory), _MOST + 1))
+    """What can be told of a refusal: at the least what it means. Of another run than the one that
+    is on, the numbers in its line are those of other objects, and it tells that alone."""
+    if factory is not None and refused._run is not factory._run:
+        return meaning(refused)
+    told = [_cut(line) for line in islice(_told(refused, factory), _MOST + 1)]
     if len(told) > _MOST:
         told[_MOST:] = ["and so on"]
     return "\n".join(told) or meaning(refused)
+
+
+def _cut(line: str) -> str:
+    """A line without its middle, where that is long, as of a value that was handed in: it may stand
+    in a log."""
+    if len(line) <= _LONGEST:
+        return line
+    return f"{line[: _LONGEST - 100]} .. ({len(line):,} characters) .. {line[-100:]}"
+
+
+def sentence(refused: Refused) -> Optional[str]:
+    """What can be told of a refusal without asking the program; None where it would be asked, and
+    where nothing is known but its word."""
+    cause = refused.cause if isinstance(refused, Rollback) else None
+    word = (cause or refused).word
+    if word in _ASKED or isinstance(refused, StoreFault) or type(refused) is Refused:
+        return None
+    try:
+        return refused.explain()
+    except RecursionError:  # As of a text of thousands of NOT, which the program reads.
+        return meaning(refused)
 
 
 def _told(refused: Refused, factory: Optional[EntityManagerFactory]) -> Iterator[str]:
@@ -37,10 +74,11 @@ def _told(refused: Refused, factory: Optional[EntityManagerFactory]) -> Iterator
         yield from faults_of_line(refused.line)
     elif factory is not None:
         said = _said(refused.line)
-        yield from _of_query(said, factory)
+        if refused.word in _OF_QUERIES:
+            yield from _of_query(said, factory)
         if refused.name == "IllegalArgument":
             yield from _of_argument(refused.detail, said, factory)
-        elif factory.turn is not None:  # Else nothing can be asked.
+        elif refused.word in _ASKED and factory.turn is not None:  # Else nothing can be asked.
             yield from _of_objects(refused, said, factory)
 
 
@@ -116,19 +154,10 @@ def _of_objects(
     """The objects that a refusal is about."""
     culprits = Culprits(factory, refused)
     number = said.get("object")
-    ways: Dict[Optional[str], Any] = {
-        "Persistence(null)": culprits.null,
-        "Persistence(reference)": culprits.reference,
-        "Persistence(unique)": culprits.unique,
-        "IllegalState(reference)": culprits.unpersisted,
-        "OptimisticLock": culprits.stale,
-        "EntityExists": culprits.exists,
-    }
-    way = ways.get(str(refused))
     try:
-        if refused.name == "EntityExists" and factory._kinds[number or 0] is not None:
-            return list(culprits.persisted(factory._object(int(str(number)))))
-        return list(way()) if way is not None else []
+        if refused.name == "EntityExists" and number and (found := culprits.of([number])):
+            return list(culprits.persisted(found[0]))
+        return list(_ASKED[refused.word](culprits))
     except (KarzhoulError, LookupError):  # As where 16 managers are open.
         return []
 

@@ -6,9 +6,10 @@ import re
 from typing import Dict, Iterator, Optional
 
 from .arguments import meant
-from .lines import CALLS, OPTIONAL, FlushModeType, LockModeType
+from .lines import CALLS, OPTIONAL, OWN_CALLS, FlushModeType, LockModeType
 from .strict_json import NoJson, Value, read
 
+_KNOWN = {**CALLS, **OWN_CALLS}
 _NUMBERS = {"em", "object", "member", "first", "max"}
 _MODES = {
     "lock": [mode.value for mode in LockModeType],
@@ -30,7 +31,7 @@ def faults_of_line(line: str) -> Iterator[str]:
     call = said.data.get("call")
     if call is None:
         yield f'the member "call" is missing{_near("call", said.data)}'
-    elif not isinstance(call.data, str) or call.data not in CALLS:
+    elif not isinstance(call.data, str) or call.data not in _KNOWN:
         word = call.plain()
         near = meant(word, CALLS) if isinstance(word, str) else ""
         yield f"column {call.at + 1}: there is no call {word!r}{near}"
@@ -44,7 +45,7 @@ def _near(name: str, members: Dict[str, Value]) -> str:
 
 
 def _faults_of_members(call: str, members: Dict[str, Value]) -> Iterator[str]:
-    known = CALLS[call]
+    known = _KNOWN[call]
     for name in known:
         if name not in members and name not in OPTIONAL:
             yield f"{call} takes the member {name!r}, which is missing"
@@ -64,6 +65,9 @@ def _wanted(call: str, name: str, value: Value) -> Optional[str]:
     """What a member is to be, where it is something else."""
     if name in _NUMBERS:
         return None if type(value.data) is int else "a whole number"
+    if name == "objects":
+        is_list = isinstance(value.data, list) and all(type(it.data) is int for it in value.data)
+        return None if is_list else "a list of whole numbers"
     if name == "value":
         return None if _is_value(value) else _VALUE
     if name == "key":

@@ -66,6 +66,10 @@ CALLS: Dict[str, Sequence[str]] = {
     "executeUpdate": ("em", "text", "params"),
 }
 """The calls with their members."""
+OWN_CALLS: Dict[str, Sequence[str]] = {
+    "values": ("objects",), "pending": ("em",), "restart": (), "index": ("entity", "name"),
+}
+"""Those beside them that clients make for themselves."""
 OPTIONAL = {"params", "first", "max"}
 """The members that may be left out."""
 

@@ -9,7 +9,7 @@ from .factory import EntityManagerFactory
 from .lines import LifecycleEvent
 from .plans import Plan, Terms
 from .records import GREATEST, Key, Next, Record, Shape, named, shapes_of
-from .refusals import Limit, OutOfMemory, Persistence, Refused, StoreFault
+from .refusals import Limit, ObjectLimit, OutOfMemory, Persistence, Refused, StoreFault
 from .sources import RowFault, Source
 from .writing import Row, Writer
 
@@ -49,7 +49,7 @@ class Loader:
             self._stored = {top: stored.classes(top) for top in tops}
             if self._nexts:
                 self._nexts = {top: stored.next_number(top) for top in self._nexts}
-                app.restart()  # They were given out by that.
+                app._start_again()  # They were given out by that, and are given again.
         for target, keys in self._plan.abroad.items():
             self._look_abroad(target, keys)
         for top in self._plan.held:
@@ -214,10 +214,10 @@ class Loader:
         """Does a step; where the run of the program has made all its objects, in the next run."""
         try:
             step()
-        except Limit:
+        except ObjectLimit:
             if self._terms.is_dry:
                 raise
-            self._app.restart()
+            self._app._start_again()  # So that numbers which weren't stored are given again.
             self._writer.nexts = nexts
             self._writer.open()
             step()
@@ -259,7 +259,7 @@ class Loader:
         row = next((each for each in rows if each.line == line), rows[0])
         others = "" if line or len(rows) == 1 else f", or a row up to line {rows[-1].line}"
         why = _why(row.record, row.shape, refused, self._mapping)
-        return self._fault(row.line, f"{row.record}{others}: {refused}{why}")
+        return self._fault(row.line, f"{row.record}{others}: {refused.word}{why}")
 
 
 def _why_not_given(number: int, following: int, unused: int) -> Optional[str]:

@@ -4,38 +4,44 @@ from __future__ import annotations
 
 from contextlib import AbstractContextManager
 from typing import (
-    TYPE_CHECKING, Any, Iterable, Iterator, List, Optional, Type, Union, overload,
+    TYPE_CHECKING, Any, FrozenSet, Iterable, Iterator, List, Optional, Type, Union, overload,
 )
+from weakref import ref
 
 from .concern import Concern
 from .entities import E, EmbeddedId, Entity
 from .fetching import fetched
 from .interrupts import begin_of_block, carried_out, end_of_block, guard, unguard
 from .lines import FlushModeType, LockModeType, line_of, spelled, text_spelled
+from .misfits import misfit
+from .pending import Due, Pending
 from .queries import Queries
 from .refusals import KarzhoulError, NoSuchManager, ProgramEnded, Refused, Restarted
 from .transactions import Attempt, EntityTransaction, attempts
+from .warned import warn
 
 if TYPE_CHECKING:
-    from .factory import EntityManagerFactory
+    from .places import Place
+    from .runs import Run
+
+_LOST = (
+    "a manager is closed that was told to persist or to remove outside of a transaction, and no "
+    "commit came since: that is not stored"
+)
 
 
 class EntityManager(Queries, AbstractContextManager["EntityManager"]):
     """A manager of objects, whose context lasts over its commits.
     `EntityManagerFactory.create_entity_manager` makes one."""
 
-    def __init__(self, factory: EntityManagerFactory, number: int) -> None:
-        self.factory, self.number = factory, number
-        self._program, self._number = factory.program, str(number)
+    def __init__(self, run: Run, number: int, place: Place) -> None:
+        """With its place, which is taken where the factory has places."""
+        self.factory, self.number, self._place = run.factory, number, place
+        place.manager = ref(self)
+        self._run, self._em = run, str(number)
         self._transaction = EntityTransaction(self)
-        self._concern = Concern(factory._kinds.made)
-
-    @property
-    def _em(self) -> str:
-        """Its number as JSON."""
-        if self._program is not self.factory.program:
-            raise Restarted(f"manager {self.number} is of before a restart: create another one")
-        return self._number
+        self._pending, self._mode = Pending(self), FlushModeType.AUTO
+        self._concern = Concern(run.made)
 
     @begin_of_block
     def __enter__(self) -> EntityManager:
@@ -117,17 +123,19 @@ class EntityManager(Queries, AbstractContextManager["EntityManager"]):
         self, call: str, entity: Union[str, Type[Entity]], keys: Iterable[Any]
     ) -> List[Any]:
         name = entity if isinstance(entity, str) else entity.__name__
-        em = (
-            self._number if self._program is self.factory.program else self._em
-        )  # (As `_em`, without a call.)
-        front = f'{{"call":"{call}","em":{em},"entity":{text_spelled(name)},"key":'
-        return self.factory.ask_lines([f"{front}{self._key(key)}}}".encode() for key in keys], name)
+        front = f'{{"call":"{call}","em":{self._em},"entity":{text_spelled(name)},"key":'
+        keys = list(keys)
+        try:
+            lines = [f"{front}{self._key(key)}}}".encode() for key in keys]
+        except (TypeError, OverflowError, UnicodeEncodeError) as fault:
+            raise misfit(fault, f"the key of {name}", keys) from None
+        return self.factory.ask_lines(self._run, lines, name)
 
     def _key(self, key: Any) -> str:
         if type(key) is int:
             return f"[{key}]" if -(2**63) <= key < 2**63 else f"[{spelled(key)}]"
         parts = key if isinstance(key, (tuple, list, EmbeddedId)) else (key,)
-        return f"[{','.join(map(self.factory.given, parts))}]"
+        return f"[{','.join(map(self._run.given, parts))}]"
 
     # ---- the life of objects
 
@@ -139,9 +147,9 @@ class EntityManager(Queries, AbstractContextManager["EntityManager"]):
     def persist_all(self, objects: Iterable[Entity]) -> None:
         """Makes new objects managed, as `persist` each of them, sent together. The first refusal is
         raised, with the others as its `later`."""
-        front, number = f'{{"call":"persist","em":{self._em},"object":', self.factory.number
+        front, number = f'{{"call":"persist","em":{self._em},"object":', self._run.number
         numbers = [number(entity) for entity in objects]
-        self.factory.tell_all([f"{front}{each}}}".encode() for each in numbers])
+        self.factory.tell_all(self._run, [f"{front}{each}}}".encode() for each in numbers])
         self._concern.persisted += map(int, numbers)
 
     def remove(self, entity: Entity) -> None:
@@ -158,12 +166,9 @@ class EntityManager(Queries, AbstractContextManager["EntityManager"]):
         self._tell_on("detach", entity)
 
     def _tell_on(self, call: str, entity: Entity, more: str = "") -> None:
-        factory = self.factory
-        em = (
-            self._number if self._program is factory.program else self._em
-        )  # (As `_em`, without a call.)
-        factory.tell(
-            f'{{"call":"{call}","em":{em},"object":{factory.number(entity)}{more}}}'.encode()
+        run, number = self._run, self._run.number(entity)
+        self.factory.tell(
+            run, f'{{"call":"{call}","em":{self._em},"object":{number}{more}}}'.encode()
         )
 
     def fetch(self, objects: Iterable[Optional[Entity]], path: str) -> List[Any]:
@@ -181,12 +186,12 @@ class EntityManager(Queries, AbstractContextManager["EntityManager"]):
         where there is none, and is the answer; the object itself stays as it is. What the object
         leads to goes along where MERGE cascades. `OptimisticLock` where its version isn't the
         one that stands."""
-        image: E = self.factory.ask("merge", em=self._em, object=self.factory.number(entity))
+        image: E = self._ask("merge", object=self._run.number(entity))
         return image
 
     def contains(self, entity: Entity) -> bool:
         """Whether an object is managed here."""
-        return bool(self.factory.ask("contains", em=self._em, object=self.factory.number(entity)))
+        return bool(self._ask("contains", object=self._run.number(entity)))
 
     def lock(self, entity: Entity, mode: LockModeType) -> None:
         """Locks a managed object, which has a version, until the open transaction ends: READ asks
@@ -197,23 +202,52 @@ class EntityManager(Queries, AbstractContextManager["EntityManager"]):
 
     def clear(self) -> None:
         """Takes all objects out of the context."""
-        self.factory.tell(line_of("clear", {"em": self._em}))
-        self._concern = Concern(self.factory._kinds.made)
+        self.factory.tell(self._run, line_of("clear", {"em": self._em}))
+        self._concern = Concern(self._run.made)
 
     def flush(self) -> None:
-        """Writes what has changed into the transaction."""
+        """Writes what has changed into the transaction. What a callback raises that runs before
+        (`EntityManagerFactory.listen`) leaves nothing written."""
+        self._pending.before(self._flush)
+
+    def _flush(self, ran: FrozenSet[Due]) -> None:
         try:
-            self.factory.ask("flush", em=self._em)
+            self._ask_flushing("flush", ran)
         except Refused as refused:
             refused._concern = self._concern
             raise
 
     def set_flush_mode(self, mode: FlushModeType) -> None:
         """Says when a query in a transaction flushes first."""
-        self.factory.tell(
-            line_of("setFlushMode", {"em": self._em, "mode": text_spelled(FlushModeType(mode))})
-        )
+        word = text_spelled(FlushModeType(mode))
+        self.factory.tell(self._run, line_of("setFlushMode", {"em": self._em, "mode": word}))
+        self._mode = FlushModeType(mode)
 
     def close(self) -> None:
-        """Ends the manager, which owns no open transaction."""
-        self.factory.ask("close", em=self._em)
+        """Ends the manager, which owns no open transaction. What was persisted or removed outside
+        of a transaction, and in none since, is lost then: a `RuntimeWarning` says so."""
+        try:
+            self._ask("close")
+        except (NoSuchManager, ProgramEnded, Restarted):  # It is gone already.
+            self._give_place_back()
+            raise
+        self._give_place_back()
+        if self._concern.persisted or self._concern.removed:
+            warn(_LOST, RuntimeWarning)
+
+    def _give_place_back(self) -> None:
+        if self.factory._places is not None:
+            self.factory._places.give_back(self._place)
+
+    def _flushes_before(self) -> bool:
+        """Whether a query flushes first."""
+        return self._transaction.is_active and self._mode is FlushModeType.AUTO
+
+    def _ask_flushing(self, call: str, ran: FrozenSet[Due]) -> None:
+        """Does a call that flushes, before which these callbacks ran."""
+        self.factory.ask_lines(self._run, [line_of(call, {"em": self._em})], ran=ran)
+
+    def _ask(self, call: str, **members: str) -> Any:
+        """Does a call of this manager, whose members are JSON, and gives its answer."""
+        line = line_of(call, {"em": self._em, **members})
+        return self.factory.ask_lines(self._run, [line])[0]

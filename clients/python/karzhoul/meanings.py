@@ -56,7 +56,7 @@ _OTHER_REVISION = "0:" + (b"\x01\x80" + bytes(7)).hex()
 def meaning(refused: Refused) -> str:
     """A sentence that tells what a refusal means."""
     if isinstance(refused, Limit):
-        return str(refused).partition(": ")[2]
+        return refused.told()
     if isinstance(refused, Damaged):
         return _damage(refused.detail)
     told = _MEANINGS.get(type(refused), {}).get(refused.detail or "")

@@ -3,6 +3,7 @@
 from __future__ import annotations
 
 import os
+import resource
 import sqlite3
 from contextlib import suppress
 from pathlib import Path
@@ -35,6 +36,38 @@ def why_unopened(db: Path) -> str:
         return found
     why = "it is empty" if db.stat().st_size == 0 else "it can't be told why"
     return why + _of_room(db.parent)
+
+
+def why_unwritten(db: Path, pid: int) -> str:
+    """What is in the way of a commit that a program of this number couldn't write, as far as that
+    can be told."""
+    way = "nothing of the commit is stored, and its transaction is still open"
+    return f"{db} can't be written: {_of_writing(db, pid)}; {way}"
+
+
+def _of_writing(db: Path, pid: int) -> str:
+    if not db.parent.is_dir():
+        return f"its folder {db.parent} is gone"
+    if os.statvfs(db.parent).f_flag & os.ST_RDONLY:
+        return f"the disk of {db.parent} can only be read now"
+    if bound := _of_bound(db, pid):
+        return bound
+    room = os.statvfs(db.parent)
+    left = room.f_bavail * room.f_frsize
+    if left < 1 << 20:
+        return f"the disk of {db.parent} has no room left: make room, and commit again"
+    return f"it can't be told why, and the disk of {db.parent} has {left >> 20:,} MB of room left"
+
+
+def _of_bound(db: Path, pid: int) -> Optional[str]:
+    """That a program has reached its bound of the size of files, where the system tells it."""
+    with suppress(OSError, ValueError, AttributeError):
+        most, _ = resource.prlimit(pid, resource.RLIMIT_FSIZE)
+        for file in (db.with_name(f"{db.name}-wal"), db):
+            # A page of a file is written as a whole.
+            if most != resource.RLIM_INFINITY and file.stat().st_size + (1 << 16) > most:
+                return f"{file.name} may have at most {most:,} bytes (ulimit -f): raise that"
+    return None
 
 
 def _of_room(folder: Path) -> str:

@@ -4,26 +4,38 @@ from __future__ import annotations
 
 import math
 import os
+import re
 import select
 import signal
 import sys
 import tempfile
+import threading
 import time
 import weakref
 from contextlib import suppress
 from copy import copy
 from subprocess import DEVNULL, PIPE, Popen, TimeoutExpired
-from typing import IO, Iterator, List, NoReturn, Optional, Sequence, Set, Union
+from typing import IO, TYPE_CHECKING, Iterator, List, Optional, Sequence, Set, Union
 
-from .refusals import GivenUp, KarzhoulError, ProgramEnded, ProgramNotFound, refusal_of
+from .refusals import GivenUp, KarzhoulError, ProgramEnded, ProgramNotFound, Restarted, refusal_of
+
+if TYPE_CHECKING:
+    from .runs import Run
 
 _PATIENCE = 2.0
 _CHUNK = (1 << 16,)
 # How long a program may still take for its reply once it is interrupted a second time.
 _GRACE = 1.0
+# What a program must serve, and which one does.
+HELLO = (b'{"call":"values","objects":[]}', b'{"call":"pending","em":0}')
+_SHOWN = b'{"events":[],"ok":[]}'
+NEEDED = "version 0.1.0 of 2026-11-29, or a later one"
 # Ends the program's group at the end of input, which comes without a line where this process is
-# killed.
-_WATCH = 'read -r line || kill -KILL "-$1"'
+# killed, and removes what goes with it.
+_WATCH = 'read -r line || { kill -KILL "-$1"; [ -z "$2" ] || rm -rf -- "$2"; }'
+
+# A call of commit, as no value spells it, in which quotes are escaped.
+_COMMIT = re.compile(rb'"call"\s*:\s*"commit"')
 
 Words = Union[str, "os.PathLike[str]"]
 
@@ -50,9 +62,11 @@ class Exchange:
     interrupt, run between such steps alone.
     """
 
-    __slots__ = ("lines", "written", "read", "parts")
+    __slots__ = ("run", "lines", "written", "read", "parts")
 
-    def __init__(self, lines: Sequence[bytes]) -> None:
+    def __init__(self, lines: Sequence[bytes], run: Optional[Run] = None) -> None:
+        # Of what the lines name; None where they name nothing, until they are sent.
+        self.run = run
         self.lines = lines
         # Of a single line, which is its own part.
         self.written: List[int] = []
@@ -74,6 +88,11 @@ class Exchange:
         ]
         return bool(left) and sum(left[0].written) == len(left[0].text)
 
+    def may_store(self) -> bool:
+        """Whether a commit is among what was sent, as a whole or in part."""
+        sent = b"".join([part.text for part in self._sent() if any(part.written)])
+        return _COMMIT.search(sent) is not None
+
     def _sent(self) -> Sequence[_Part]:
         """The parts of what is sent."""
         if self.parts is None or len(self.lines) != 1:
@@ -81,6 +100,26 @@ class Exchange:
         part = _Part(self.lines[0] + b"\n", 1)
         part.written, part.read = self.written, self.read
         return (part,)
+
+
+def of_before(line: bytes) -> str:
+    """What is said of a line that was made in a run which is over."""
+    found = re.search(rb'"(em|object)":([0-9]+)', line)
+    if found is None:
+        return "the call is of before a restart"
+    number = int(found[2])
+    if found[1] == b"em":
+        return f"manager {number} is of before a restart: create another one"
+    return f"object {number} is of before a restart: make or find it again"
+
+
+def ended_within(ended: ProgramEnded, exchange: Exchange) -> ProgramEnded:
+    """The end of a program that came while an exchange was under way, as that tells it. All that
+    are told later know whose it was."""
+    ended._thread = threading.get_ident()
+    told = copy(ended)
+    told.may_be_stored = exchange.may_store()
+    return told
 
 
 def _parts(lines: Sequence[bytes]) -> Iterator[_Part]:
@@ -113,7 +152,8 @@ class Program:
     What it tells on standard error goes to a file, and is told where it ends.
     """
 
-    def __init__(self, words: Sequence[Words]) -> None:
+    def __init__(self, words: Sequence[Words], folder: Words = "") -> None:
+        """With a folder that goes where this process is killed."""
         self.words, self._errors = words, tempfile.TemporaryFile()
         self._here = _here
         # In a group of its own, so that Ctrl-C at a terminal interrupts a call and doesn't end the
@@ -126,7 +166,7 @@ class Program:
         except OSError as fault:
             self._errors.close()
             raise ProgramNotFound(f"{words[0]!r} can't be started: {fault.strerror}") from fault
-        self._watch = _watch_of(self._process)
+        self._watch = _watch_of(self._process, folder)
         assert self._process.stdin is not None and self._process.stdout is not None
         # As `map` takes them.
         self._in, self._out = (self._process.stdin.fileno(),), (self._process.stdout.fileno(),)
@@ -137,18 +177,27 @@ class Program:
         self.pid = self._process.pid
         # Why the program answers no more; None while it does.
         self.fault: Optional[KarzhoulError] = None
+        # The run that is on.
+        self.run: Optional[Run] = None
+        # Whether it was ended as its owner wished.
+        self._is_stopped = False
 
     def replies(self, exchange: Exchange, timeout: Optional[float] = None) -> List[bytes]:
         """Does what is left to do of an exchange, and gives its replies. The program's end is a
         `ProgramEnded`, or the refusal that it ended with. A program that doesn't answer within
         so many seconds is ended, and so is one that is interrupted (by a `KeyboardInterrupt`) in
-        an exchange that was interrupted before: both are a `GivenUp`."""
+        an exchange that was interrupted before: both are a `GivenUp`. An exchange of another run
+        than the one that is on is `Restarted`, and nothing of it is sent."""
         if self._here is not _here:
             self.fault = ProgramEnded(None, "it is of the process that this one was forked from")
         if not self._end.alive:  # As at the interpreter's exit; its files' numbers may be reused.
             self.fault = self.fault or ProgramEnded(None)
         if self.fault:
             raise copy(self.fault)  # Whose traceback is its own, and no one's before.
+        if exchange.run is not self.run:
+            if exchange.run is not None:
+                raise Restarted(of_before(exchange.lines[0]))
+            exchange.run = self.run
         was_interrupted = exchange.parts is not None
         deadline = None if timeout is None else time.monotonic() + timeout
         try:
@@ -167,8 +216,11 @@ class Program:
             return replies
         except KeyboardInterrupt as interrupt:
             if was_interrupted and exchange.waits() and not self._comes(time.monotonic() + _GRACE):
-                self._give_up("a call was interrupted twice", interrupt)
+                ended = self._given_up("a call was interrupted twice")
+                raise ended_within(ended, exchange) from interrupt
             raise
+        except ProgramEnded as ended:
+            raise ended_within(ended, exchange) from None
 
     def _done(
         self, text: bytes, count: int, written: List[int], read: List[bytes],
@@ -188,7 +240,7 @@ class Program:
             left -= b"".join(read).count(b"\n")
         while left > 0:
             if deadline is not None and not self._comes(deadline):
-                self._give_up(f"a call wasn't answered within {timeout} seconds")
+                raise self._given_up(f"a call wasn't answered within {timeout} seconds")
             read += map(os.read, self._out, _CHUNK)
             chunk = read[-1]
             if not chunk:
@@ -212,26 +264,34 @@ class Program:
             if left <= 0:
                 return False
 
-    def _give_up(self, why: str, interrupt: Optional[BaseException] = None) -> NoReturn:
+    def _given_up(self, why: str) -> GivenUp:
         """Ends the program for the sake of a call."""
         # The fault first, so that nobody waits for this program again.
-        self.fault = GivenUp(-signal.SIGKILL, why)
+        ended = self.fault = GivenUp(-signal.SIGKILL, why)
         _stopped(self._process, self._watch, 0)
-        raise self.fault from interrupt
+        return ended
 
     def start(self) -> None:
-        """Waits for the program to answer at all, by an empty line, which is no call. What it tells
-        meanwhile, as where it is being built, goes to standard error."""
-        hello = Exchange([b""])
+        """Waits for the program to answer at all, by lines that change nothing. What it tells
+        meanwhile, as where it is being built, goes to standard error. One that doesn't serve what
+        this client asks is a `ProgramNotFound`, which says so."""
+        hello = Exchange(HELLO)
         hello.start()
-        with suppress(BrokenPipeError):  # What it told before its end is still read.
-            hello.written += map(os.write, self._in, (b"\n",))
+        for part in hello.parts or ():
+            with suppress(BrokenPipeError):  # What it told before its end is still read.
+                part.written += map(os.write, self._in, (part.text,))
         shown = 0
         while not self._reading.poll(1000 * _PATIENCE):
             if told := self._told()[shown:]:
                 print(f"karzhoul: waiting for {self.words[0]}: {told.strip()}", file=sys.stderr)
                 shown += len(told)
-        if b'"BadLine"' not in self.replies(hello)[0]:
+        replies = self.replies(hello)
+        if any(b'"BadLine"' in reply for reply in replies):
+            raise ProgramNotFound(
+                f"{self.words[0]!r} is older than this client: it doesn't serve the calls values "
+                f"and pending. The client needs the program of {NEEDED}"
+            )
+        if replies[0] != _SHOWN:
             raise ProgramNotFound(f"{self.words[0]!r} is no program that answers calls")
 
     def close(self) -> None:
@@ -242,6 +302,7 @@ class Program:
 
     def stop(self) -> None:
         """Ends the program under a call that waits for its replies, which is told so."""
+        self._is_stopped = True
         self._process.kill()
 
     def kill(self) -> None:
@@ -253,6 +314,8 @@ class Program:
         """Why the program ended: the refusal that it told where it never came to answer, as of its
         mapping."""
         status, told = _stopped(self._process, self._watch, _PATIENCE), self._told()
+        if self._is_stopped:
+            return ProgramEnded(None)
         last = told.rstrip().rpartition("\n")[2]
         return (
             refusal_of(last[len("jpa: ") :])
@@ -272,14 +335,14 @@ _here = object()
 _watches: Set[_Process] = set()
 
 
-def _watch_of(process: _Process) -> _Process:
+def _watch_of(process: _Process, folder: Words) -> _Process:
     """A shell that ends a process where this one ends without a word, be it killed, also while the
-    process is at a long query.
+    process is at a long query; a folder that is named goes then.
 
     The kernel's own way to do so (PR_SET_PDEATHSIG) is Linux's alone, and would end the program
     with the thread that started it.
     """
-    words = ["/bin/sh", "-c", _WATCH, "karzhoul", str(process.pid)]
+    words = ["/bin/sh", "-c", _WATCH, "karzhoul", str(process.pid), folder]
     try:
         watch = _Process(
             words, bufsize=0, stdin=PIPE, stdout=DEVNULL, stderr=DEVNULL, cwd="/",

@@ -2,18 +2,22 @@
 
 from __future__ import annotations
 
-from typing import TYPE_CHECKING, Any, Dict, Iterator, List, Mapping, NamedTuple, Optional
-from typing import Type, Union
+from typing import TYPE_CHECKING, Any, Dict, FrozenSet, Iterator, List, Mapping, NamedTuple
+from typing import Optional, Type, Union
 
 from .arguments import check_query, item_class, parameter_name
 from .concern import Concern
 from .lines import line_of, spelled, text_spelled
+from .misfits import misfit, misfit_of
 from .refusals import NoResult, Refused
 from .rewriting import ByKey, by_key, counting, is_list, with_lists
 from .rows import Names, Page, Row, Rows, as_row, as_rows
+from .warned import warn
 
 if TYPE_CHECKING:
     from .factory import EntityManagerFactory
+    from .pending import Due, Pending
+    from .runs import Run
 
 # By name, or by number for ?1.
 Params = Optional[Union[Mapping[str, Any], Mapping[int, Any]]]
@@ -27,17 +31,24 @@ class Queries:
     A parameter is handed in by its name, as `query(text, name="Ada")`, or in `params`, as
     `params={"name": "Ada"}` or `params={1: "Ada"}` for `?1`. A list is a parameter of IN, as in
     "o.number IN :numbers". With a `result_class` each row has an item of that class, or a None in
-    its place; else this is a `TypeError`. A query that isn't answered within `timeout` seconds is
-    `GivenUp`, and the program is ended.
+    its place; else this is a `TypeError`.
+
+    With `end_program_after`, a query that isn't answered within so many seconds is `GivenUp`: the
+    program is ended, since it serves one call at a time and knows no other way to leave one. So
+    what other threads have open is lost too; `EntityManagerFactory.retry` does their work again.
+    Its former name `timeout` warns by a `DeprecationWarning`.
     """
 
     factory: EntityManagerFactory
+    _run: Run
+    # Its number as JSON.
+    _em: str
+    _pending: Pending
     _concern: Concern
 
-    if TYPE_CHECKING:
-
-        @property
-        def _em(self) -> str: ...
+    def _flushes_before(self) -> bool:
+        """Whether a query flushes first."""
+        raise NotImplementedError
 
     def query(
         self,
@@ -47,12 +58,12 @@ class Queries:
         params: Params = None,
         first: Limit = None,
         max: Limit = None,
-        timeout: Optional[float] = None,
+        end_program_after: Optional[float] = None,
         **named: Any,
     ) -> Rows:
         """The rows of a query, from the `first` on and at most `max`: a row of one item is that
         item, any other one a list whose items have names, as `row.name` (`rows.Row`)."""
-        return self._asked(text, result_class, params, timeout, named).rows(first, max)
+        return self._asked(text, result_class, params, end_program_after, named).rows(first, max)
 
     def query_single(
         self,
@@ -62,11 +73,11 @@ class Queries:
         params: Params = None,
         first: Limit = None,
         max: Limit = None,
-        timeout: Optional[float] = None,
+        end_program_after: Optional[float] = None,
         **named: Any,
     ) -> Any:
         """The one row of a query; else `NoResult` or `NonUniqueResult`."""
-        asked = self._asked(text, result_class, params, timeout, named)
+        asked = self._asked(text, result_class, params, end_program_after, named)
         row = asked.answers([asked.line("querySingle", first, max)], is_one=True)[0]
         return as_row(row, Names(text))
 
@@ -78,12 +89,14 @@ class Queries:
         result_class: Result = None,
         *,
         params: Params = None,
-        timeout: Optional[float] = None,
+        end_program_after: Optional[float] = None,
         **named: Any,
     ) -> Any:
         """The one row of a query, or None where there is none; else `NonUniqueResult`."""
         try:
-            return self.one(text, result_class, params=params, timeout=timeout, **named)
+            return self.one(
+                text, result_class, params=params, end_program_after=end_program_after, **named
+            )
         except NoResult:
             return None
 
@@ -93,11 +106,12 @@ class Queries:
         result_class: Result = None,
         *,
         params: Params = None,
-        timeout: Optional[float] = None,
+        end_program_after: Optional[float] = None,
         **named: Any,
     ) -> Any:
         """The first row of a query, or None; no other one is asked for."""
-        return self._asked(text, result_class, params, timeout, named).rows(None, 1).first()
+        asked = self._asked(text, result_class, params, end_program_after, named)
+        return asked.rows(None, 1).first()
 
     def scalars(
         self,
@@ -107,11 +121,12 @@ class Queries:
         params: Params = None,
         first: Limit = None,
         max: Limit = None,
-        timeout: Optional[float] = None,
+        end_program_after: Optional[float] = None,
         **named: Any,
     ) -> List[Any]:
         """The first item of each row of a query."""
-        return self._asked(text, result_class, params, timeout, named).rows(first, max).scalars()
+        asked = self._asked(text, result_class, params, end_program_after, named)
+        return asked.rows(first, max).scalars()
 
     def page(
         self,
@@ -123,7 +138,7 @@ class Queries:
         *,
         total: bool = False,
         params: Params = None,
-        timeout: Optional[float] = None,
+        end_program_after: Optional[float] = None,
         **named: Any,
     ) -> Page:
         """The page of this number, from 1 on, of a query's rows, at most so many on each.
@@ -134,7 +149,7 @@ class Queries:
         if number < 1 or size < 1:
             told = f"pages have numbers and sizes from 1 on, and not {number} and {size}"
             raise ValueError(told)
-        asked = self._asked(text, result_class, params, timeout, named)
+        asked = self._asked(text, result_class, params, end_program_after, named)
         lines, counted = [asked.line("query", (number - 1) * size, size + 1)], counting(text)
         if total:
             lines.append(asked.line("query", text=counted or text))
@@ -153,7 +168,7 @@ class Queries:
         /,
         *,
         params: Params = None,
-        timeout: Optional[float] = None,
+        end_program_after: Optional[float] = None,
         **named: Any,
     ) -> Iterator[Any]:
         """The rows of a query, of which so many are asked for at a time: each time those behind the
@@ -165,14 +180,22 @@ class Queries:
         if size < 1:
             raise ValueError(f"{size} rows are asked for at a time, and one is the least")
         keys = {name: kind._karzhoul_key[1] for name, kind in self.factory._classes.items()}
-        asked = self._asked(text, result_class, params, timeout, named)
+        asked = self._asked(text, result_class, params, end_program_after, named)
         return _iterated(asked, by_key(text, keys), size)
 
     def execute_update(
-        self, text: str, *, params: Params = None, timeout: Optional[float] = None, **named: Any
+        self,
+        text: str,
+        *,
+        params: Params = None,
+        end_program_after: Optional[float] = None,
+        **named: Any,
     ) -> int:
-        """Runs an UPDATE or a DELETE, and answers how many objects it concerned."""
-        asked = self._asked(text, None, params, timeout, named)
+        """Runs an UPDATE or a DELETE, and answers how many objects it concerned. Objects that were
+        read before don't see it: refresh them, or read them in another transaction. Nor does it
+        raise versions: `SET p.version = p.version + 1` does, so that who read an object before and
+        changes it is refused."""
+        asked = self._asked(text, None, params, end_program_after, named)
         return int(asked.answers([asked.line("executeUpdate")], is_one=True)[0])
 
     def _asked(
@@ -180,28 +203,28 @@ class Queries:
         text: str,
         result_class: Result,
         params: Params,
-        timeout: Optional[float],
-        named: Mapping[str, Any],
+        seconds: Optional[float],
+        named: Dict[str, Any],
     ) -> _Asked:
         """A query that is asked so, which is refused here where it is none."""
-        if timeout is not None and not timeout > 0:
-            raise ValueError(f"timeout={timeout!r} is no number of seconds above 0")
+        seconds = _seconds(seconds, named)
         check_query(text, result_class, params)
         given = _given(params, named) if named or params is not None else None
         wanted = None
         if result_class is not None:
             wanted = item_class(self.factory._classes, result_class)
-        return _Asked(self, text, wanted, given, timeout)
+        return _Asked(self, text, wanted, given, seconds)
 
 
 class _Asked(NamedTuple):
-    """A query with its parameters, the class of an item of each row, and its time limit."""
+    """A query with its parameters, the class of an item of each row, and after how many seconds the
+    program is ended."""
 
     manager: Queries
     text: str
     wanted: Optional[Type[Any]]
     given: Optional[Mapping[str, Any]]
-    timeout: Optional[float]
+    seconds: Optional[float]
 
     def line(
         self,
@@ -216,30 +239,50 @@ class _Asked(NamedTuple):
         said, values = with_lists(text or self.text, {**(self.given or {}), **(more or {})})
         members = {"em": self.manager._em, "text": text_spelled(said)}
         if has_params:
-            spell = self.manager.factory.given
-            listed = [f"{text_spelled(name)}:{spell(value)}" for name, value in values.items()]
-            members["params"] = f"{{{','.join(listed)}}}"
+            members["params"] = f"{{{','.join(_listed(self.manager._run, values))}}}"
         limits = (("first", first), ("max", most))
         members.update({name: spelled(limit) for name, limit in limits if limit is not None})
-        return line_of(call, members)
+        try:
+            return line_of(call, members)
+        except UnicodeEncodeError as fault:
+            told = {f"the parameter {name!r}": value for name, value in values.items()}
+            raise misfit_of(fault, {**told, "the query": said}) from None
 
     def answers(self, lines: List[bytes], is_one: bool = False) -> List[Any]:
         """The answers to its lines: the first has rows, or one, with an item of its class."""
-        try:
-            answers = self.manager.factory.ask_lines(lines, timeout=self.timeout)
-        except Refused as refused:  # It may be that of the flush before a query.
-            refused._concern = self.manager._concern
-            raise
+        answers = self._asked(lines)
         if self.wanted is not None:
             for row in [answers[0]] if is_one else answers[0]:
                 _require_class(row, self.wanted)
         return answers
+
+    def _asked(self, lines: List[bytes]) -> List[Any]:
+        """The answers to lines, before which callbacks run where the first flushes."""
+        manager, timeout = self.manager, self.seconds
+
+        def ask(ran: FrozenSet[Due] = frozenset()) -> List[Any]:
+            try:
+                return manager.factory.ask_lines(manager._run, lines, timeout=timeout, ran=ran)
+            except Refused as refused:  # It may be that of the flush before a query.
+                refused._concern = manager._concern
+                raise
+
+        return manager._pending.before(ask, timeout) if manager._flushes_before() else ask()
 
     def rows(self, first: Limit, most: Limit) -> Rows:
         """Its rows, from the first on and at most so many."""
         names = Names(self.text)
         found = self.answers([self.line("query", first, most)])[0]
         return Rows(as_rows(found, names), names)
+
+
+def _listed(run: Run, values: Mapping[str, Any]) -> Iterator[str]:
+    """Parameters as JSON; a fault of what can't be one names it."""
+    for name, value in values.items():
+        try:
+            yield f"{text_spelled(name)}:{run.given(value)}"
+        except (TypeError, ValueError, OverflowError) as fault:
+            raise misfit(fault, f"the parameter {name!r}", value) from None
 
 
 def _iterated(asked: _Asked, query: ByKey, size: int) -> Iterator[Any]:
@@ -259,6 +302,20 @@ def _iterated(asked: _Asked, query: ByKey, size: int) -> Iterator[Any]:
             last = row[-width:]
             items = row[:-width]
             yield items[0] if len(items) == 1 else Row(items, names)
+
+
+def _seconds(given: Optional[float], named: Dict[str, Any]) -> Optional[float]:
+    """After how many seconds the program is ended, by that word or by its former name."""
+    word, former = "end_program_after", named.pop("timeout", None)
+    if former is not None:
+        if given is not None:
+            raise TypeError("timeout is the former name of end_program_after: both are given")
+        word, given = "timeout", former
+        told = "timeout ends the program for all threads, and is called end_program_after now"
+        warn(told, DeprecationWarning)
+    if given is not None and not given > 0:
+        raise ValueError(f"{word}={given!r} is no number of seconds above 0")
+    return given
 
 
 def _given(params: Params, named: Mapping[str, Any]) -> Dict[str, Any]:

@@ -10,10 +10,16 @@ if TYPE_CHECKING:
     from .concern import Concern
     from .entities import Event
     from .factory import EntityManagerFactory
+    from .runs import Run
 
 
 class KarzhoulError(Exception):
-    """The base of all exceptions of this package."""
+    """The base of all exceptions of this package.
+
+    `times_refused` says how often `retry` or `attempts` had their work refused, this time counted.
+    """
+
+    times_refused: int = 0
 
 
 class Misused(ValueError):
@@ -25,14 +31,24 @@ class ProgramNotFound(KarzhoulError):
 
 
 class ProgramEnded(KarzhoulError):
-    """The program ended, or was ended, before it answered; what an unanswered call did is not
-    known."""
+    """The program ended, or was ended, before it answered. What was answered as committed is
+    stored, and what isn't committed is lost.
+
+    `may_be_stored` says that a commit had been sent and wasn't answered: it may be stored or not.
+    """
+
+    may_be_stored: bool = False
+    # The thread whose call was waiting for its reply, or was interrupted; None where none did.
+    _thread: Optional[int] = None
 
     def __init__(self, status: Optional[int], told: str = "") -> None:
         super().__init__(status, told)
         self.status, self.told = status, told.strip()
 
     def __str__(self) -> str:
+        return self._how() + self._of_commit()
+
+    def _how(self) -> str:
         status = self.status
         how = (
             "is closed"
@@ -43,16 +59,24 @@ class ProgramEnded(KarzhoulError):
         )
         return f"the program {how}" + (f": {self.told}" if self.told else "")
 
+    def _of_commit(self) -> str:
+        return (
+            "; the commit was sent and not answered, so it may be stored or not: look before you "
+            "do it again"
+            if self.may_be_stored
+            else ""
+        )
+
 
 class GivenUp(ProgramEnded):
-    """The program was ended since a call took too long, or was interrupted twice;
-    `EntityManagerFactory.restart` opens it again."""
+    """The program was ended, for all threads, since a call took too long (`end_program_after`), or
+    was interrupted twice. `EntityManagerFactory.restart` opens it again, and `retry` does so by
+    itself where the call was another thread's."""
 
     def __str__(self) -> str:
         return (
-            f"{super().__str__()}, and was given up: what was not committed is lost, and a store "
-            f"in memory is; app.restart() opens the"
-            " program again over its file"
+            f"{self._how()}, and was given up: what was not committed is lost; app.restart() opens "
+            f"the program again over its store{self._of_commit()}"
         )
 
 
@@ -61,8 +85,14 @@ class Restarted(KarzhoulError):
     again."""
 
 
+class NoFreeManager(KarzhoulError):
+    """No manager was free within the time that is waited for one (`karzhoul.open(.., threads=True,
+    wait=..)`), or none can become free. Nothing was done."""
+
+
 class StoreInMemory(KarzhoulError):
-    """A restart was refused, since it would lose the store, which is in memory."""
+    """Nothing raises this any more: a store in memory is restarted as others are. It stays for the
+    `except` clauses that name it."""
 
 
 # The refusals by name, and those after which a transaction can only roll back.
@@ -79,14 +109,23 @@ class Refused(KarzhoulError):
     `name` and `number` are the refusal's, `detail` its `why`, `events` what the call told before it
     was refused, `line` what was sent, and `later` the refusals of calls that had been sent along in
     the same pipeline after this one.
+
+    As a text it is what `explain` says, where that asks the program nothing: of a query, a value, a
+    name, a limit and the like. Else it is its `word`.
     """
 
     number: ClassVar[int] = 0
-    # The factory whose call it is, and what its manager was told in the transaction.
+    # The factory whose call it is, the run that it was done in, and what its manager was told in
+    # the transaction.
     _factory: Optional[EntityManagerFactory] = None
+    _run: Optional[Run] = None
     _concern: Optional[Concern] = None
-    # What marked its manager's transaction before, as its text and its line.
+    # What marked its manager's transaction before, as its word and its line.
     _before: Optional[Tuple[str, str]] = None
+    # The numbers of the objects that flushes of its manager's transaction wrote before.
+    _written: Tuple[int, ...] = ()
+    # What is said of it, where that was told when it was refused.
+    _sentence: Optional[str] = None
 
     def __init__(
         self, detail: Optional[str] = None, events: Tuple[Event, ...] = (), line: str = ""
@@ -98,7 +137,7 @@ class Refused(KarzhoulError):
 
     def __reduce__(self) -> Tuple[Any, ...]:
         # A copy, as for another process, has no objects, and no factory that could explain it.
-        of_this_process = ("_factory", "_concern")
+        of_this_process = ("_factory", "_run", "_concern", "_written")
         told = {name: it for name, it in vars(self).items() if name not in of_this_process}
         return _copied, (type(self), self.detail, {**told, "events": ()})
 
@@ -107,8 +146,13 @@ class Refused(KarzhoulError):
             cls.number = number
             REFUSALS[cls.__name__] = cls
 
-    def __str__(self) -> str:
+    @property
+    def word(self) -> str:
+        """It as one word, with its detail, as `IllegalArgument(name)`: that of docs/CALLS.md."""
         return self.name if self.detail is None else f"{self.name}({self.detail})"
+
+    def __str__(self) -> str:
+        return self._sentence or self.word
 
     def explain(self) -> str:
         """What can be told of it: of a query each mistake with its line, column and word, of an
@@ -116,7 +160,7 @@ class Refused(KarzhoulError):
         that it is about, as they stand now, and else what the refusal means."""
         from .explaining import explained
 
-        return explained(self, self._factory)
+        return self._sentence or explained(self, self._factory)
 
 
 def _copied(kind: Type[Refused], detail: Optional[str], told: Dict[str, Any]) -> Refused:
@@ -136,7 +180,7 @@ class StoreFault(Refused, number=2):
     why: str = ""
 
     def __str__(self) -> str:
-        return f"{super().__str__()}: {self.why}" if self.why else super().__str__()
+        return f"{self.word}: {self.why}" if self.why else self.word
 
     def explain(self) -> str:
         return self.why or super().explain()
@@ -150,7 +194,14 @@ class NotServed(BadLine):
     """The line is a call by the rules, and the program at hand doesn't serve it."""
 
     def __str__(self) -> str:
-        return f"the program doesn't serve this call: {self.line}"
+        return f"the program doesn't serve this call: {_shortened(self.line)}"
+
+    def explain(self) -> str:
+        return str(self)
+
+
+def _shortened(line: str) -> str:
+    return line if len(line) < 200 else f"{line[:200]}.."
 
 
 class NoSuchManager(Refused, number=4):
@@ -205,21 +256,26 @@ class Rollback(Refused, number=14):
         if self.detail is None or self.detail == "marked":
             return None
         cause = refusal_of(self.detail, self.events, self.line)
-        cause._factory, cause._concern = self._factory, self._concern
+        if isinstance(cause, Limit):
+            from .limits import told_apart
+
+            cause = told_apart(cause)
+        cause._factory, cause._run, cause._concern = self._factory, self._run, self._concern
+        cause._written = self._written
         return cause
 
     def explain(self) -> str:
         cause = self.cause
-        if cause is not None:
+        if self._sentence is None and cause is not None:
             return cause.explain()
-        if self._before is None:
+        if self._sentence is not None or self._before is None:
             return super().explain()
         return f"the transaction could only roll back, since this was refused: {self._told()}"
 
     def _told(self) -> str:
         """The refusal before, with its line."""
         name, line = self._before or ("", "")
-        return f"{name} of {line if len(line) < 200 else f'{line[:200]}..'}"
+        return f"{name} of {_shortened(line)}"
 
 
 class NoResult(Refused, number=15):
@@ -238,36 +294,107 @@ class Busy(Refused, number=18):
     """No program answers this any more; its number stays."""
 
 
-_RESTART = ": commit, and app.restart() opens the program again over its file"
-# What else a call may have too much of.
-_LONG = dict.fromkeys(
-    ("find", "getReference"), "; or the key has a text or bytes of over 65,535 bytes"
+MOST_LINE_BYTES = 1_048_576
+_RESTART = (
+    ": commit, and app.restart() begins another one, as karzhoul.open(.., threads=True) does by "
+    "itself"
 )
-_LONG.update(
+_OBJECTS = f"a run makes at most 1,000,000 objects, loads counted{_RESTART}"
+_OPEN = (
+    "at most 16 managers are open at a time: close one that isn't used, or have "
+    "karzhoul.open(.., threads=True) wait for one"
+)
+_MADE = f"a run makes at most 1,000,000 managers{_RESTART}"
+_TEXT, _LINE = "a text or bytes have at most 65,535 bytes", "a line has at most 1,048,576 bytes"
+_QUERY = "the query is over the limits of docs/QUERIES.md"
+# What each call may have too much of.
+_OF_CALLS = {"set": _TEXT, "createEntityManager": f"{_OPEN}; and {_MADE}"}
+_OF_CALLS.update(
     dict.fromkeys(
-        ("query", "querySingle", "executeUpdate"),
-        "; or the query is over the limits of docs/QUERIES.md",
+        ("find", "getReference"),
+        f"{_OBJECTS}; or the key has a text or bytes of over 65,535 bytes",
     )
 )
+_OF_CALLS.update(dict.fromkeys(("query", "querySingle"), f"{_OBJECTS}; or {_QUERY}"))
+_OF_CALLS["executeUpdate"] = f"{_OBJECTS}; or {_TEXT}, and so has what an UPDATE puts together"
 
 
 class Limit(Refused, number=19):
-    """More than the program allows. It says which limits the call may have met, and what to do."""
+    """More than the program allows. It says which limits the call may have met, and what to do.
+
+    The program doesn't tell which limit it is. Where what was sent tells, it is a class of its own
+    below this one, whose `detail` says which: `ObjectLimit`, `ManagerLimit`, `TextLimit`,
+    `LineLimit` or `QueryLimit`. Of an UPDATE with CONCAT it can't be told.
+    """
+
+    kind: ClassVar[Optional[str]] = None
+
+    def __init__(
+        self, detail: Optional[str] = None, events: Tuple[Event, ...] = (), line: str = ""
+    ) -> None:
+        super().__init__(self.kind if detail is None else detail, events, line)
+        self.name = "Limit"
 
     def __str__(self) -> str:
+        return self._sentence or f"Limit: {self.told()}"
+
+    def told(self) -> str:
+        """What there is too much of, and what to do."""
+        if len(self.line.encode(errors="replace")) > MOST_LINE_BYTES:
+            return _LINE
         found = re.match(r'\{"call":"(\w+)"', self.line)
-        call = found[1] if found else ""
-        if len(self.line.encode(errors="replace")) > 1_048_576:
-            return "Limit: a line has at most 1,048,576 bytes"
-        if call == "set":
-            return "Limit: a text or bytes have at most 65,535 bytes"
-        if call == "createEntityManager":
-            return (
-                f"Limit: at most 16 managers are open at a time: close one that isn't used; and a "
-                f"run makes 1,000,000{_RESTART}"
-            )
-        objects = f"a run makes at most 1,000,000 objects, loads counted{_RESTART}"
-        return f"Limit: {objects}{_LONG.get(call, '')}"
+        return _OF_CALLS.get(found[1] if found else "", _OBJECTS)
+
+
+class ObjectLimit(Limit):
+    """`Limit("objects")`: a run makes at most 1,000,000 objects, loads counted. A restart begins
+    another run."""
+
+    kind = "objects"
+
+    def told(self) -> str:
+        return _OBJECTS
+
+
+class ManagerLimit(Limit):
+    """`Limit("managers")`: at most 16 managers are open at a time, and a run makes 1,000,000."""
+
+    kind = "managers"
+    # How many the run had made, where that is known.
+    made: Optional[int] = None
+
+    def told(self) -> str:
+        if self.made is None:
+            return f"{_OPEN}; and {_MADE}"
+        return _OPEN if self.made < 1_000_000 else _MADE
+
+
+class TextLimit(Limit):
+    """`Limit("text")`: a text or bytes have at most 65,535 bytes."""
+
+    kind = "text"
+
+    def told(self) -> str:
+        return _TEXT
+
+
+class LineLimit(Limit):
+    """`Limit("line")`: a line has at most 1,048,576 bytes."""
+
+    kind = "line"
+
+    def told(self) -> str:
+        return _LINE
+
+
+class QueryLimit(Limit):
+    """`Limit("query")`: a query has at most 16,384 bytes, 32 parentheses within one another, and 8
+    variables."""
+
+    kind = "query"
+
+    def told(self) -> str:
+        return _QUERY
 
 
 class Mapping(Refused, number=20):
@@ -277,7 +404,7 @@ class Mapping(Refused, number=20):
     faults: Tuple[str, ...] = ()
 
     def __str__(self) -> str:
-        return "\n  ".join([super().__str__(), *self.faults])
+        return "\n  ".join([self.word, *self.faults])
 
 
 class Damaged(Refused, number=21):
@@ -305,6 +432,7 @@ def refusal_of(text: str, events: Tuple[Event, ...] = (), line: str = "") -> Ref
 
 
 __all__ = [
-    "GivenUp", "KarzhoulError", "NotServed", "ProgramEnded", "ProgramNotFound", "Refused",
-    "Restarted", "StoreInMemory", *REFUSALS,
+    "GivenUp", "KarzhoulError", "LineLimit", "ManagerLimit", "NoFreeManager", "NotServed",
+    "ObjectLimit", "ProgramEnded", "ProgramNotFound", "QueryLimit", "Refused", "Restarted",
+    "StoreInMemory", "TextLimit", *REFUSALS,
 ]

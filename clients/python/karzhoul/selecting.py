@@ -82,7 +82,7 @@ def run_query(said: argparse.Namespace) -> int:
     except Refused as refused:
         mistakes = query.mistakes()
         told = mistakes or refused.explain().splitlines()
-        print("\n  ".join([f"karzhoul: {refused}", *told]), file=sys.stderr)
+        print("\n  ".join([f"karzhoul: {refused.word}", *told]), file=sys.stderr)
         return REFUSED
     return 0
 

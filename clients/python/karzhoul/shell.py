@@ -117,7 +117,7 @@ class Shell:
             statement = statement_of(said)
             found = mistakes_in(statement, self._described) if statement is not None else []
             told = found or refused.explain().splitlines()
-            self._refuse("\n  ".join([f"refused: {refused}", *told]))
+            self._refuse("\n  ".join([f"refused: {refused.word}", *told]))
             self._end_of(refused)
         except ProgramEnded as ended:
             self._refuse(str(ended))

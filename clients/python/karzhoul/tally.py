@@ -4,12 +4,12 @@ wanted, on standard error (`echo`) or by the logger `karzhoul`."""
 from __future__ import annotations
 
 import html
-import json
 import logging
 import sys
+import threading
 from collections import Counter
 from dataclasses import dataclass
-from typing import Callable, Dict, Iterable, List, Mapping, Optional, Sequence, Tuple
+from typing import Dict, Iterable, List, Mapping, Optional, Sequence, Tuple
 
 from .refusals import Refused
 
@@ -32,7 +32,7 @@ class Statistics:
     calls: Mapping[str, int]
     """How many calls there were of each name."""
     refusals: Mapping[str, int]
-    """How many were refused, by what `str` of a refusal says."""
+    """How many were refused, by the `word` of a refusal."""
     seconds: float
     """How long their replies were waited for."""
     slowest: Optional[Tuple[float, str]]
@@ -42,6 +42,9 @@ class Statistics:
     be they committed or not."""
     made: int
     """How many objects this run of the program has made, loads counted."""
+    retries: int = 0
+    """How often `retry` and `attempts` did work again: since another manager's commit came first,
+    or since the program had ended."""
 
     @property
     def left(self) -> int:
@@ -58,6 +61,8 @@ class Statistics:
         ]
         if self.refusals:
             lines.append(f"refused: {_listed(self.refusals)}")
+        if self.retries:
+            lines.append(f"done again by retry and attempts: {self.retries:,} times")
         if self.slowest is not None:
             lines.append(f"slowest: {_span(self.slowest[0])}: {_cut(self.slowest[1])}")
         return "\n".join(lines)
@@ -71,14 +76,15 @@ class Tally:
     """Counts calls and events, and tells lines. `echo` says whether they are told on standard
     error."""
 
-    def __init__(self, echo: bool, unmarked: Callable[[bytes], bytes]) -> None:
-        """With what a reply is without the marks of this client."""
-        self.echo, self.unmarked = echo, unmarked
+    def __init__(self, echo: bool) -> None:
+        self.echo = echo
         self._calls: Counter[bytes] = Counter()
         self._objects: Dict[str, int] = dict.fromkeys(_EVENTS.values(), 0)
         self._refusals: Counter[str] = Counter()
         self._seconds = self._longest = 0.0
         self._slowest = b""
+        self._retries = 0
+        self._lock = threading.Lock()
         # The lines that are still to be counted.
         self._waiting: List[bytes] = []
 
@@ -121,7 +127,12 @@ class Tally:
 
     def refused(self, refused: Iterable[Refused]) -> None:
         """Counts refusals."""
-        self._refusals.update(map(Refused.__str__, refused))
+        self._refusals.update(each.word for each in refused)
+
+    def note_retry(self) -> None:
+        """Counts a piece of work that is done again; threads may do so at one time."""
+        with self._lock:
+            self._retries += 1
 
     def statistics(self, made: int) -> Statistics:
         """What was counted."""
@@ -131,7 +142,9 @@ class Tally:
         slowest = None
         if self._slowest:
             slowest = (self._longest, self._slowest.decode(errors="replace"))
-        return Statistics(calls, refusals, self._seconds, slowest, {**self._objects}, made)
+        return Statistics(
+            calls, refusals, self._seconds, slowest, {**self._objects}, made, self._retries
+        )
 
     # ---- told line by line
 
@@ -143,7 +156,7 @@ class Tally:
         for place, (line, reply) in enumerate(zip(lines, replies), 1):
             span = _span(seconds)
             time = span if len(lines) == 1 else f"{place} of {len(lines)} together in {span}"
-            self._tell(f"{_shown(line)} -> {_shown(self.unmarked(reply))} ({time})")
+            self._tell(f"{_shown(line)} -> {_shown(reply)} ({time})")
 
     def tell_fault(self, lines: Sequence[bytes], fault: BaseException) -> None:
         """Tells lines that got no replies, or not all."""
@@ -172,15 +185,3 @@ def _shown(data: bytes) -> str:
 
 def _cut(text: str) -> str:
     return text if len(text) <= _MOST else f"{text[:_MOST]}.. ({len(text):,} characters)"
-
-
-def without_marks(reply: bytes, marks: Mapping[str, object]) -> bytes:
-    """A reply without the listeners that are marks."""
-    if not any(mark.encode() in reply for mark in marks):
-        return reply
-    said = json.loads(reply)
-    said["events"] = [
-        [*event[:2], *(name for name in event[2:] if name not in marks)]
-        for event in said["events"]
-    ]
-    return json.dumps(said, ensure_ascii=False, separators=(",", ":")).encode()

@@ -4,11 +4,13 @@ from __future__ import annotations
 
 from contextlib import suppress
 from types import TracebackType
-from typing import TYPE_CHECKING, Iterator, Optional, Type
+from typing import TYPE_CHECKING, FrozenSet, Iterator, Optional, Type
 
 from .concern import Concern
 from .interrupts import begin_of_block, carried_out, end_of_block, guard, is_guarded, unguard
 from .lines import line_of
+from .pausing import note_refusals, pause
+from .pending import Due
 from .refusals import IllegalState, KarzhoulError, OptimisticLock, ProgramEnded, Restarted, Rollback
 
 if TYPE_CHECKING:
@@ -32,7 +34,7 @@ class EntityTransaction:
             # Before it is, so that no interrupt leaves one open that isn't known to be.
             self.is_active = True
             self._ask("begin")
-            self._manager.factory._marked.pop(self._manager.number, None)
+            self._manager._run.transaction_over(self._manager.number)
         except KarzhoulError:
             self.is_active = was_active
             raise
@@ -40,10 +42,14 @@ class EntityTransaction:
 
     def commit(self) -> None:
         """Stores the manager's new and changed objects, all or none. After a `Rollback` it is
-        rolled back."""
+        rolled back. What a callback raises that runs before (`EntityManagerFactory.listen`) leaves
+        it open, with nothing stored."""
         self._manager.factory.tell_kept()
+        self._manager._pending.before(self._commit)
+
+    def _commit(self, ran: FrozenSet[Due]) -> None:
         try:
-            self._ask("commit")
+            self._manager._ask_flushing("commit", ran)
         except Exception as fault:
             is_told = is_of_callback(fault)  # Then the commit was done.
             if isinstance(fault, Rollback) and not is_told:
@@ -68,15 +74,18 @@ class EntityTransaction:
         self._end()
 
     def _end(self) -> None:
-        self.is_active = False
-        self._manager._concern = Concern(self._manager.factory._kinds.made)
+        manager = self._manager
+        manager._concern = Concern(manager._run.made)
+        manager._run.transaction_over(manager.number)
+        self.is_active = False  # Last, since an interrupt before has it be ended again.
 
     def set_rollback_only(self) -> None:
         """Leaves it able only to roll back."""
-        self._manager.factory.tell(line_of("setRollbackOnly", {"em": self._manager._em}))
+        manager = self._manager
+        manager.factory.tell(manager._run, line_of("setRollbackOnly", {"em": manager._em}))
 
     def _ask(self, call: str) -> None:
-        self._manager.factory.ask(call, em=self._manager._em)
+        self._manager._ask(call)
 
     @begin_of_block
     def __enter__(self) -> EntityTransaction:
@@ -123,8 +132,8 @@ class Attempt:
     """One attempt of `EntityManager.attempts`, whose `with` block is a transaction. Where the block
     is left by a `Rollback` since another manager's commit came first, it is to be made again."""
 
-    def __init__(self, transaction: EntityTransaction, is_last: bool) -> None:
-        self._transaction, self._is_last = transaction, is_last
+    def __init__(self, transaction: EntityTransaction, number: int, most: int) -> None:
+        self._transaction, self._number, self._is_last = transaction, number, number == most
         self.is_done = False
         # The refusal of its commit, after which it is to be made again.
         self.refused: Optional[Rollback] = None
@@ -142,23 +151,35 @@ class Attempt:
     ) -> bool:
         try:
             self._transaction.__exit__(kind, fault, trace)
-        except Rollback as refused:
-            if not self._is_too_late(refused):
+        except Exception as refused:
+            if self._is_raised(refused):
                 raise
+            assert isinstance(refused, Rollback)
             self.refused = refused
             return True
         self.is_done = fault is None
-        return self._is_too_late(fault)
+        return fault is not None and not self._is_raised(fault)
 
-    def _is_too_late(self, fault: Optional[BaseException]) -> bool:
+    def _is_raised(self, fault: BaseException) -> bool:
+        """Whether what ended the attempt is raised, and no other one follows. It says then how
+        often the work was refused."""
         is_stale = isinstance(fault, Rollback) and isinstance(fault.cause, OptimisticLock)
-        return is_stale and not is_of_callback(fault) and not self._is_last
+        is_refused = is_stale and not is_of_callback(fault)
+        if is_refused and not self._is_last:
+            return False
+        if is_refused or self._number > 1:
+            note_refusals(fault, self._number - (not is_refused))
+        return True
 
 
 def attempts(transaction: EntityTransaction, most: int) -> Iterator[Attempt]:
-    """At most so many attempts at a transaction, until one is done."""
+    """At most so many attempts at a transaction, until one is done, with a pause before each but
+    the first."""
     for number in range(1, most + 1):
-        attempt = Attempt(transaction, is_last=number == most)
+        if number > 1:
+            transaction._manager.factory._tally.note_retry()
+            pause(number - 1)
+        attempt = Attempt(transaction, number, most)
         try:
             yield attempt
         except GeneratorExit:

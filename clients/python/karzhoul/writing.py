@@ -224,7 +224,7 @@ class Writer:
                 for row, key, version in zip(some, zip(*columns), stand)
                 if version != row.record.version
             ]
-            self.app.ask_lines(lines)
+            self.app.ask_lines(self.em._run, lines)
 
     def _versions(self, rows: Sequence[Row]) -> List[int]:
         name = str(rows[0].shape.version)

@@ -11,13 +11,19 @@ from typing import Any, Dict, List, Tuple
 
 IDLE = {"error": {"name": "IllegalState", "no": 7, "why": "inactive"}, "events": []}
 OPEN = {"error": {"name": "IllegalState", "no": 7, "why": "active"}, "events": []}
-BAD_LINE = {"error": {"name": "BadLine", "no": 3}, "events": []}
+NO_MANAGER = {"error": {"name": "NoSuchManager", "no": 4}, "events": []}
+# Of the entities of support.py, in the order of `values`.
+MEMBERS = {
+    "Order": ["number", "amount"], "Person": ["id", "version", "name"],
+    "Place": ["at.row", "at.shelf", "at.tag", "label", "scan", "mood"],
+}
 
 
 class Ledger:
     def __init__(self) -> None:
         self.objects, self.managers, self.is_open = 0, 0, False
         self.values: Dict[Tuple[int, str], Any] = {}
+        self.entities: Dict[int, str] = {}
 
     def reply(self, said: Dict[str, Any]) -> Dict[str, Any]:
         call = said["call"]
@@ -34,11 +40,14 @@ class Ledger:
             answer = self.managers
         elif call == "new":
             self.objects += 1
+            self.entities[self.objects] = said["entity"]
             answer = {"object": self.objects}
         elif call == "set":
             self.values[said["object"], said["name"]] = said["value"]
         elif call == "get":
             answer = self.values.get((said["object"], said["name"]))
+        elif call == "values":
+            answer = list(map(self.shown, said["objects"]))
         elif call == "find":
             answer = {"object": said["key"][0]}
         elif call == "query":
@@ -49,12 +58,20 @@ class Ledger:
         return {"events": events, "ok": answer}
 
 
+    def shown(self, number: int) -> Dict[str, Any]:
+        entity = self.entities.get(number, "Order")
+        values = [self.values.get((number, name)) for name in MEMBERS[entity]]
+        return {"entity": entity, "relations": [], "values": values}
+
+
 def main() -> None:
     ledger, log = Ledger(), open(os.environ["KARZHOUL_LEDGER"], "a", encoding="utf-8", buffering=1)
     for line in sys.stdin:
-        if line != "\n":
+        said = json.loads(line)
+        is_hello = said["call"] == "pending"  # Which this plays no further.
+        if not is_hello and said.get("objects") != []:
             log.write(line)
-        reply = ledger.reply(json.loads(line)) if line != "\n" else BAD_LINE
+        reply = NO_MANAGER if is_hello else ledger.reply(said)
         print(json.dumps(reply, separators=(",", ":")), flush=True)
 
 

@@ -1,6 +1,6 @@
 #!/usr/bin/env python3
 """Plays a program: takes the lines after `> ` of the file KARZHOUL_TRANSCRIPT in their order and
-answers those after `< `; an empty line is answered BadLine, as the program does, and any other
+answers those after `< `; what a client asks first is answered as the program does, and any other
 line ends it with status 9. `! N` in the place of an answer ends it with status N, `! kill` by a
 signal, and `! TEXT` writes the text on standard error and ends it with 3."""
 
@@ -9,7 +9,10 @@ import os
 import signal
 import sys
 
-BAD_LINE = '{"error":{"name":"BadLine","no":3},"events":[]}'
+HELLO = {
+    '{"call":"values","objects":[]}': '{"events":[],"ok":[]}',
+    '{"call":"pending","em":0}': '{"error":{"name":"NoSuchManager","no":4},"events":[]}',
+}
 
 
 def stop(how: str) -> None:
@@ -29,8 +32,8 @@ def main() -> None:
         stop(script[0][2:])
     for line in sys.stdin:
         line = line.rstrip("\n")
-        if not line:
-            print(BAD_LINE, flush=True)
+        if line in HELLO:
+            print(HELLO[line], flush=True)
             continue
         wanted = script.pop(0) if script else "nothing"
         if wanted[:2] != "> " or json.loads(line) != json.loads(wanted[2:]):

@@ -145,7 +145,7 @@ class Objects(ProgramTest):
         self.assertEqual(copy.copy(first.at), first.at)
         with counted(self.app) as sent:
             tuple(first.at)
-        self.assertEqual(len(sent), 3)
+        self.assertEqual(len(sent), 0)
 
     def test_how_objects_are_shown(self) -> None:
         person = self.Person(name="Ada")
@@ -334,19 +334,22 @@ class Events(ProgramTest):
 
     def test_events_of_a_callback_s_own_calls_come_after(self) -> None:
         told = []
-        other = self.app.create_entity_manager()
+        others = [self.app.create_entity_manager() for _ in range(2)]
 
         def heard(event: karzhoul.Event) -> None:
             told.append(event.kind.value)
             if event.kind is LifecycleEvent.PRE_UPDATE:
-                other.find(self.Person, 1)
+                others[0].find(self.Person, 1)
+            elif event.kind is LifecycleEvent.POST_UPDATE:
+                others[1].find(self.Person, 1)
+                told.append("found")
 
         person = self.committed(name="Ada")
         self.app.listen(heard)
         person.name = "Bob"
         with self.em.transaction():
             pass
-        self.assertEqual(told, ["PreUpdate", "PostUpdate", "PostLoad"])
+        self.assertEqual(told, ["PreUpdate", "PostLoad", "PostUpdate", "found", "PostLoad"])
 
     def test_what_a_callback_raises_is_raised_by_the_call(self) -> None:
         def heard(event: karzhoul.Event) -> None:
@@ -388,7 +391,7 @@ class Pipelines(ProgramTest):
                 self.app.set(order, "nothing", 1)
         self.assertEqual(raised.exception.detail, "type")
         self.assertEqual(
-            [str(later) for later in raised.exception.later], ["IllegalArgument(name)"]
+            [later.word for later in raised.exception.later], ["IllegalArgument(name)"]
         )
         self.assertIn('"five"', raised.exception.line)
         self.assertEqual(order.amount, 5)

@@ -365,7 +365,7 @@ class Loads(Carrying):
             write(writer, rows, is_trial)  # type: ignore[arg-type]
             calls.append(rows)
             if len(calls) in (2, 6):
-                raise karzhoul.Limit()
+                raise karzhoul.ObjectLimit()
 
         with mock.patch.object(Writer, "write", limited):
             self.loaded(self.other, dump, "--size", "3")

@@ -11,10 +11,9 @@ from typing import Any, Dict, List
 
 import karzhoul
 from karzhoul import Collection, LifecycleEvent
-from karzhoul.classes import marked, marked_text, marks_of
 from karzhoul.shell import Shell
 
-from .support import PROGRAM, TOP, counted, needs_program, played, present
+from .support import HERE, PROGRAM, TOP, counted, needs_program, played, present
 
 DESK: Dict[str, Any] = {
     "revision": 1,
@@ -137,7 +136,7 @@ class Found(DeskTest):
         with counted(self.app) as sent:
             found: List[Any] = self.em.find_many(self.Customer, (1, 2, 3))
         company, friend, customer = found
-        self.assertEqual(len(sent), 3)
+        self.assertEqual(len(sent), 4)  # The classes of all three are asked for by one.
         self.assertEqual(self.types((company, friend, customer)), ["Company", "Friend", "Customer"])
         self.assertIsInstance(company, self.Customer)
         self.assertEqual(
@@ -201,14 +200,14 @@ class Found(DeskTest):
         self.assertIs(self.em.find(self.Customer, 1), found[0])
         self.assertEqual(len({*found, *self.em.find_many(self.Customer, (1, 2, 3))}), 4)
 
-    def test_members_that_are_read_and_set_send_a_line_each(self) -> None:
+    def test_members_that_are_set_send_a_line_each(self) -> None:
         self.stored()
         company = present(self.em, self.Customer, 1)
         with counted(self.app) as sent:
             company.name, company.vat
             self.assertFalse(hasattr(company, "nmae"))
             company.vat = "AT2"
-        self.assertEqual(len(sent), 3)
+        self.assertEqual(len(sent), 1)
 
 
 class States(DeskTest):
@@ -328,63 +327,7 @@ class States(DeskTest):
         self.assertIs(type(self.app.ask("new", "Line", entity='"Line"')), self.Line)
 
 
-class Marks(unittest.TestCase):
-    def test_a_mapping_that_is_none_stays_as_it_is(self) -> None:
-        wrong = [
-            '{"entities":{}}',
-            '{"entities":[{"name":"A","listeners":{}}]}',
-            '{"entities":[],"functions":"f"}', '{"entities":[1]}', "[", "[]", "1", "",
-        ]
-        for text in [*wrong, '\ufeff{"entities":[]}', '{"entities":[{}]}', "[" * 100_000]:
-            with self.subTest(text[:50]):
-                self.assertEqual(marked_text(text.encode()), text.encode())
-        self.assertEqual(marked_text(b"\xff"), b"\xff")
-
-    def test_no_mark_has_a_name_of_the_mapping(self) -> None:
-        mapping = {
-            "revision": 1,
-            "entities": [
-                {"name": "A", "listeners": [{"name": "class0", "events": ["PostLoad"]}]},
-                {"name": "class_"},
-            ],
-        }
-        self.assertEqual(marks_of(mapping), {"class__0": "A", "class__1": "class_"})
-        made = marked(mapping)
-        self.assertEqual(
-            made["entities"][0]["listeners"],
-            [
-                {"name": "class__0", "events": ["PostLoad"]},
-                {"name": "class0", "events": ["PostLoad"]},
-            ],
-        )
-        self.assertEqual(
-            made["functions"],
-            [{"name": "class__0", "make": "note"}, {"name": "class__1", "make": "note"}],
-        )
-        self.assertEqual(made["revision"], 1)
-        self.assertNotIn("functions", mapping)
-
-    def test_objects_that_a_merge_makes_on_its_way_are_marked_when_they_are_made(self) -> None:
-        heard = {
-            entity["name"]: entity["listeners"][0]["events"] for entity in marked(DESK)["entities"]
-        }
-        self.assertEqual(set(map(tuple, heard.values())), {("PostLoad", "PrePersist")})
-        flat: Any = {**DESK, "entities": [{**entity, "relations": []} for entity in DESK["entities"]]}
-        self.assertEqual(
-            [entity["listeners"][0]["events"] for entity in marked(flat)["entities"]],
-            [["PostLoad"]] * 6,
-        )
-        ring = {
-            "entities": [
-                {"name": "A", "extends": "B"},
-                {"name": "B", "extends": "A", "relations": [{"target": "A", "cascade": ["ALL"]}]},
-            ]
-        }
-        self.assertEqual(
-            [entity["listeners"][0]["events"] for entity in marked(ring)["entities"]],
-            [["PostLoad", "PrePersist"]] * 2,
-        )
-
+class Mappings(unittest.TestCase):
     @needs_program
     def test_the_image_of_an_object_is_of_its_class(self) -> None:
         with karzhoul.open(TOP / "tests" / "mappings" / "sub.json", program=PROGRAM) as app:
@@ -432,28 +375,51 @@ class Marks(unittest.TestCase):
             self.assertIn("1:1: $: a byte order mark stands in front", raised.exception.faults[0])
 
 
-class Lost(unittest.TestCase):
-    def test_an_object_whose_class_was_never_told(self) -> None:
-        script = '> {"call":"createEntityManager"}\n< {"events":[],"ok":1}\n'
-        script += (
-            '> {"call":"find","em":1,"entity":"Customer","key":[1]}\n'
-            '< {"events":[],"ok":{"object":7}}\n'
-        )
-        script += (
-            '> {"call":"find","em":1,"entity":"Company","key":[1]}\n'
-            '< {"events":[],"ok":{"object":7}}\n'
-        )
-        script += (
-            '> {"call":"find","em":1,"entity":"Customer","key":[1]}\n'
-            '< {"events":[],"ok":{"object":7}}\n'
-        )
-        with played(script, DESK) as app:
+class Asked(unittest.TestCase):
+    MANAGER = '> {"call":"createEntityManager"}\n< {"events":[],"ok":1}\n'
+    FIND = (
+        '> {"call":"find","em":1,"entity":"Customer","key":[1]}\n'
+        '< {"events":[],"ok":{"object":7}}\n'
+    )
+    COMPANY = (
+        '> {"call":"values","objects":[7]}\n< {"events":[],"ok":[{"entity":"Company","relations":'
+        '[{"unread":true}],"values":[1,"Ada","AT1"]}]}\n'
+    )
+
+    def test_a_class_that_is_not_known_is_asked_for_once(self) -> None:
+        with played(self.MANAGER + self.FIND + self.COMPANY + self.FIND, DESK) as app:
             em = app.create_entity_manager()
-            with self.assertRaisesRegex(LookupError, "class of object #7 isn't known"):
-                em.find("Customer", 1)
-            company = em.find("Company", 1)
+            company: Any = em.find("Customer", 1)
             self.assertIs(type(company), app.entity("Company"))
+            self.assertEqual((company.id, company.name, company.vat), (1, "Ada", "AT1"))
             self.assertIs(em.find("Customer", 1), company)
+
+    def test_a_class_that_is_refused(self) -> None:
+        memory = (
+            '> {"call":"values","objects":[7]}\n'
+            '< {"error":{"name":"OutOfMemory","no":1},"events":[]}\n'
+        )
+        loaded = self.FIND.replace('"events":[]', '"events":[["PostLoad",7]]')
+        with played(self.MANAGER + loaded + memory + self.FIND + self.COMPANY, DESK) as app:
+            told: List[karzhoul.Event] = []
+            app.listen(told.append)
+            em = app.create_entity_manager()
+            with self.assertRaises(karzhoul.OutOfMemory):
+                em.find("Customer", 1)
+            self.assertEqual([event.of for event in told], [7])
+            self.assertIs(type(em.find("Customer", 1)), app.entity("Company"))
+
+    def test_a_program_that_is_older_than_the_client(self) -> None:
+        older = HERE / "older.py"
+        with self.assertRaises(karzhoul.ProgramNotFound) as raised:
+            karzhoul.open(DESK, program=older)
+        self.assertRegex(
+            str(raised.exception),
+            "older.py' is older than this client: it doesn't serve the calls values and pending. "
+            "The client needs the program of version 0.1.0 of 2026-11-29, or a later one",
+        )
+        with self.assertRaisesRegex(karzhoul.ProgramNotFound, "is no program that answers calls"):
+            karzhoul.open(DESK, program=HERE / "echo.py")
 
 
 if __name__ == "__main__":

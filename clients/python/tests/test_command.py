@@ -195,34 +195,24 @@ class Show(WithStore):
 class Queried(unittest.TestCase):
     def test_where_queries_are_served_they_find_what_is_shown(self) -> None:
         persons = json.loads("\n".join(next(examples("mappings")).given))
+        ada = '[{"entity":"Person","relations":[{"unread":true}],"values":[1,0,"Ada"]}]'
+        order = '[{"entity":"Order","relations":[{"key":[1]}],"values":[10,5]}]'
+        query = '{"call":"query","em":1,"text":"SELECT e FROM %s e WHERE TYPE(e) = %s"}'
         lines = [
-            ('{"call":"createEntityManager"}', "1"),
-            (
-                '{"call":"query","em":1,"text":"SELECT e FROM Person e WHERE TYPE(e) = Person"}',
-                '[{"object":1}]',
-            ),
-            ('{"call":"get","object":1,"name":"id"}', "1"),
-            ('{"call":"get","object":1,"name":"version"}', "0"),
-            ('{"call":"get","object":1,"name":"name"}', '"Ada"'),
-            ('{"call":"get","object":1,"name":"orders"}', '[{"object":2}]'),
-            ('{"call":"get","object":2,"name":"number"}', "10"),
-            (
-                '{"call":"query","em":1,"text":"SELECT e FROM Order e WHERE TYPE(e) = Order"}',
-                '[{"object":2}]',
-            ),
-            ('{"call":"get","object":2,"name":"number"}', "10"),
-            ('{"call":"get","object":2,"name":"amount"}', "5"),
-            ('{"call":"get","object":2,"name":"person"}', '{"object":1}'),
-            ('{"call":"get","object":1,"name":"id"}', "1"),
+            ('{"call":"createEntityManager"}', "", "1"),
+            (query % ("Person", "Person"), '["PostLoad",1]', '[{"object":1}]'),
+            ('{"call":"values","objects":[1]}', "", ada),
+            ('{"call":"get","object":1,"name":"orders"}', '["PostLoad",2]', '[{"object":2}]'),
+            ('{"call":"values","objects":[2]}', "", order),
+            (query % ("Order", "Order"), "", '[{"object":2}]'),
+            ('{"call":"values","objects":[2]}', "", order),
+            ('{"call":"get","object":2,"name":"person"}', "", '{"object":1}'),
+            ('{"call":"values","objects":[1]}', "", ada),
         ]
-        loaded = {lines[1][0]: '["PostLoad",1,"class0"]', lines[5][0]: '["PostLoad",2,"class1"]'}
-        with played(
-            "".join(
-                f'> {line}\n< {{"events":[{loaded.get(line, "")}],"ok":{ok}}}\n'
-                for line, ok in lines
-            ),
-            persons,
-        ) as app:
+        script = "".join(
+            f'> {line}\n< {{"events":[{events}],"ok":{ok}}}\n' for line, events, ok in lines
+        )
+        with played(script, persons) as app:
             shown = show.tables(app)
         text = show.text_page(shown)
         self.assertIn(" 1 |       0 | Ada  | [Order 10]", text)

@@ -122,10 +122,15 @@ class Explained(ProgramTest):
     @unittest.skipUnless(hasattr(Exception, "add_note"), "a Python that tells no notes")
     def test_a_traceback_tells_that_more_is_known(self) -> None:
         for _ in range(2):
-            with self.assertRaises(karzhoul.Refused) as raised:
-                self.em.find("Persn", 1)
+            with self.assertRaises(karzhoul.Refused) as raised, self.em.transaction():
+                self.em.persist(self.Place(at=(1, "a", b"")))
             told = traceback.format_exception_only(type(raised.exception), raised.exception)
             self.assertEqual(told[1:], ["its explain() says more\n"])
+        with self.assertRaises(karzhoul.Refused) as raised:
+            self.em.find("Persn", 1)
+        told = traceback.format_exception_only(type(raised.exception), raised.exception)
+        self.assertEqual(len(told), 1)
+        self.assertIn("there is no entity 'Persn': did you mean 'Person'?", told[0])
 
     def test_what_else_is_refused(self) -> None:
         told = self.explains(self.em.get_reference, "Person", 1)

@@ -367,13 +367,13 @@ class WhileItWaits(Interrupted):
         self.assertEqual(self.em.query("0"), ["0"])
 
     def test_a_time_limit(self) -> None:
-        self.assertEqual(self.em.query("0", timeout=5), ["0"])
+        self.assertEqual(self.em.query("0", end_program_after=5), ["0"])
         for wrong in (0, -1, float("nan")):
             with self.assertRaises(ValueError):
-                self.em.query("0", timeout=wrong)
+                self.em.query("0", end_program_after=wrong)
         start = time.monotonic()
         with self.assertRaises(karzhoul.GivenUp) as raised:
-            self.em.query("100", timeout=0.2)
+            self.em.query("100", end_program_after=0.2)
         self.assertLess(time.monotonic() - start, 2)
         self.assertIn("0.2 seconds", str(raised.exception))
         self.assertFalse(lives(self.app.program.pid))
@@ -629,12 +629,6 @@ class OfTheProgram(ProgramTest):
             # A program that runs is ended.
             app.restart()
             self.assertEqual(present(app.create_entity_manager(), "Person", 1).name, "Ada")
-
-    def test_a_store_in_memory_is_not_restarted(self) -> None:
-        ada = self.committed(name="Ada")
-        with self.assertRaises(karzhoul.StoreInMemory):
-            self.app.restart()
-        self.assertEqual(ada.name, "Ada")
 
 
 if __name__ == "__main__":

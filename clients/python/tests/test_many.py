@@ -103,10 +103,11 @@ class Answers(unittest.TestCase):
         script[50] = find(50, NULL)
         script[51] = find(51, '{"events":[["PostLoad",7]],"ok":{"object":7}}')
         script[99] = find(99, REFUSED)
-        asked = "".join(
-            f'> {{"call":"get","object":{key},"name":"number"}}\n< {{"events":[],"ok":{key}}}\n'
-            for key in (97, 98)
+        numbers = [key for key in range(99) if key not in (50, 51)]
+        shown = ",".join(
+            f'{{"entity":"Order","relations":[],"values":[{key},null]}}' for key in numbers
         )
+        asked = f'> {{"call":"values","objects":{numbers}}}\n< {{"events":[],"ok":[{shown}]}}\n'
         with played(MANAGER + "".join(script[:99]) + asked + script[99], PERSONS) as app:
             told: List[karzhoul.Event] = []
             em = app.create_entity_manager()

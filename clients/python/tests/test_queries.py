@@ -157,7 +157,7 @@ class Queries(ManagerTest):
             karzhoul.IllegalArgument, "range", self.em.query, "SELECT o FROM Order o", first=-1
         )
         self.refuses(karzhoul.IllegalState, "statement", self.em.query, "DELETE FROM Order o")
-        self.refuses(karzhoul.Limit, None, self.em.query, "(" * 33)
+        self.refuses(karzhoul.QueryLimit, "query", self.em.query, "(" * 33)
         transaction = self.em.transaction().begin()
         self.refuses(
             karzhoul.Overflow, None, self.em.query, "SELECT o.number + :m FROM Order o",

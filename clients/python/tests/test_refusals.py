@@ -184,11 +184,11 @@ class OfTheProgram(ProgramTest):
 
     def test_limits(self) -> None:
         person = self.Person(name="a" * 65_535)
-        self.refuses(refusals.Limit, None, self.app.set, person, "name", "a" * 65_536)
-        self.refuses(refusals.Limit, None, self.app.send_line, " " * 1_048_577)
+        self.refuses(refusals.TextLimit, "text", self.app.set, person, "name", "a" * 65_536)
+        self.refuses(refusals.LineLimit, "line", self.app.send_line, " " * 1_048_577)
         for _ in range(15):
             self.app.create_entity_manager()
-        self.refuses(refusals.Limit, None, self.app.create_entity_manager)
+        self.refuses(refusals.ManagerLimit, "managers", self.app.create_entity_manager)
 
 
 @needs_program

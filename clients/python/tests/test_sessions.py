@@ -19,6 +19,7 @@ from unittest import mock
 
 import karzhoul
 from karzhoul import Event, LifecycleEvent
+from karzhoul.runs import Run
 
 from .support import HERE, ORDERS, PERSONS, PROGRAM, ManagerTest, ProgramTest, needs_program, played
 
@@ -212,7 +213,7 @@ class Within(ProgramTest):
         for kind in (TimeoutError, ValueError, LookupError):
             ada = self.Person(name="Ada")
             self.em.persist(ada)
-            with mock.patch.object(self.app, "_answer", mock.Mock(side_effect=Late(kind))):
+            with mock.patch.object(Run, "answer", mock.Mock(side_effect=Late(kind))):
                 with self.assertRaises(kind):
                     self.em.flush()
             self.assertTrue(self.em.contains(ada))
@@ -285,7 +286,8 @@ class Ended(ProgramTest):
         told = raised.exception
         for made in (pickle.loads(pickle.dumps(told)), copy.deepcopy(told)):
             self.assertIs(type(made), karzhoul.IllegalArgument)
-            self.assertEqual((str(made), made.line), ("IllegalArgument(entity)", told.line))
+            self.assertEqual((made.word, made.line), ("IllegalArgument(entity)", told.line))
+            self.assertEqual(str(made), "there is no entity 'Persn': did you mean 'Person'?")
         for n in range(3):
             self.committed(name=f"p{n}")
         page = self.em.page("SELECT p.id FROM Person p ORDER BY p.id", 1, 2, total=True)

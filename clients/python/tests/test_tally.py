@@ -10,7 +10,7 @@ import unittest
 from typing import List
 
 import karzhoul
-from karzhoul.tally import Tally, without_marks
+from karzhoul.tally import Tally
 
 from .support import PERSONS, PROGRAM, ProgramTest, needs_program
 
@@ -76,11 +76,6 @@ class Echoed(ProgramTest):
                 self.em.find("Person", 7)
         self.assertIn("-> no reply: the program is closed", logs.output[0])
 
-    def test_after_a_restart_marks_are_left_out_too(self) -> None:
-        mark = b'{"events":[["PostLoad",1,"class0","own"]],"ok":"class0"}'
-        told = without_marks(mark, {"class0": None})
-        self.assertEqual(told, b'{"events":[["PostLoad",1,"own"]],"ok":"class0"}')
-
 
 @needs_program
 class Counted(ProgramTest):
@@ -119,13 +114,13 @@ class Counted(ProgramTest):
         self.assertEqual(self.app.statistics().objects["loaded"], 0)
 
     def test_nothing_was_asked(self) -> None:
-        told = Tally(False, bytes).statistics(0)
+        told = Tally(False).statistics(0)
         self.assertEqual(str(told).splitlines()[0], "0 calls in 0.00 s: none")
         self.assertIsNone(told.slowest)
 
     def test_many_lines_are_counted_as_each(self) -> None:
         lines = [b'{"call":"set"}', b'{"call":"x"}', b"", b'{"call":"set"}', b'{"call":"persist"}']
-        each, together = Tally(False, bytes), Tally(False, bytes)
+        each, together = Tally(False), Tally(False)
         for line in lines * 100:
             each.note([line], [b""], 0.0)
         together.note(lines * 100, [b""] * 500, 0.0)

@@ -1,0 +1,497 @@
+"""The calls of a running unit: lines go to the program one after the other, whichever thread they
+are of, and what comes of them is told."""
+
+from __future__ import annotations
+
+import re
+import sys
+import threading
+from collections import deque
+from contextlib import contextmanager, suppress
+from copy import copy
+from time import perf_counter
+from types import FrameType
+from typing import (
+    Any, Callable, Deque, Dict, FrozenSet, Iterable, Iterator, List, Mapping, Optional, Sequence, Tuple, Type,
+)
+
+from .classes import Classes
+from .entities import Entity, Event
+from .lines import LifecycleEvent, line_of
+from .pending import BEFORE, Due
+from .program import Exchange, Program, of_before
+from .refusals import BadLine, KarzhoulError, NotServed, Refused, Restarted
+from .replies import (
+    NULL, are_silent, is_of_reply, is_restart, numbers_of, objects_in, said_of,
+)
+from .runs import Run
+from .shown import Shown
+from .tally import Tally
+
+_taken_off: Callable[
+    [Deque[Tuple[Callable[[Event], None], Event]]], Tuple[Callable[[Event], None], Event]
+] = deque.popleft
+_CREATE, RESTART = line_of("createEntityManager", {}), line_of("restart", {})
+_REPLIES = Program.replies.__code__
+
+
+class _Calls(Exchange):
+    """Lines, what their answers are taken for, and the events of their replies that aren't queued
+    to be told."""
+
+    run: Optional[Run]
+
+    __slots__ = (
+        "entity", "bad_line", "are_kept", "ran", "untold", "are_noted", "is_restart", "is_left",
+        "reads", "shown",
+    )
+
+    def __init__(
+        self, run: Optional[Run], lines: Sequence[bytes], entity: str, bad_line: Type[BadLine],
+        are_kept: bool,
+    ) -> None:
+        # As the base does, in less time.
+        self.run = run
+        self.lines = lines
+        self.written = []
+        self.read = []
+        self.parts = None
+        self.entity = entity
+        self.bad_line = bad_line
+        # Whether they were told in a pipeline, so that their refusals are still to be raised.
+        self.are_kept = are_kept
+        # The events that they tell again, whose callbacks ran before.
+        self.ran: FrozenSet[Due] = frozenset()
+        self.untold: Optional[Iterator[Tuple[Callable[[Event], None], Event]]] = None
+        # Whether they were counted, which they are once, whatever is interrupted.
+        self.are_noted = False
+        # Whether another run is on once they are done.
+        self.is_restart = False
+        # Whether they create a manager and were interrupted, so that nobody gets it.
+        self.is_left = False
+        # How often values had been read when it was noted what they change.
+        self.reads = -1
+        # The objects in their replies whose class wasn't known, with the lines that ask for them.
+        self.shown: Optional[Tuple[List[int], _Calls]] = None
+
+    def join(self, run: Optional[Run], line: bytes) -> None:
+        """Has them be of the run of one more line, of a pipeline."""
+        if run is not None and run is not self.run:
+            if self.run is not None:
+                raise Restarted(of_before(line))
+            self.run = run
+
+
+class Calls:
+    """What a factory does calls by. Each call is done as a whole, and threads wait for each other.
+    """
+
+    program: Program
+    # The run that is on.
+    _run: Run
+
+    def __init__(
+        self, mapping: Mapping[str, Any], classes: Dict[str, Type[Entity]], echo: bool
+    ) -> None:
+        self.mapping = mapping
+        self._classes: Dict[str, Type[Entity]] = classes
+        # Those without subclasses: what an answer is of that can be of no other class.
+        self._lowest = {name: kind for name, kind in classes.items() if not kind.__subclasses__()}
+        # By the line that makes one.
+        self._new = {kind._karzhoul_line: kind for kind in classes.values()}
+        self._tally = Tally(echo)
+        self._lock = threading.RLock()
+        # It rises with each call.
+        self._turn = 0
+        # Held where the thread that holds the lock is in a pipeline.
+        self._pipeline = threading.RLock()
+        # The calls that aren't done: those that were told in a pipeline, or those that are under
+        # way, which an interrupt may have left.
+        self._calls: Optional[_Calls] = None
+        self._callbacks: List[Tuple[Callable[[Event], None], FrozenSet[LifecycleEvent]]] = []
+        self._untold: Deque[Tuple[Callable[[Event], None], Event]] = deque()
+        self._is_telling = False
+        # Managers of a run, by their numbers, that are open and that nobody has.
+        self._left: List[Tuple[Run, int]] = []
+        # The names of the events that callbacks hear of; and whether these hear of what comes before
+        # a flush writes.
+        self.heard: FrozenSet[str] = frozenset()
+        self.hears_before = False
+
+    @property
+    def _kinds(self) -> Classes:
+        return self._run.kinds
+
+    def listen(self, callback: Callable[[Event], None], *events: LifecycleEvent) -> None:
+        """Hands the events of these kinds, or without any all events, to a callback, in the order
+        told. It may call, also `persist` and `remove`; the events of its own calls come after.
+
+        Events before a flush (`PRE_PERSIST`, `PRE_UPDATE` and `PRE_REMOVE`) come before anything is
+        written, also where `commit` or a query flushes. What the callback sets is written by this
+        flush. What it raises is raised, and the flush isn't done: the transaction is open as
+        before, and a `with` block rolls it back. It runs once for an object and flush. `persist`,
+        `remove` and `merge` tell some of these themselves, when they are done; so does a flush of
+        an object that it had to load.
+
+        All other events come when their call is done. What the callback raises then is raised by
+        that call.
+        """
+        kinds = frozenset(map(LifecycleEvent, events or LifecycleEvent))
+        self._callbacks.append((callback, kinds))
+        self.heard |= {kind.value for kind in kinds}
+        self.hears_before = self.hears_before or bool(kinds & BEFORE)
+
+    @property
+    def turn(self) -> Optional[int]:
+        """A number that rises with each call, so that nothing changes while it stays. None where
+        calls are kept in a pipeline, and once the program has ended."""
+        return None if self._calls or self.program.fault else self._turn
+
+    # ---- calls
+
+    # Whatever is sent comes with the run of the managers and objects that it names, and with None
+    # where it names none. Where another run is on by the time that it is sent, it is `Restarted`.
+
+    def ask(self, call: str, entity: str = "", /, **members: str) -> Any:
+        """Does a call, whose members are JSON, and gives its answer, with objects of this entity
+        where their class isn't known better. The numbers in it are those of the run that is on when
+        it is called."""
+        if call == "restart":
+            return self.ask_restart()
+        return self.ask_lines(self._run, [line_of(call, members)], entity)[0]
+
+    def ask_lines(
+        self, run: Optional[Run], lines: Sequence[bytes], entity: str = "",
+        bad_line: Type[BadLine] = NotServed, timeout: Optional[float] = None,
+        ran: FrozenSet[Due] = frozenset(),
+    ) -> List[Any]:
+        """Does the calls of lines without waiting for each, and gives the answers. A line that is
+        taken for no call is a `bad_line`. Where they aren't answered within so many seconds, the
+        program is ended: `GivenUp`. Events whose callbacks `ran` before aren't told again."""
+        with self._lock:
+            while self._calls:  # A callback that is told of what was kept may have added to it.
+                self._settle(timeout)
+            reads = self._note(lines, bad_line)
+            calls = self._calls = _Calls(run, lines, entity, bad_line, False)
+            calls.reads, calls.ran = reads, ran
+            return self._answers(calls, timeout)
+
+    def ask_manager(self, run: Run) -> int:
+        """Creates a manager, and gives its number. Where that is interrupted, it is `_left`."""
+        calls = _Calls(run, [_CREATE], "", NotServed, False)
+        try:
+            with self._lock:
+                while self._calls:  # As in `ask_lines`.
+                    self._settle()
+                self._calls = calls
+                number: int = self._answers(calls)[0]
+            return number
+        except BaseException:
+            calls.is_left = True
+            self._take_note(calls, calls.read)
+            raise
+
+    def _take_note(self, calls: _Calls, replies: List[bytes]) -> None:
+        """What replies to a restart and to what was interrupted mean for other calls. It is taken
+        note of before the calls are over, and so perhaps twice."""
+        if calls.is_restart and replies == NULL and self.program.run is calls.run:
+            self._begin_run(self.program)
+        if calls.is_left and calls.run is not None:
+            for number in re.findall(rb'"ok":([0-9]+)}', b"".join(replies)):
+                self._left.append((calls.run, int(number)))
+
+    def tell(self, run: Optional[Run], line: bytes, *more: bytes) -> None:
+        """Does the calls of lines, which answer null; within a pipeline they are kept."""
+        with self._lock:
+            is_kept = self._pipeline._is_owned()  # type: ignore[attr-defined]
+            if is_kept and self.program.fault:
+                raise copy(self.program.fault)
+            while (calls := self._calls) is not None:
+                if is_kept and calls.are_kept and calls.parts is None:
+                    if run is not calls.run:
+                        calls.join(run, line)
+                    reads = self._note((line, *more))
+                    if more:
+                        calls.lines += (line, *more)  # type: ignore[operator]
+                    else:
+                        calls.lines.append(line)  # type: ignore[attr-defined]
+                    if reads != self._run.known.reads:
+                        self._note((line, *more))
+                    return
+                self._settle()  # Those that were sent are to be done first.
+            reads = self._note((line, *more))
+            calls = self._calls = _Calls(run, [line, *more], "", NotServed, is_kept)
+            calls.reads = reads
+            if not is_kept:
+                self._answers(calls)
+
+    def _note(self, lines: Sequence[bytes], bad_line: Type[BadLine] = NotServed) -> int:
+        """Takes note of what lines may change, and answers how often values had been read before.
+        So whatever an interrupt comes between, they count from then on, be they sent or not. Where
+        a handler of a signal has values read meanwhile, it is to be noted again."""
+        known = self._run.known
+        reads = known.reads
+        if bad_line is BadLine:  # A line of one's own may say one thing and then another.
+            known.forget()
+        else:
+            known.note(lines)
+        return reads
+
+    def tell_all(self, run: Optional[Run], lines: Sequence[bytes]) -> None:
+        """Does the calls of lines as `tell` does, in their order."""
+        if lines:
+            self.tell(run, *lines)
+
+    def send_line(self, line: str) -> Any:
+        """Sends any line as it is, and gives its answer; one that is no call is a `BadLine`. The
+        numbers in it are those of the run that is on when it is called."""
+        if "\n" in line:  # It would be several, each with a reply of its own.
+            raise ValueError("a line has no line feed in it, nor at its end")
+        if is_restart(line):
+            return self.ask_restart(line.encode())
+        return self.ask_lines(self._run, [line.encode()], bad_line=BadLine)[0]
+
+    def ask_restart(self, line: bytes = RESTART) -> None:
+        """Has the program begin a new run; `IllegalState` where a transaction is open, and nothing
+        was done. It is known to be on by the step that takes the reply, whatever is interrupted."""
+        with self._lock:
+            self.tell_kept()
+            calls = self._calls = _Calls(None, [line], "", BadLine, False)
+            calls.is_restart = True
+            self._answers(calls)
+
+    def _begin_run(self, program: Program) -> None:
+        """From now on a new run is on, of this program."""
+        raise NotImplementedError
+
+    @contextmanager
+    def pipeline(self) -> Iterator[None]:
+        """Within it, calls that answer nothing but null (`set`, `add`, `persist` and the like) are
+        kept. A call that answers something, and the end of the block, send them together, and
+        raise the first refusal, with the others as its `later`; what was sent after a refused
+        call was done all the same. Other threads wait until the block ends."""
+        with self._lock:
+            try:
+                with self._pipeline:
+                    yield
+            except BaseException:
+                with suppress(KarzhoulError):  # What the block itself raised is told.
+                    self._settle()
+                raise
+            self._settle()
+
+    def tell_kept(self, timeout: Optional[float] = None) -> None:
+        """Sends what was kept in a pipeline, and raises its first refusal."""
+        with self._lock:
+            while self._calls:  # As in `ask_lines`.
+                self._settle(timeout)
+
+    def _settle(self, timeout: Optional[float] = None) -> None:
+        """Does what is left: calls that were kept, whose refusals are raised, or those that were
+        interrupted, whose answers nobody waits for. Their events are told."""
+        calls = self._calls
+        if calls is None:
+            return
+        self._refuse_within()
+        try:
+            self._answers(calls, timeout)
+        except KarzhoulError:
+            if self._calls is calls:  # The program has ended.
+                self._calls = None
+            if calls.are_kept:
+                raise
+            # Else it is a refusal that nobody waits for; an end of the program is told by the next
+            # call too.
+
+    def _has_left(self) -> bool:
+        """Whether calls or events are left that another call goes on with."""
+        return self._calls is not None or bool(self._untold)
+
+    def _is_ahead(self) -> bool:
+        """Whether this thread keeps all others from calling, as in a pipeline or a callback."""
+        return bool(self._lock._is_owned())  # type: ignore[attr-defined]
+
+    def _refuse_within(self) -> None:
+        """Refuses a call within another one of its thread that waits for its replies, as of a
+        handler of a signal, or of what the collector calls: it would take them."""
+        if self._is_within():
+            raise RuntimeError("reentrant call: another one of this thread waits for its reply")
+
+    def _is_within(self) -> bool:
+        """Whether a call of this thread waits for its replies."""
+        frame: Optional[FrameType] = sys._getframe(1)
+        while frame is not None:
+            if frame.f_code is _REPLIES and frame.f_locals["self"] is self.program:
+                return True
+            frame = frame.f_back
+        return False
+
+    def _answers(self, calls: _Calls, timeout: Optional[float] = None) -> List[Any]:
+        """The answers to calls, which are over with it. Their events are told first, and then the
+        first refusal is raised."""
+        self._turn += 1
+        if calls.reads != self._run.known.reads:
+            self._note(calls.lines, calls.bad_line)
+        replies = self._replies(calls, timeout)
+        run = calls.run or self._run
+        if calls.is_restart or calls.is_left:
+            self._take_note(calls, replies)
+        try:
+            kind = None
+            # What most calls answer: an object each and no event, or null.
+            if calls.entity and calls.lines:
+                kind = self._lowest.get(calls.entity) or self._new.get(calls.lines[0])
+                numbers = None if self._untold else numbers_of(replies)
+                if numbers is not None and (kind is not None or run.are_known(numbers)):
+                    objects = run.objects(numbers, kind)
+                    self._calls = None
+                    return objects
+            if not self._callbacks and (replies == NULL or are_silent(replies)):
+                self._calls = None
+                return [None] * len(replies)
+            heard = self._heard(run, calls, replies, kind, timeout)
+        except (AttributeError, LookupError, TypeError, ValueError) as fault:
+            if is_of_reply(fault):
+                self._calls = None  # What is no reply is none the next time either.
+            raise
+        if calls.untold is None:
+            told = [
+                (callback, event)
+                for _, events in heard
+                for event in events
+                if not calls.ran or event.due not in calls.ran
+                for callback, kinds in self._callbacks
+                if event.kind in kinds
+            ]
+            calls.untold = iter(told)
+        # They are queued by one step, and so once, whatever is interrupted.
+        self._untold.extend(calls.untold)
+        self._calls = None
+        refused = [answer for answer, _ in heard if isinstance(answer, Refused)]
+        self._tally.refused(refused)
+        raised = [*refused, *self._tell_events()] if refused or self._untold else []
+        if refused:
+            refused[0].later = tuple(refused[1:])
+        if raised:
+            raise raised[0]
+        return [answer for answer, _ in heard]
+
+    def _heard(
+        self, run: Run, calls: _Calls, replies: List[bytes], kind: Optional[Type[Entity]],
+        timeout: Optional[float],
+    ) -> List[Tuple[Any, Tuple[Event, ...]]]:
+        """The answer to each line, or its refusal, and its events. Where the class of an object
+        isn't known, the program is asked for it, and for its values with it."""
+        told = self.heard
+        each = [(line, reply, said_of(reply)) for line, reply in zip(calls.lines, replies)]
+        unknown = [number for it in each for number in run.hear(*it, kind, told)]
+        places: Dict[int, Shown] = {}
+        refused = None
+        if unknown:
+            if calls.shown is None:
+                numbers = list(dict.fromkeys(unknown))
+                lines = run.values_lines(numbers)
+                calls.shown = numbers, _Calls(run, lines, "", NotServed, False)
+            places, refused = self._shown(run, calls, *calls.shown, timeout)
+        heard = [
+            (refused, run.events(said, told))
+            if refused is not None and not run.are_known(objects_in(reply))
+            else run.answer(line, reply, said, calls.bad_line, told)
+            for line, reply, said in each
+        ]
+        run.done(places)
+        return heard
+
+    def _shown(
+        self, run: Run, calls: _Calls, numbers: Sequence[int], asked: _Calls,
+        timeout: Optional[float] = None,
+    ) -> Tuple[Dict[int, Shown], Optional[Refused]]:
+        """Reads the values of objects for calls that aren't done, by lines that ask for them."""
+        places = run.known.expect(numbers, run.loaded)
+        if self._calls is not calls:  # A signal's handler had them done, and may have sent others.
+            run.known.forget()
+        replies = self._replies(asked, timeout)
+        return places, run.show(asked.lines, replies, places)
+
+    def objects(self, run: Run, numbers: Sequence[int]) -> List[Entity]:
+        """The objects of these numbers, which there are. Where a class isn't known, the program is
+        asked for it."""
+        with self._lock:
+            unknown = [number for number in numbers if run.kinds[number] is None]
+            if unknown:
+                self.show(run, unknown)
+            return run.objects(numbers)
+
+    def show(self, run: Run, numbers: Iterable[int]) -> None:
+        """Reads the values of objects of a run anew, by their numbers."""
+        with self._lock:
+            self.tell_kept()
+            numbers = list(dict.fromkeys(numbers))
+            calls = self._calls = _Calls(run, run.values_lines(numbers), "", NotServed, False)
+            places, refused = self._shown(run, calls, numbers, calls)
+            self._calls = None
+            run.done(places)
+            if refused is not None:
+                self._tally.refused([refused])
+                raise refused
+
+    def _replies(self, calls: _Calls, timeout: Optional[float]) -> List[bytes]:
+        """The replies to calls, which are noted once."""
+        began = perf_counter()
+        try:
+            replies = self.program.replies(calls, timeout)
+        except KarzhoulError as fault:
+            if isinstance(fault, Restarted):  # They weren't sent, and never will be.
+                self._calls = None
+            self._run.known.forget()  # So that a call is asked, which says that the program is gone.
+            self._tally.tell_fault(calls.lines, fault)
+            raise
+        if not calls.are_noted:
+            calls.are_noted = True
+            self._tally.note(calls.lines, replies, perf_counter() - began)
+        return replies
+
+    def tell_before(self, events: Iterator[Event]) -> None:
+        """Tells events of what is to come, and then those of the calls that callbacks made. What
+        one raises is raised at once."""
+        was_telling = self._is_telling
+        try:
+            self._is_telling = True
+            self._tell_now(events)
+            raised = self._tell_each()
+        finally:
+            self._is_telling = was_telling
+        for fault in raised:  # It is none of the call that waits.
+            vars(fault).pop("_karzhoul_is_told", None)
+            raise fault
+
+    def _tell_now(self, events: Iterator[Event]) -> None:
+        for event in events:
+            for callback, kinds in self._callbacks:
+                if event.kind in kinds:
+                    callback(event)
+
+    def _tell_events(self) -> List[Exception]:
+        """Tells the events in their order, and answers what callbacks raise. Those of calls that a
+        callback makes come after them."""
+        if self._is_telling:
+            return []
+        try:
+            self._is_telling = True
+            return self._tell_each()
+        finally:
+            self._is_telling = False
+
+    def _tell_each(self) -> List[Exception]:
+        # (An interrupt of the jump at a loop's end passes by a `finally` of the same function in
+        # Python 3.13.)
+        raised: List[Exception] = []
+        while self._untold:
+            # An event is taken off by the same step that begins to tell it.
+            for callback, event in map(_taken_off, (self._untold,)):
+                try:
+                    callback(event)
+                except Exception as fault:
+                    vars(fault)["_karzhoul_is_told"] = True
+                    raised.append(fault)
+        return raised

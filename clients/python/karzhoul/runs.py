@@ -1,0 +1,308 @@
+"""A run of the program: from its opening, or a restart, to the next restart. Objects and managers
+have their numbers in one run alone."""
+
+from __future__ import annotations
+
+import json
+from typing import (
+    TYPE_CHECKING, Any, Container, Dict, FrozenSet, Iterable, List, Mapping, Optional, Sequence,
+    Tuple, Type, Union,
+)
+from weakref import ref
+
+from .classes import Classes
+from .entities import Entity, Event
+from .lines import LifecycleEvent, spelled, text_spelled
+from .misfits import misfit
+from .refusals import BadLine, NotServed, Refused, Restarted
+from .refusing import note_written, refusal_told
+from .replies import objects_in, said_of
+from .shown import OVER, Known, Owner, Shown
+
+if TYPE_CHECKING:
+    from .factory import EntityManagerFactory
+
+EVENTS = {kind.value: kind for kind in LifecycleEvent}
+_set_number = Entity.__dict__["_karzhoul_number"].__set__
+_set_run = Entity.__dict__["_karzhoul_run"].__set__
+_set_shown = Entity.__dict__["_karzhoul_shown"].__set__
+# So many objects are asked for by one line.
+_AT_ONCE = 1000
+
+
+class Run:
+    """What is known of a run: its objects by their numbers, as long as they are held, and their
+    classes.
+
+    It alone spells the numbers of objects. The lines in which these stand are sent with it, and so
+    only while it is on. The calls of a factory alone have it read replies, one at a time.
+    """
+
+    __slots__ = (
+        "factory", "kinds", "known", "marked", "written", "managers", "loaded", "_told", "_shown",
+        "_objects", "_most",
+    )
+
+    def __init__(self, factory: EntityManagerFactory, kinds: Classes) -> None:
+        self.factory, self.kinds = factory, kinds
+        # The first refusal of each manager's transaction that marked it, by the manager's number.
+        self.marked: Dict[int, Tuple[str, str]] = {}
+        # The numbers of the objects that flushes of each manager's open transaction wrote or dropped,
+        # by the manager's number, as far as that was read.
+        self.written: Dict[int, Dict[int, None]] = {}
+        # How many managers it has made, as far as they were created by the factory.
+        self.managers: Optional[int] = None
+        self._objects: Dict[int, ref[Entity]] = {}
+        self._most = 1000
+        self.known = Known(self._held)
+        # Of the replies that are being read: who loaded objects, which objects are in the answers,
+        # and the values that were read.
+        self.loaded: Dict[int, Owner] = {}
+        self._told: List[int] = []
+        self._shown: Dict[int, Shown] = {}
+
+    @property
+    def made(self) -> int:
+        """How many objects it has made, loads counted."""
+        return self.kinds.made
+
+    def end(self) -> None:
+        """It is over: only those who hold its objects go on to hold it, and no more."""
+        self.kinds = Classes(self.factory._classes)
+        self.marked, self._objects = {}, {}
+        self.known.forget()
+        self.known = Known(_nobody)
+
+    def transaction_over(self, manager: int) -> None:
+        """Lets go what is known of the transaction of a manager of this number."""
+        self.marked.pop(manager, None)
+        self.written.pop(manager, None)
+
+    # ---- the numbers of objects
+
+    def number(self, entity: Entity) -> str:
+        """The number of an object of this run, as JSON."""
+        if isinstance(entity, Entity) and entity._karzhoul_run is self:
+            return f"{entity._karzhoul_number}"
+        if not isinstance(entity, Entity) or entity._karzhoul_factory is not self.factory:
+            raise ValueError(f"{entity!r} is no object of this factory")
+        if entity._karzhoul_run is not self.factory._run:
+            raise Restarted(
+                f"object {entity._karzhoul_number} is of before a restart: make or find it again"
+            )
+        raise Restarted(
+            f"object {entity._karzhoul_number} goes together with nothing of before a restart: "
+            "create another manager, and make or find its objects again"
+        )
+
+    def given(self, value: Any) -> str:
+        """A value, or an object of this run, as JSON."""
+        if type(value) is int and -(2**63) <= value < 2**63:
+            return str(value)
+        return f'{{"object":{self.number(value)}}}' if isinstance(value, Entity) else spelled(value)
+
+    # ---- the lines of an object
+
+    def get_line(self, entity: Entity, name: str) -> bytes:
+        """The line that asks for a member."""
+        number, word = self.number(entity), text_spelled(name)
+        return f'{{"call":"get","object":{number},"name":{word}}}'.encode()
+
+    @staticmethod
+    def values_lines(numbers: Sequence[int]) -> List[bytes]:
+        """The lines that ask for the values of objects, in their order."""
+        return [
+            b'{"call":"values","objects":[%b]}'
+            % ",".join(map(str, numbers[start : start + _AT_ONCE])).encode()
+            for start in range(0, len(numbers), _AT_ONCE)
+        ]
+
+    def set_line(self, entity: Entity, name: str, value: Any) -> bytes:
+        """The line that sets a member."""
+        number, word = self.number(entity), text_spelled(name)
+        try:
+            given = self.given(value)
+            return f'{{"call":"set","object":{number},"name":{word},"value":{given}}}'.encode()
+        except (TypeError, ValueError, OverflowError) as fault:
+            raise misfit(fault, f"{type(entity).__name__}.{name}", value) from None
+
+    def member_line(self, call: str, entity: Entity, name: str, member: Entity) -> bytes:
+        """The line that adds a member to a collection, or takes it out."""
+        number, word, other = self.number(entity), text_spelled(name), self.number(member)
+        return f'{{"call":"{call}","object":{number},"name":{word},"member":{other}}}'.encode()
+
+    # ---- objects by their numbers
+
+    def objects(self, numbers: Iterable[int], kind: Optional[Type[Entity]] = None) -> List[Entity]:
+        """The objects of these numbers, as `object` gives each, which takes longer."""
+        found: List[Entity] = []
+        for number in numbers:
+            held = self._objects.get(number)
+            known = held() if held else None
+            found.append(self._made(number, kind) if known is None else known)
+        return found
+
+    def object(self, number: int, kind: Optional[Type[Entity]] = None) -> Entity:
+        """The object of this number, of this class where its own isn't known."""
+        held = self._objects.get(number)
+        known = held() if held else None
+        return self._made(number, kind) if known is None else known
+
+    def held(self) -> List[Entity]:
+        """The objects that are held."""
+        return [it for held in list(self._objects.values()) if (it := held()) is not None]
+
+    def _held(self, number: int) -> Optional[Entity]:
+        """The object of a number, where it is held."""
+        held = self._objects.get(number)
+        return None if held is None else held()
+
+    def _made(self, number: int, kind: Optional[Type[Entity]]) -> Entity:
+        """The object of a number of which none is held."""
+        own = self.kinds.settled(number, kind)
+        if own is None:
+            raise LookupError(f"the class of object #{number} isn't known")
+        made = object.__new__(own)
+        _set_number(made, number)
+        _set_run(made, self)
+        shown = self._shown.get(number)
+        if shown is None:
+            owner = self.loaded.get(number, self.known.anyone)
+            shown = owner.unread if len(self._told) < 2 else Shown(OVER, owner, self._told)
+        _set_shown(made, shown)
+        self._objects[number] = ref(made)
+        if len(self._objects) > self._most:
+            self._objects = {number: held for number, held in self._objects.items() if held()}
+            self._most = 1000 + 2 * len(self._objects)
+        return made
+
+    # ---- replies
+
+    def are_known(self, numbers: Iterable[int]) -> bool:
+        """Whether the classes of all these objects are known."""
+        return None not in map(self.kinds.__getitem__, numbers)
+
+    def hear(
+        self, line: bytes, reply: bytes, said: Mapping[str, Any], kind: Optional[Type[Entity]],
+        heard: FrozenSet[str],
+    ) -> List[int]:
+        """Takes in what a reply tells of objects, of this class where their own isn't known; and
+        whose class isn't known of those in the answer, and in the events that are heard of."""
+        if "ok" not in said:  # It gives up the objects that it loaded, and their numbers.
+            return []
+        events = said["events"]
+        if events:
+            note_written(self, line, events)
+        loaded = self.kinds.hear(events)
+        if loaded:
+            self.loaded.update(dict.fromkeys(loaded, self.known.owner(line)))
+        settled = self.kinds.settled
+        told = objects_in(reply)
+        self._told += told
+        unknown = [number for number in told if settled(number, kind) is None]
+        for event in events if heard else ():
+            if event[0] in heard and settled(event[1], None) is None:
+                unknown.append(event[1])
+        return unknown
+
+    def show(
+        self, lines: Sequence[bytes], replies: Sequence[bytes], places: Dict[int, Shown]
+    ) -> Optional[Refused]:
+        """Takes in the replies to lines that ask for the values of objects, or their refusal."""
+        coming = iter(places.items())
+        for line, reply in zip(lines, replies):
+            said = said_of(reply)
+            if "ok" not in said:
+                return self._refusal(line, said, NotServed)
+            has_bytes = b'{"hex":' in reply
+            for each, (number, place) in zip(said["ok"], coming):
+                values = each["values"]
+                place.values = list(map(_value, values)) if has_bytes else values
+                self.kinds.settled(number, self.factory._classes[each["entity"]])
+                entity = self._held(number)
+                if entity is not None:
+                    entity._karzhoul_shown = place
+        self._shown = places
+        return None
+
+    def done(self, places: Dict[int, Shown]) -> None:
+        """All replies are read for which these values were. Those of the other objects in them are
+        read together, once one of them is asked for."""
+        self.known.have(places)
+        told = self._told
+        for number in told if len(told) > 1 else ():
+            entity = self._held(number)
+            if entity is not None:
+                shown = entity._karzhoul_shown
+                if shown.epoch.is_over and shown.group is not told:
+                    entity._karzhoul_shown = Shown(OVER, shown.owner, told)
+        self._shown, self.loaded, self._told = {}, {}, []
+
+    def unread(self, objects: Iterable[Entity]) -> List[int]:
+        """Of which objects the values are to be read before these have theirs, by their numbers:
+        of them, and of those that were told together with them."""
+        numbers: Dict[int, None] = {}
+        groups: Dict[int, Sequence[int]] = {}
+        for entity in objects:
+            shown = entity._karzhoul_shown
+            if shown.epoch.is_over:
+                numbers[entity._karzhoul_number] = None
+                if shown.group:
+                    groups[id(shown.group)] = shown.group
+        for group in groups.values():
+            for number in group:
+                held = self._held(number)
+                if held is not None and held._karzhoul_shown.group is group:
+                    numbers[number] = None
+        return sorted(numbers)
+
+    def answer(
+        self, line: bytes, reply: bytes, said: Mapping[str, Any], bad_line: Type[BadLine],
+        heard: FrozenSet[str],
+    ) -> Tuple[Any, Tuple[Event, ...]]:
+        """The answer to a line, or its refusal, and its events that are heard of."""
+        if "ok" not in said:
+            refused = self._refusal(line, said, bad_line)
+            return refused, tuple([event for event in refused.events if event.kind.value in heard])
+        answer = said["ok"]
+        if reply.count(b"{") > 1:
+            answer = self._found(answer)
+        return answer, self.events(said, heard) if heard else ()
+
+    def _refusal(self, line: bytes, said: Mapping[str, Any], bad_line: Type[BadLine]) -> Refused:
+        if "error" not in said:
+            raise ValueError(f"{json.dumps(said)[:100]!r} is no reply")
+        return refusal_told(self, said["error"], self.events(said), line, bad_line)
+
+
+    def events(
+        self, said: Mapping[str, Any], heard: Container[str] = EVENTS
+    ) -> Tuple[Event, ...]:
+        """The events of these kinds that a reply tells."""
+        return tuple([self.event(*told) for told in said["events"] if EVENTS[told[0]].value in heard])
+
+    def event(self, name: str, number: int, *ran: str) -> Event:
+        """The event of an object, as a reply tells it."""
+        of: Union[Entity, int] = number if self.kinds[number] is None else self.object(number)
+        return Event(EVENTS[name], of, ran)
+
+    def _found(self, answer: Any) -> Any:
+        """What an answer says: values, bytes, and objects."""
+        if isinstance(answer, list):
+            return [self._found(item) for item in answer]
+        if not isinstance(answer, dict):
+            return answer
+        if "object" in answer:
+            return self.object(answer["object"])
+        if "hex" in answer:
+            return bytes.fromhex(answer["hex"])
+        return {name: self._found(item) for name, item in answer.items()}
+
+
+def _nobody(_: int) -> Optional[Entity]:
+    return None
+
+
+def _value(said: Any) -> Any:
+    """A value as `values` says it."""
+    return bytes.fromhex(said["hex"]) if isinstance(said, dict) else said

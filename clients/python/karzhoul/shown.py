@@ -1,0 +1,203 @@
+"""The values of objects that were read, and for how long they are true.
+
+The values of an object are read together, by one line, and kept with it. They are true until a line
+goes to the program that may change them. So each line is looked at before it is sent:
+
+- the calls of `_PURE` change no value of an object that there was before;
+- `set`, `add` and `takeOut` change the object that they name, and no other one;
+- any other call of a manager may change all its objects, and what no manager had before: a flush
+  gives versions and keys, cascades go on, listeners of the mapping assign. It changes no object of
+  another manager, as what another manager holds is refused or left as it is;
+- any other line may change all objects.
+"""
+
+from __future__ import annotations
+
+import re
+from typing import Any, Callable, Dict, Iterable, Mapping, Optional, Sequence
+
+from .entities import Entity
+
+
+class Epoch:
+    """A time in which the values of the objects of an owner stay as they are, but for those of an
+    object that is set."""
+
+    __slots__ = ("is_over",)
+
+    def __init__(self, is_over: bool = False) -> None:
+        self.is_over = is_over
+
+
+OVER = Epoch(is_over=True)
+
+
+class Owner:
+    """Whose calls change an object: its manager's; those of any manager where it isn't known."""
+
+    __slots__ = ("_epoch", "_others", "unread")
+
+    def __init__(self) -> None:
+        self._epoch = OVER
+        self._others: Optional[Owner] = None
+        # What is known of the values of an object that weren't read.
+        self.unread = Shown(OVER, self)
+
+    def epoch(self) -> Epoch:
+        """The epoch that is on."""
+        if self._others is not None:
+            return self._others.epoch()
+        if self._epoch.is_over:
+            self._epoch = Epoch()
+        return self._epoch
+
+    def end(self) -> None:
+        """What was read in this epoch may be true no more."""
+        self._epoch.is_over = True
+
+    def leave(self, others: Owner) -> None:
+        """Has no calls of its own any more: from now on it goes by the others' epochs."""
+        self._others = others
+        self.end()
+
+
+class Shown:
+    """The values of an object: the key's parts, the version where there is one, and the attributes
+    of the chain of classes, superclass first. They are true until the epoch is over."""
+
+    __slots__ = ("epoch", "owner", "values", "group")
+
+    def __init__(self, epoch: Epoch, owner: Owner, group: Sequence[int] = ()) -> None:
+        self.epoch, self.owner = epoch, owner
+        # Where they weren't read yet: the numbers of the objects that were told together.
+        self.group = group
+        self.values: Sequence[Any] = ()
+
+
+_FRONT = b'{"call":"'
+# What they may load is new, and a listener that hears of that assigns to it alone.
+_PURE = (
+    "get", "values", "pending", "find", "getReference", "contains", "new", "createEntityManager",
+    "begin", "setFlushMode", "setRollbackOnly", "detach", "clear",
+)
+_OF_OBJECT = re.compile(rb'\{"call":"\w+","object":([0-9]+),')
+_OF_MANAGER = re.compile(rb'\{"call":"\w+","em":([0-9]+)[,}]')
+
+
+class Known:
+    """What is known of the values of a run's objects.
+
+    It is used by the thread that has the factory's lock, and by what interrupts that: so values
+    that are being read have their place before the line is sent, and what is sent from a handler
+    of a signal meanwhile ends their epoch.
+    """
+
+    __slots__ = ("_held", "anyone", "reads", "_owners", "_coming")
+
+    def __init__(self, held: Callable[[int], Optional[Entity]]) -> None:
+        """With the object of a number, where it is held."""
+        self._held = held
+        self.anyone = Owner()
+        # How often values were read.
+        self.reads = 0
+        # By the number of the manager as lines have it.
+        self._owners: Dict[bytes, Owner] = {}
+        # The places of values that are being read, by the objects' numbers.
+        self._coming: Dict[int, Shown] = {}
+
+    def owner(self, line: bytes) -> Owner:
+        """Whose the objects are that a line loads."""
+        found = _OF_MANAGER.match(line)
+        if found is not None:
+            return self._owners.setdefault(found[1], Owner())
+        found = _OF_OBJECT.match(line)
+        entity = self._held(int(found[1])) if found is not None else None
+        return self.anyone if entity is None else entity._karzhoul_shown.owner
+
+    # ---- what lines change
+
+    def note(self, lines: Iterable[bytes]) -> None:
+        """Takes note of lines, before they are sent."""
+        for line in lines:
+            change = _CHANGES.get(line[: line.find(b'"', len(_FRONT))], Known.forget)
+            if change is not None:
+                change(self, line)
+
+    def forget(self, line: bytes = b"") -> None:
+        """All values may be others."""
+        self.anyone.end()
+        for owner in list(self._owners.values()):
+            owner.end()
+
+    def _change_object(self, line: bytes) -> None:
+        found = _OF_OBJECT.match(line)
+        if found is None:
+            self.forget()
+            return
+        number = int(found[1])
+        entity, coming = self._held(number), self._coming.get(number)
+        if entity is not None:
+            entity._karzhoul_shown.epoch = OVER
+        if coming is not None:
+            coming.epoch = OVER
+
+    def _change_objects(self, line: bytes) -> None:
+        found = _OF_MANAGER.match(line)
+        if found is None:
+            self.forget()
+            return
+        self.anyone.end()
+        owner = self._owners.get(found[1])
+        if owner is not None:
+            owner.end()
+
+    def _close(self, line: bytes) -> None:
+        """What is left of a manager's objects when it is closed goes by what any manager does, so
+        that no manager is kept that is gone."""
+        self._change_objects(line)
+        found = _OF_MANAGER.match(line)
+        owner = self._owners.pop(found[1], None) if found is not None else None
+        if owner is not None:
+            owner.leave(self.anyone)
+
+    # ---- values that are being read
+
+    def expect(self, numbers: Iterable[int], loaded: Mapping[int, Owner]) -> Dict[int, Shown]:
+        """The places of the values of these objects, which are being read now. Of those that were
+        just loaded it is told by whom."""
+        self.reads += 1
+        for shown in self._coming.values():  # An interrupt, or a handler of one, has come between.
+            shown.epoch = OVER
+        places: Dict[int, Shown] = {}
+        for number in numbers:
+            entity = self._held(number)
+            owner = (
+                loaded.get(number, self.anyone)
+                if entity is None
+                else entity._karzhoul_shown.owner
+            )
+            places[number] = Shown(owner.epoch(), owner)
+        self._coming = places
+        return places
+
+    def have(self, places: Dict[int, Shown]) -> None:
+        """They were read, and the objects have them."""
+        if self._coming is places:
+            self._coming = {}
+
+
+_CHANGES: Dict[bytes, Optional[Callable[[Known, bytes], None]]] = {
+    **dict.fromkeys((_FRONT + name.encode() for name in _PURE)),
+    **dict.fromkeys((_FRONT + name for name in (b"set", b"add", b"takeOut")), Known._change_object),
+    **dict.fromkeys(
+        (
+            _FRONT + name
+            for name in (
+                b"persist", b"remove", b"refresh", b"merge", b"lock", b"flush", b"commit",
+                b"rollback", b"query", b"querySingle", b"executeUpdate",
+            )
+        ),
+        Known._change_objects,
+    ),
+    _FRONT + b"close": Known._close,
+}
