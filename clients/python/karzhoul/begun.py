@@ -28,7 +28,8 @@ class Begun(AbstractContextManager["EntityManager"]):
         def __getattr__(self, name: str) -> object:
             # Of a manager, which it isn't.
             raise AttributeError(
-                f"begin() is for a block, whose manager has {name!r}: with app.begin() as manager: .."
+                f"begin() is for a block, whose manager has {name!r}: "
+                "with app.begin() as manager: .."
             )
 
     @begin_of_block

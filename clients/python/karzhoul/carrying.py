@@ -150,7 +150,8 @@ def _found(stored: Stored, query: str) -> Dict[str, List[Key]]:
         return stored.found(query)
     except Refused as refused:
         found = mistakes_in(Statement(query, []), stored.described)
-        raise KarzhoulError("\n  ".join([f"the query is refused: {refused.word}", *found])) from refused
+        told = [f"the query is refused: {refused.word}", *found]
+        raise KarzhoulError("\n  ".join(told)) from refused
 
 
 def _write_lines(

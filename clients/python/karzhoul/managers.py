@@ -226,8 +226,8 @@ class EntityManager(Queries, AbstractContextManager["EntityManager"]):
         self._mode = FlushModeType(mode)
 
     def close(self) -> None:
-        """Ends the manager, which owns no open transaction. What was persisted or removed outside of
-        a transaction, and in none since, is lost then: a `RuntimeWarning` says so."""
+        """Ends the manager, which owns no open transaction. What was persisted or removed outside
+        of a transaction, and in none since, is lost then: a `RuntimeWarning` says so."""
         try:
             self._ask("close")
         except (NoSuchManager, ProgramEnded, Restarted):  # It is gone already.

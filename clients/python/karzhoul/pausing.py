@@ -1,4 +1,5 @@
-"""How work that was refused is done again: how often, after which pauses, and what is said of it."""
+"""How work that was refused is done again: how often, after which pauses, and what is said of it.
+"""
 
 from __future__ import annotations
 

@@ -110,7 +110,8 @@ class Queries:
         **named: Any,
     ) -> Any:
         """The first row of a query, or None; no other one is asked for."""
-        return self._asked(text, result_class, params, end_program_after, named).rows(None, 1).first()
+        asked = self._asked(text, result_class, params, end_program_after, named)
+        return asked.rows(None, 1).first()
 
     def scalars(
         self,
@@ -124,7 +125,8 @@ class Queries:
         **named: Any,
     ) -> List[Any]:
         """The first item of each row of a query."""
-        return self._asked(text, result_class, params, end_program_after, named).rows(first, max).scalars()
+        asked = self._asked(text, result_class, params, end_program_after, named)
+        return asked.rows(first, max).scalars()
 
     def page(
         self,

@@ -115,8 +115,8 @@ class Refused(KarzhoulError):
     """
 
     number: ClassVar[int] = 0
-    # The factory whose call it is, the run that it was done in, and what its manager was told in the
-    # transaction.
+    # The factory whose call it is, the run that it was done in, and what its manager was told in
+    # the transaction.
     _factory: Optional[EntityManagerFactory] = None
     _run: Optional[Run] = None
     _concern: Optional[Concern] = None
@@ -292,7 +292,8 @@ class Busy(Refused, number=18):
 
 MOST_LINE_BYTES = 1_048_576
 _RESTART = (
-    ": commit, and app.restart() begins another one, as karzhoul.open(.., threads=True) does by itself"
+    ": commit, and app.restart() begins another one, as karzhoul.open(.., threads=True) does by "
+    "itself"
 )
 _OBJECTS = f"a run makes at most 1,000,000 objects, loads counted{_RESTART}"
 _OPEN = (

@@ -18,8 +18,8 @@ if TYPE_CHECKING:
 
 T = TypeVar("T")
 _LATE = (
-    "the work gave a {kind}, which would run after its transaction has ended: let it be an ordinary "
-    "function, and give a list"
+    "the work gave a {kind}, which would run after its transaction has ended: let it be an "
+    "ordinary function, and give a list"
 )
 
 class Retry:

@@ -172,8 +172,8 @@ class Attempt:
 
 
 def attempts(transaction: EntityTransaction, most: int) -> Iterator[Attempt]:
-    """At most so many attempts at a transaction, until one is done, with a pause before each but the
-    first."""
+    """At most so many attempts at a transaction, until one is done, with a pause before each but
+    the first."""
     for number in range(1, most + 1):
         if number > 1:
             transaction._manager.factory._tally.note_retry()

@@ -58,7 +58,8 @@ class Misfits(ProgramTest):
 
     def test_values_of_other_types(self) -> None:
         person, order = self.Person(), self.Order()
-        self.told(TypeError, lambda: setattr(person, "name", date.today()), "Person.name", "no date")
+        today = date.today()
+        self.told(TypeError, lambda: setattr(person, "name", today), "Person.name", "no date")
         self.told(TypeError, lambda: setattr(order, "amount", 1.5), "Order.amount", "no float")
         self.told(OverflowError, lambda: setattr(order, "amount", 2**63), "Order.amount", "64 bits")
         self.told(TypeError, lambda: self.app.set(order, "amount", True), "Order.amount", "no bool")

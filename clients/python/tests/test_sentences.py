@@ -93,7 +93,8 @@ class Sentences(ProgramTest):
         self.assertIn("label is null", raised.exception.explain())
 
     def test_what_is_said_is_of_the_moment_of_the_refusal(self) -> None:
-        refused = self.says("Person.name is a text, and not 7", self.app.set, self.Person(), "name", 7)
+        person = self.Person()
+        refused = self.says("Person.name is a text, and not 7", self.app.set, person, "name", 7)
         self.app.close()
         self.assertEqual(str(refused), "Person.name is a text, and not 7")
 
