@@ -18,8 +18,8 @@ from .unit import EntityDescription, MemberKind, entities_of
 if TYPE_CHECKING:
     from .factory import EntityManagerFactory
 
-# So many lines are told.
-_MOST = 10
+# So many lines are told, and so many characters of each.
+_MOST, _LONGEST = 10, 500
 _KINDS = {"int": "a whole number", "text": "a text", "bytes": "bytes"}
 _OF_QUERIES = {
     "IllegalArgument(syntax)", "IllegalArgument(typing)", "IllegalArgument(parameter)",
@@ -42,10 +42,18 @@ def explained(refused: Refused, factory: Optional[EntityManagerFactory]) -> str:
     is on, the numbers in its line are those of other objects, and it tells that alone."""
     if factory is not None and refused._run is not factory._run:
         return meaning(refused)
-    told = list(islice(_told(refused, factory), _MOST + 1))
+    told = [_cut(line) for line in islice(_told(refused, factory), _MOST + 1)]
     if len(told) > _MOST:
         told[_MOST:] = ["and so on"]
     return "\n".join(told) or meaning(refused)
+
+
+def _cut(line: str) -> str:
+    """A line without its middle, where that is long, as of a value that was handed in: it may stand
+    in a log."""
+    if len(line) <= _LONGEST:
+        return line
+    return f"{line[: _LONGEST - 100]} .. ({len(line):,} characters) .. {line[-100:]}"
 
 
 def sentence(refused: Refused) -> Optional[str]:

@@ -194,10 +194,14 @@ class NotServed(BadLine):
     """The line is a call by the rules, and the program at hand doesn't serve it."""
 
     def __str__(self) -> str:
-        return f"the program doesn't serve this call: {self.line}"
+        return f"the program doesn't serve this call: {_shortened(self.line)}"
 
     def explain(self) -> str:
         return str(self)
+
+
+def _shortened(line: str) -> str:
+    return line if len(line) < 200 else f"{line[:200]}.."
 
 
 class NoSuchManager(Refused, number=4):
@@ -271,7 +275,7 @@ class Rollback(Refused, number=14):
     def _told(self) -> str:
         """The refusal before, with its line."""
         name, line = self._before or ("", "")
-        return f"{name} of {line if len(line) < 200 else f'{line[:200]}..'}"
+        return f"{name} of {_shortened(line)}"
 
 
 class NoResult(Refused, number=15):

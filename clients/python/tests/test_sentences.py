@@ -6,7 +6,7 @@ from __future__ import annotations
 import logging
 import pickle
 import unittest
-from typing import Any, Callable, Type
+from typing import Any, Callable, List, Tuple, Type
 
 import karzhoul
 
@@ -56,6 +56,23 @@ class Sentences(ProgramTest):
             "Person has no member 'nmae' of that sort: did you mean 'name'?", self.app.set, person,
             "nmae", "a",
         )
+
+    def test_long_values_are_not_told_whole(self) -> None:
+        """As in a log."""
+        long = "x" * 60_000
+        query = f"SELECT p FROM Person p WHERE p.id = '{long[:16_000]}'"
+        calls: List[Tuple[str, Callable[[], Any]]] = [
+            ("a whole number", lambda: self.app.set(self.Order(), "amount", long)),
+            ("a whole number", lambda: self.em.find("Order", long)),
+            ("[IllegalArgument(typing)]", lambda: self.em.query(query)),
+        ]
+        for word, call in calls:
+            with self.assertRaises(karzhoul.IllegalArgument) as raised:
+                call()
+            told = str(raised.exception)
+            self.assertLess(len(told), 600)
+            self.assertIn("characters) ..", told)
+            self.assertIn(word, told)
 
     def test_limits(self) -> None:
         person = self.Person(name="Ada")
