@@ -74,9 +74,10 @@ class EntityTransaction:
         self._end()
 
     def _end(self) -> None:
-        self.is_active = False
-        self._manager._run.transaction_over(self._manager.number)
-        self._manager._concern = Concern(self._manager._run.made)
+        manager = self._manager
+        manager._concern = Concern(manager._run.made)
+        manager._run.transaction_over(manager.number)
+        self.is_active = False  # Last, since an interrupt before has it be ended again.
 
     def set_rollback_only(self) -> None:
         """Leaves it able only to roll back."""
