@@ -1,5 +1,7 @@
 package karzhoul.jpa.model;
 
+import java.util.OptionalInt;
+
 /**
  * How values of a Java type are kept as a whole number, a text or bytes (chapters 2.6 and 3.9).
  * Order and equality of what is kept are those of the Java type, so that queries may compare it.
@@ -24,4 +26,13 @@ public interface Codec {
 
     /** Whether a value of this type can change in place, as a {@code byte[]} or a {@code Date}. */
     boolean isMutable();
+
+    /**
+     * The digits behind the point of a number whose sums are those of what is kept: 0 for whole numbers, the scale of a
+     * decimal. Empty where adding means nothing, as for days, places of enums and doubles.
+     */
+    OptionalInt scale();
+
+    /** What the kept stands for, in words by which a store remembers it. */
+    String meaning();
 }

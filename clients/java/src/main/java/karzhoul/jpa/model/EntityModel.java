@@ -8,6 +8,9 @@ public interface EntityModel {
     /** Its name in queries. */
     String name();
 
+    /** Its name in the program's mapping and in its replies; another one where Java's isn't ASCII, or is too long. */
+    String mappedName();
+
     Class<?> javaClass();
 
     boolean isAbstract();
