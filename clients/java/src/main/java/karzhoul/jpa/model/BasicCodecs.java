@@ -18,7 +18,6 @@ import java.time.OffsetTime;
 import java.util.Arrays;
 import java.util.HashMap;
 import java.util.Map;
-import java.util.OptionalInt;
 import java.util.UUID;
 import java.util.function.Function;
 import java.util.stream.Collectors;
@@ -70,7 +69,7 @@ final class BasicCodecs {
 
     /** A decimal by its unscaled value; one that needs more digits is refused. */
     static Codec decimal(int scale) {
-        return new ValueCodec(Sort.INT, BigDecimal.class, false, OptionalInt.of(scale), "decimal of " + scale,
+        return new ValueCodec(Sort.INT, BigDecimal.class, false, "decimal of " + scale,
                 value -> unscaled((BigDecimal) value, scale), kept -> BigDecimal.valueOf((Long) kept, scale));
     }
 
@@ -153,7 +152,7 @@ final class BasicCodecs {
     }
 
     private static void whole(Class<?> type, Function<Object, Object> to, Function<Long, Object> back) {
-        FIXED.put(type, new ValueCodec(Sort.INT, type, false, OptionalInt.of(0), "whole", to, kept -> back.apply((Long) kept)));
+        FIXED.put(type, new ValueCodec(Sort.INT, type, false, "whole", to, kept -> back.apply((Long) kept)));
     }
 
     private static void add(Sort sort, Class<?> type, String meaning, Function<Object, Object> to, Function<Object, Object> back) {

@@ -1,7 +1,5 @@
 package karzhoul.jpa.model;
 
-import java.util.OptionalInt;
-
 /**
  * How values of a Java type are kept as a whole number, a text or bytes (chapters 2.6 and 3.9).
  * Order and equality of what is kept are those of the Java type, so that queries may compare it.
@@ -28,11 +26,8 @@ public interface Codec {
     boolean isMutable();
 
     /**
-     * The digits behind the point of a number whose sums are those of what is kept: 0 for whole numbers, the scale of a
-     * decimal. Empty where adding means nothing, as for days, places of enums and doubles.
+     * What the kept stands for: values of two codecs may be compared as they are kept where this is the same. "whole" is
+     * a number as itself, "decimal of 2" its hundreds, "text" a text as itself. A store remembers these words.
      */
-    OptionalInt scale();
-
-    /** What the kept stands for, in words by which a store remembers it. */
     String meaning();
 }

@@ -7,7 +7,6 @@ import java.lang.reflect.Type;
 import java.util.HashMap;
 import java.util.Map;
 import java.util.Optional;
-import java.util.OptionalInt;
 import java.util.Set;
 
 /** The converters of a unit (chapter 3.9). */
@@ -56,11 +55,6 @@ final class Converters {
         public boolean isMutable() {
             return !IMMUTABLE.contains(javaType) && !javaType.isEnum() && !javaType.isRecord()
                     && !javaType.getName().startsWith("java.time.");
-        }
-
-        @Override
-        public OptionalInt scale() {
-            return OptionalInt.empty();
         }
 
         @Override

@@ -1,7 +1,6 @@
 package karzhoul.jpa.model;
 
 import jakarta.persistence.PersistenceException;
-import java.util.OptionalInt;
 import java.util.function.Function;
 
 /**
@@ -11,14 +10,8 @@ import java.util.function.Function;
  * @param toValue the value of what is kept
  */
 record ValueCodec(
-        Sort sort, Class<?> javaType, boolean isMutable, OptionalInt scale, String meaning,
+        Sort sort, Class<?> javaType, boolean isMutable, String meaning,
         Function<Object, Object> toKept, Function<Object, Object> toValue) implements Codec {
-
-    /** Of values that aren't added. */
-    ValueCodec(Sort sort, Class<?> javaType, boolean isMutable, String meaning,
-            Function<Object, Object> toKept, Function<Object, Object> toValue) {
-        this(sort, javaType, isMutable, OptionalInt.empty(), meaning, toKept, toValue);
-    }
 
     @Override
     public Object toColumn(Object value) {
