@@ -6,8 +6,11 @@ import karzhoul.jpa.model.UnitModel;
 
 /** What queries need of the entity manager that they belong to. The context implements it. */
 public interface Asking {
-    /** An object of the program, as a row or a parameter names it. */
-    record Ref(long number) {}
+    /**
+     * An object of the program, as a row or a parameter names it. Only the context makes one: its number is of one
+     * run of the program, and what it holds finds the object again where that run has ended meanwhile.
+     */
+    record Ref(long number, Object held) {}
 
     UnitModel unit();
 
