@@ -1,0 +1,201 @@
+package karzhoul.jpa.context;
+
+import jakarta.persistence.OptimisticLockException;
+import jakarta.persistence.PersistenceException;
+import java.util.ArrayList;
+import java.util.HashSet;
+import java.util.LinkedHashSet;
+import java.util.List;
+import java.util.Set;
+import karzhoul.jpa.engine.Event;
+import karzhoul.jpa.engine.Lines;
+import karzhoul.jpa.engine.Ref;
+import karzhoul.jpa.model.Attribute;
+import karzhoul.jpa.model.Callbacks;
+import karzhoul.jpa.model.KeyModel;
+
+/**
+ * The flush (chapters 3.2.4 and 3.6). What changed is told, the program is asked which callbacks are due, and these
+ * run, until nothing new is due; only then does it write. One for each flush or commit.
+ */
+final class Flush {
+    private static final int MOST_ROUNDS = 100;
+
+    private final Context context;
+    private final Lines queue;
+
+    Flush(Context context) {
+        this.context = context;
+        queue = context.queue();
+    }
+
+    /** Flushes, where anything changed. */
+    void flush() {
+        prepare();
+        if (context.isTouched()) {
+            write();
+        }
+    }
+
+    /** Flushes and commits; nothing is asked where nothing changed since the begin. */
+    void commit() {
+        prepare();
+        if (context.isTouched() && context.factory().hearsAfter()) {
+            write();
+        }
+        if (!context.hasBegun()) {
+            context.committed();
+            return;
+        }
+        context.send();                 // a change that were refused must not be behind a commit that is done
+        queue.commit(context.manager());
+        context.ask(0);
+        List<Entry> written = take();
+        context.committed();
+        after(written);
+    }
+
+    /** Tells what changed, and runs what is due before the writes. */
+    private void prepare() {
+        context.pushAll();
+        if (!context.isTouched() || !context.factory().hearsBefore()) {
+            checkStale();
+            return;
+        }
+        context.begun();
+        Set<Event> due = new HashSet<>();
+        for (int round = 0; runDue(due); round++) {
+            if (round == MOST_ROUNDS) {
+                throw new PersistenceException("callbacks before the writes set each other off: after " + MOST_ROUNDS
+                    + " rounds each still changed something");
+            }
+            int before = queue.count();
+            context.pushAll();
+            if (queue.count() == before) {
+                break;
+            }
+        }
+        checkStale();
+    }
+
+    /** Asks which callbacks are due, and runs those that didn't; answers whether there were any. */
+    private boolean runDue(Set<Event> before) {
+        int from = queue.count();
+        queue.pending(context.manager());
+        List<Event> due = events(context.ask(from)[0].list());
+        boolean isNew = false;
+        List<Object> unknown = new ArrayList<>();
+        due.stream().filter(event -> context.identities().of(event.number()) == null)
+            .forEach(event -> unknown.add(new Ref(event.number())));
+        if (!unknown.isEmpty()) {
+            new Fill(context).entries(unknown);
+        }
+        for (Event event : due) {
+            Entry entry = context.identities().of(event.number());
+            if (entry != null && before.add(event)) {
+                isNew = true;
+                if (entry.isHollow()) {
+                    new Fill(context).proxy(entry);
+                }
+                context.runAhead(event.kind(), entry);
+            }
+        }
+        return isNew;
+    }
+
+    private static List<Event> events(List<Object> told) {
+        List<Event> events = new ArrayList<>(told.size());
+        for (Object one : told) {
+            List<?> pair = (List<?>) one;
+            events.add(new Event(Callbacks.Event.valueOf((String) pair.get(0)), (Long) pair.get(1)));
+        }
+        return events;
+    }
+
+    /** What is to be written over a row that another commit changed while this manager lived over the end of a run. */
+    private void checkStale() {
+        for (Entry entry : context.identities().numbered()) {
+            boolean isWritten = entry.isTouched() || entry.state() == Entry.State.REMOVED
+                || entry.lock() != jakarta.persistence.LockModeType.NONE;
+            if (entry.isStale() && isWritten) {
+                throw context.marked(new OptimisticLockException("OptimisticLock, " + entry
+                    + ": another commit changed or removed the row meanwhile; find it again, apply the change, commit",
+                    null, entry.instance()));
+            }
+        }
+    }
+
+    private void write() {
+        context.begun();
+        context.send();
+        queue.flush(context.manager());
+        context.ask(0);
+        after(take());
+    }
+
+    private final List<Event> later = new ArrayList<>();
+
+    /** Takes what the flush tells: states, keys, versions. */
+    private List<Entry> take() {
+        context.touched(false);
+        List<Event> events = context.takeEvents();
+        Set<Entry> written = new LinkedHashSet<>();
+        List<Entry> keyed = new ArrayList<>();
+        List<Object> unknown = new ArrayList<>();
+        for (Event event : events) {
+            Entry entry = context.identities().of(event.number());
+            if (entry == null) {
+                if (event.kind() == Callbacks.Event.PreRemove) {
+                    unknown.add(new Ref(event.number()));
+                }
+                continue;
+            }
+            if (context.told(event, entry) && entry.key() == null
+                    && entry.model().key().generation() == KeyModel.Generation.COUNTER) {
+                keyed.add(entry);
+            }
+            written.add(entry);
+        }
+        later.addAll(events);
+        keys(keyed);
+        return new ArrayList<>(written);
+    }
+
+    /** The keys that the program gave to what the flush's cascade reached. */
+    private void keys(List<Entry> keyed) {
+        if (keyed.isEmpty()) {
+            return;
+        }
+        for (Entry entry : keyed) {
+            queue.get(entry.number(), entry.model().key().parts().get(0).member());
+        }
+        var replies = context.ask(0);
+        for (int i = 0; i < replies.length; i++) {
+            Persist.giveKey(keyed.get(i), replies[i].ok());
+        }
+        keyed.forEach(context.identities()::put);
+    }
+
+    /** Runs the callbacks that the flush told, and that didn't run before it. */
+    private void after(List<Entry> written) {
+        List<Event> events = List.copyOf(later);
+        later.clear();
+        for (Event event : events) {
+            Entry entry = context.identities().of(event.number());
+            if (entry != null && event.kind() != Callbacks.Event.PostLoad && !context.wasRunAhead(event.kind(), entry)) {
+                context.run(event.kind(), entry);
+            }
+        }
+        context.forgetRunAhead();
+        for (Entry entry : written) {
+            if (!entry.isHollow()) {
+                entry.clean();
+            }
+        }
+    }
+
+    /** Whether an attribute is the version. */
+    static boolean isVersion(Attribute attribute) {
+        return attribute.role() == Attribute.Role.VERSION;
+    }
+}

@@ -1,0 +1,187 @@
+package karzhoul.jpa.context;
+
+import jakarta.persistence.CascadeType;
+import jakarta.persistence.EntityExistsException;
+import jakarta.persistence.PersistenceException;
+import java.util.ArrayDeque;
+import java.util.ArrayList;
+import java.util.Deque;
+import java.util.List;
+import java.util.UUID;
+import karzhoul.jpa.engine.Lines;
+import karzhoul.jpa.engine.Reply;
+import karzhoul.jpa.model.Attribute;
+import karzhoul.jpa.model.Callbacks;
+import karzhoul.jpa.model.EntityModel;
+import karzhoul.jpa.model.KeyModel;
+import karzhoul.jpa.model.Relation;
+
+/**
+ * persist (chapter 3.2.2). New instances that the cascade reaches become objects of the program first; their
+ * PrePersist runs before that, so it may give the key and add members. The cascade itself is the program's.
+ */
+final class Persist {
+    private final Context context;
+    private final Graph graph;
+    private final List<Object> fresh = new ArrayList<>();
+    private final List<Entry> made = new ArrayList<>();
+
+    Persist(Context context) {
+        this.context = context;
+        graph = new Graph(context);
+    }
+
+    /** Persists an instance, and what persist goes on to. */
+    void of(Object root) {
+        Entry known = context.entryOf(root);
+        if (known != null && known.isHollow()) {
+            return;
+        }
+        List<Entry> reached = reach(root);
+        try {
+            Push push = context.push();
+            for (Object instance : fresh) {
+                Entry entry = push.known(instance);
+                made.add(entry);
+            }
+            push.these(reached);
+            push.these(made);
+            made.forEach(this::checkKey);
+            send(context.entryOf(root));
+        } catch (RuntimeException e) {
+            made.stream().filter(entry -> entry.state() == Entry.State.NEW).forEach(context::forget);
+            throw context.marked(e);
+        }
+    }
+
+    /** Prepares all that is new along the cascade; answers what is managed already. */
+    private List<Entry> reach(Object root) {
+        List<Entry> managed = new ArrayList<>();
+        Deque<Object> work = new ArrayDeque<>(List.of(root));
+        graph.add(root);
+        for (Object instance; (instance = work.poll()) != null; ) {
+            Entry entry = context.entryOf(instance);
+            if (entry != null && entry.isManaged()) {
+                managed.add(entry);
+            } else {
+                prepare(instance, entry);
+            }
+            for (Relation relation : context.modelOf(instance).relations()) {
+                if (relation.cascades().contains(CascadeType.PERSIST)) {
+                    graph.along(instance, relation, work);
+                }
+            }
+        }
+        return managed;
+    }
+
+    private void prepare(Object instance, Entry entry) {
+        EntityModel model = context.modelOf(instance);
+        if (entry != null && entry.state() == Entry.State.DETACHED || entry == null && isKnownDetached(model, instance)) {
+            throw context.marked(new EntityExistsException("EntityExists: a detached " + model.name()
+                + " can't be persisted, nor be reached by persist: merge it"));
+        }
+        if (entry == null || entry.state() == Entry.State.NEW || !entry.isStored()) {
+            giveUuid(model, instance);
+            Entry ahead = entry == null ? aheadOf(model, instance) : entry;
+            context.runAhead(Callbacks.Event.PrePersist, ahead);
+        }
+        deriveKey(model, instance);
+        fresh.add(instance);
+    }
+
+    /** A generated key that is set, or a proxy that isn't this context's, is of what was stored before. */
+    private static boolean isKnownDetached(EntityModel model, Object instance) {
+        return instance instanceof Proxied
+            || model.key().generation() == KeyModel.Generation.COUNTER && Targets.keyOf(model, instance) != null;
+    }
+
+    private Entry aheadOf(EntityModel model, Object instance) {
+        Entry entry = new Entry(model, context, Entry.State.NEW);
+        entry.instance(instance);
+        entry.number(context.newNumber(model));
+        context.identities().put(entry);
+        return entry;
+    }
+
+    private static void giveUuid(EntityModel model, Object instance) {
+        Attribute part = model.key().parts().get(0);
+        if (model.key().generation() == KeyModel.Generation.UUID && part.get(instance) == null) {
+            UUID made = UUID.randomUUID();
+            part.set(instance, part.codec().javaType() == UUID.class ? made : made.toString());
+        }
+    }
+
+    /** Copies the keys of those from which its key is derived (chapter 2.4.1). */
+    private void deriveKey(EntityModel model, Object instance) {
+        for (KeyModel.Derived derived : model.key().derived()) {
+            Object from = derived.from().get(instance);
+            if (from == null) {
+                throw context.marked(new PersistenceException("the key of a new " + model.name() + " is that of its "
+                    + derived.from().path() + ", which is null"));
+            }
+            Entry target = context.entryOf(from);
+            boolean isNew = target == null || target.state() == Entry.State.NEW;
+            if (isNew && derived.from().cascades().contains(CascadeType.PERSIST)) {
+                new Persist(context).of(from);
+            }
+            List<Object> key = Targets.keyOf(context.modelOf(from), from);
+            if (key == null) {
+                throw context.marked(new IllegalStateException("the key of a new " + model.name() + " is that of its "
+                    + derived.from().path() + ", which has none yet: persist it first"));
+            }
+            for (int i = 0; i < key.size(); i++) {
+                Attribute part = derived.parts().get(i);
+                part.set(instance, part.codec().toAttribute(key.get(i)));
+            }
+        }
+    }
+
+    private void checkKey(Entry entry) {
+        EntityModel model = entry.model();
+        if (model.key().generation() == KeyModel.Generation.COUNTER) {
+            return;
+        }
+        List<Object> key = Targets.keyOf(model, entry.instance());
+        if (key == null) {
+            throw new PersistenceException("Persistence(key): part of the key of a new " + model.name()
+                + " is null; set it before persist, or in a PrePersist callback");
+        }
+        Entry other = context.identities().of(model, key);
+        if (other != null && other != entry) {
+            throw new EntityExistsException("EntityExists, " + other + ": another instance of this key is "
+                + (other.isManaged() ? "managed" : "removed in this transaction"));
+        }
+        entry.key(key);
+    }
+
+    private void send(Entry root) {
+        Lines queue = context.queue();
+        queue.persist(context.manager(), root.number()).about(root);
+        context.touched(true);
+        List<Entry> keyed = made.stream()
+            .filter(entry -> entry.key() == null && entry.model().key().generation() == KeyModel.Generation.COUNTER).toList();
+        int from = queue.count();
+        for (Entry entry : keyed) {
+            queue.get(entry.number(), entry.model().key().parts().get(0).member());
+        }
+        if (!keyed.isEmpty()) {
+            Reply[] replies = context.ask(from);
+            for (int i = 0; i < replies.length; i++) {
+                giveKey(keyed.get(i), replies[i].ok());
+            }
+        }
+        for (Entry entry : made) {
+            entry.state(Entry.State.MANAGED);
+            context.identities().put(entry);
+        }
+    }
+
+    static void giveKey(Entry entry, Object column) {
+        Attribute part = entry.model().key().parts().get(0);
+        Object value = part.codec().toAttribute(column);
+        part.set(entry.instance(), value);
+        entry.values[part.place()] = value;
+        entry.key(List.of(column));
+    }
+}
