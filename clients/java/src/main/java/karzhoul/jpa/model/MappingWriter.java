@@ -15,6 +15,7 @@ final class MappingWriter {
     static String write(List<PlainEntity> entities) {
         List<Object> all = new ArrayList<>();
         entities.forEach(entity -> all.add(entity(entity)));
+        all.add(StoredDescription.mapped());
         return Json.write(Json.object("revision", 1, "entities", all));
     }
 

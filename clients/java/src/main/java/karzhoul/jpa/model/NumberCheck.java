@@ -6,7 +6,8 @@ import java.util.Map;
 
 /** Checks what the mapping asks: numbers and discriminators that are distinct, and no more than there may be. */
 final class NumberCheck {
-    private static final int MOST_ENTITIES = 64;
+    /** The program has 64; one of them is the description of the store. */
+    private static final int MOST_ENTITIES = 63;
     private static final int MOST_MEMBERS = 64;
 
     private final Faults faults;

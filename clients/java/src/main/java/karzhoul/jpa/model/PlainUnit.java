@@ -11,11 +11,13 @@ final class PlainUnit implements UnitModel {
     private final Map<String, EntityModel> byName = new HashMap<>();
     private final Map<String, Named> namedQueries;
     private final String mapping;
+    private final String description;
 
-    PlainUnit(List<PlainEntity> entities, Map<String, Named> namedQueries, String mapping) {
+    PlainUnit(List<PlainEntity> entities, Map<String, Named> namedQueries, String mapping, String description) {
         this.entities = List.copyOf(entities);
         this.namedQueries = Map.copyOf(namedQueries);
         this.mapping = mapping;
+        this.description = description;
         for (PlainEntity entity : entities) {
             byClass.put(entity.javaClass(), entity);
             byName.put(entity.name(), entity);
@@ -48,6 +50,11 @@ final class PlainUnit implements UnitModel {
     @Override
     public String mapping() {
         return mapping;
+    }
+
+    @Override
+    public String description() {
+        return description;
     }
 
     @Override

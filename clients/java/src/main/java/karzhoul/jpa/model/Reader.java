@@ -24,7 +24,9 @@ public final class Reader {
     private final Map<Class<?>, KeyReader.Draft> roots = new LinkedHashMap<>();
     private final Names entityNames = new Names();
 
-    private Reader() {}
+    private Reader() {
+        entityNames.give(StoredDescription.ENTITY);
+    }
 
     /**
      * The unit of these classes, which may stand in any order.
@@ -67,7 +69,7 @@ public final class Reader {
             return null;
         }
         all.forEach(PlainEntity::order);
-        return new PlainUnit(all, queries, MappingWriter.write(all));
+        return new PlainUnit(all, queries, MappingWriter.write(all), DescriptionWriter.write(all));
     }
 
     private void readEntity(Class<?> javaClass, Set<Class<?>> classes) {

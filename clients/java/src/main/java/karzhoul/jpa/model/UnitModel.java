@@ -23,5 +23,11 @@ public interface UnitModel {
     /** The mapping of the program, as JSON. */
     String mapping();
 
+    /**
+     * What the rows of a store mean, by the names of tables and columns: a line for each, its name before a tab. Two units
+     * may share a store where this is the same.
+     */
+    String description();
+
     Map<String, Named> namedQueries();
 }
