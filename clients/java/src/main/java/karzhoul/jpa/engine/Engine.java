@@ -65,6 +65,27 @@ public final class Engine implements AutoCloseable {
     }
 
     /**
+     * Reads what the store says of itself, before anything else is asked.
+     *
+     * @throws ProgramEnded where the program didn't open the store
+     * @throws PersistenceException where the store was written with other classes
+     */
+    void check(StoreDescription description) {
+        lock.lock();
+        try {
+            description.check(out, in);
+        } catch (IOException e) {
+            end = e;
+            throw ended(e);
+        } catch (PersistenceException e) {
+            close();
+            throw e;
+        } finally {
+            lock.unlock();
+        }
+    }
+
+    /**
      * Sends these calls, and answers their replies in order, refused or not.
      *
      * @throws ProgramEnded where the program has ended

@@ -20,21 +20,38 @@ public final class Program {
 
     private final String store;
     private final String mapping;
+    private final String description;
     private final Path mappingFile;
     private final Path memory;
     private final Pool pool;
     private int users;
 
-    private Program(String store, String program, String mapping, Consumer<String> log) throws IOException {
+    private Program(String store, String program, String mapping, String description, Consumer<String> log) throws IOException {
         this.store = store;
         this.mapping = mapping;
+        this.description = description;
         mappingFile = Files.createTempFile("karzhoul", ".json");
         Files.writeString(mappingFile, mapping);
         memory = store.equals(MEMORY) ? memoryFile() : null;
         String file = memory == null ? store : memory.toString();
         List<String> command = List.of(program, "--mapping", mappingFile.toString(), "--db", file);
         Journal journal = log == null ? null : new Journal(log);
-        pool = new Pool(() -> new Engine(command, journal));
+        StoreDescription described = memory == null ? new StoreDescription(Path.of(store), description) : null;
+        pool = new Pool(() -> started(command, journal, described));
+    }
+
+    private static Engine started(List<String> command, Journal journal, StoreDescription described) {
+        if (described == null) {
+            return new Engine(command, journal);
+        }
+        described.prepare();
+        Engine engine = new Engine(command, journal);
+        try {
+            engine.check(described);
+        } catch (ProgramEnded refused) {
+            throw described.explained(command.get(0), refused);
+        }
+        return engine;
     }
 
     /**
@@ -43,30 +60,32 @@ public final class Program {
      * @param url {@code karzhoul:FILE} or {@code karzhoul:memory}
      * @param program the executable
      * @param mapping the mapping, as JSON
+     * @param description what the rows of the store mean
      * @param log takes each call with its answer, or null
      * @throws PersistenceException where the url is none, the program can't be started, it refuses the mapping or the
      *     store, or another unit of this JVM has the store open with another mapping
      */
-    public static Program open(String url, String program, String mapping, Consumer<String> log) {
+    public static Program open(String url, String program, String mapping, String description, Consumer<String> log) {
         String store = storeOf(url);
         synchronized (OPEN) {
             Program shared = OPEN.get(store);
             if (shared == null) {
-                shared = start(store, program, mapping, log);
+                shared = start(store, program, mapping, description, log);
                 OPEN.put(store, shared);
-            } else if (!shared.mapping.equals(mapping)) {
+            } else if (!shared.mapping.equals(mapping) || !shared.description.equals(description)) {
                 throw new PersistenceException(url + " is open in this JVM with another mapping: units that share a"
-                    + " store must have the same entities");
+                    + " store must have the same entities" + StoreDescription.differences(shared.description, description));
             }
             shared.users++;
             return shared;
         }
     }
 
-    private static Program start(String store, String executable, String mapping, Consumer<String> log) {
+    private static Program start(
+            String store, String executable, String mapping, String description, Consumer<String> log) {
         Program program;
         try {
-            program = new Program(store, executable, mapping, log);
+            program = new Program(store, executable, mapping, description, log);
         } catch (IOException e) {
             throw new PersistenceException("no file could be made for the mapping or the store: " + e.getMessage(), e);
         }

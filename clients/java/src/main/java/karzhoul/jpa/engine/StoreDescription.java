@@ -49,12 +49,16 @@ public final class StoreDescription {
     /**
      * To be called before the program opens the store.
      *
-     * @throws IOException where the mark of a new store can't be made
+     * @throws PersistenceException where the mark of a new store can't be made
      */
-    public void prepare() throws IOException {
-        isNew = !Files.exists(store) || Files.size(store) == 0 || Files.exists(mark);
-        if (isNew && !Files.exists(mark)) {
-            Files.createFile(mark);
+    public void prepare() {
+        try {
+            isNew = !Files.exists(store) || Files.size(store) == 0 || Files.exists(mark);
+            if (isNew && !Files.exists(mark)) {
+                Files.createFile(mark);
+            }
+        } catch (IOException fault) {
+            throw new PersistenceException("The store " + store + " can't be made: " + fault, fault);
         }
     }
 

@@ -161,7 +161,7 @@ final class KeyReader {
 
     /** Where an id class has the member of this name: a field, or else a property. */
     private Optional<Place> memberOf(Class<?> idClass, Member member) {
-        Optional<Member> found = IdClasses.member(idClass, member.name());
+        Optional<Member> found = NamedMembers.find(idClass, member.name());
         if (found.isEmpty()) {
             faults.add(idClass, "it has no member " + member.name() + ", as the key of " + member.declaring().getName() + " has",
                     "Add one of the same type");

@@ -8,6 +8,7 @@ import java.util.LinkedHashMap;
 import java.util.LinkedHashSet;
 import java.util.List;
 import java.util.Map;
+import java.util.Objects;
 import java.util.Set;
 import karzhoul.jpa.model.Fault;
 import karzhoul.jpa.model.Reader;
@@ -37,6 +38,7 @@ final class UnitReader {
         if (given != null) {
             given.forEach((name, value) -> all.put(String.valueOf(name), value));
         }
+        all.values().removeIf(Objects::isNull);
         return all;
     }
 

@@ -4,13 +4,21 @@ import java.lang.reflect.Field;
 import java.lang.reflect.Method;
 import java.util.Optional;
 
-/** Finds the members of id classes (chapter 2.4). */
-final class IdClasses {
-    private IdClasses() {}
+/** Finds members by their names, whatever annotations they have: of id classes (chapter 2.4), and of any instance. */
+public final class NamedMembers {
+    private NamedMembers() {}
+
+    /**
+     * What an instance has in a field, else in a property, of this name; empty where it has neither, its module is closed,
+     * or it is null there. A getter that raises raises here.
+     */
+    public static Optional<Object> value(Object instance, String name) {
+        return find(instance.getClass(), name).map(member -> member.accessor().get(instance));
+    }
 
     /** The field of this name, else the property; empty where there is neither, or its module is closed. */
-    static Optional<Member> member(Class<?> idClass, String name) {
-        for (Class<?> at = idClass; at != null && at != Object.class; at = at.getSuperclass()) {
+    static Optional<Member> find(Class<?> javaClass, String name) {
+        for (Class<?> at = javaClass; at != null && at != Object.class; at = at.getSuperclass()) {
             try {
                 Field field = at.getDeclaredField(name);
                 return Optional.of(new Member(name, at, field.getGenericType(), field, Accessor.of(field)));
