@@ -1,0 +1,64 @@
+package karzhoul.jpa.query;
+
+import java.util.ArrayList;
+import java.util.List;
+
+/** A text of the program's language, parts of which are known as it is executed. */
+final class Text {
+    /** A part that is known as the statement is executed. */
+    interface Part {
+        void write(Binding binding, StringBuilder text);
+    }
+
+    private final List<Part> parts = new ArrayList<>();
+    private final StringBuilder fixed = new StringBuilder();
+
+    static Text of(String text) {
+        return new Text().add(text);
+    }
+
+    Text add(String more) {
+        fixed.append(more);
+        return this;
+    }
+
+    Text add(Part part) {
+        flush();
+        parts.add(part);
+        return this;
+    }
+
+    Text add(Text more) {
+        more.flush();
+        flush();
+        parts.addAll(more.parts);
+        return this;
+    }
+
+    private void flush() {
+        if (!fixed.isEmpty()) {
+            String constant = fixed.toString();
+            parts.add((binding, text) -> text.append(constant));
+            fixed.setLength(0);
+        }
+    }
+
+    /** The text for these values. */
+    String written(Binding binding) {
+        flush();
+        StringBuilder text = new StringBuilder();
+        for (Part part : parts) {
+            part.write(binding, text);
+        }
+        return text.toString();
+    }
+
+    /** The texts with something between. */
+    static Text joined(String between, List<Text> all) {
+        Text text = new Text();
+        for (int place = 0; place < all.size(); place++) {
+            text.add(place == 0 ? "" : between).add(all.get(place));
+        }
+        return text;
+    }
+}
