@@ -1,6 +1,7 @@
 package karzhoul.jpa.query;
 
 import jakarta.persistence.FlushModeType;
+import jakarta.persistence.LockModeType;
 import java.util.List;
 import karzhoul.jpa.model.UnitModel;
 
@@ -19,6 +20,12 @@ public interface Asking {
 
     /** Refuses where no transaction is open: TransactionRequiredException. */
     void needTransaction();
+
+    /** The manager's own flush mode. */
+    FlushModeType flushMode();
+
+    /** Locks an instance of a result, as {@code EntityManager.lock} does (chapter 3.4.4). */
+    void lock(Object instance, LockModeType mode);
 
     /** Flushes first, where this mode and an open transaction ask for it (chapter 3.10.8); runs callbacks. */
     void flushBefore(FlushModeType mode);

@@ -27,7 +27,7 @@ final class BlockWriter {
             Source source = sources.get(place);
             String name = names.of(source.variable());
             if (source instanceof Range range) {
-                text.add(place == 0 ? "" : ", ").add(range.variable().entity.name() + " " + name);
+                text.add(place == 0 ? "" : ", ").add(range.variable().entity.mappedName() + " " + name);
             } else if (source instanceof Derived derived) {
                 text.add(place == 0 ? "" : ", ").add(values.path((Reference) derived.path()) + " " + name);
             } else {

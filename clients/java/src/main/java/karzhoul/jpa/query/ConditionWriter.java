@@ -293,7 +293,7 @@ final class ConditionWriter {
 
     private List<String> entities(Binding binding, Value value) {
         if (value instanceof EntityName name) {
-            return List.of(name.entity().name());
+            return List.of(name.entity().mappedName());
         }
         List<String> names = new ArrayList<>();
         for (Object one : list(binding, (Parameter) value)) {
@@ -301,7 +301,7 @@ final class ConditionWriter {
                 throw new IllegalArgumentException("the parameter " + value + ": the class of an entity is expected");
             }
             EntityModel entity = unit.of(type);
-            names.add(entity.name());
+            names.add(entity.mappedName());
         }
         if (names.isEmpty()) {
             throw new IllegalArgumentException("the parameter " + value + ": a class at least is expected");

@@ -45,19 +45,24 @@ sealed interface Unit {
     /** Whether values of both are the same where the program has the same. */
     default boolean isSame(Unit other) {
         if (this instanceof Kept mine && other instanceof Kept its) {
-            return mine.codec == its.codec || mine.codec.sort() == its.codec.sort()
-                    && mine.codec.meaning().equals(its.codec.meaning());
+            return mine.codec.equals(its.codec) || mine.codec.sort() == its.codec.sort()
+                    && mine.codec.meaning().equals(its.codec.meaning()) && !isConverted(mine.codec);
         }
         return equals(other);
     }
 
-    /** The value of which the program has this. */
+    /** Whether a converter of the application stands between; what two of them keep is not the same. */
+    private static boolean isConverted(Codec codec) {
+        return codec.meaning().endsWith(" by a converter");
+    }
+
+    /** The value of which the program has this; a converter is asked of null too. */
     default Object decoded(Object column, Type type) {
-        if (column == null || this instanceof Thing) {
-            return column;
-        }
         if (this instanceof Kept kept) {
             return kept.codec.toAttribute(column);
+        }
+        if (column == null || this instanceof Thing) {
+            return column;
         }
         if (this instanceof Whole whole) {
             return number((Long) column, whole.scale, type.java());
