@@ -22,6 +22,7 @@ import karzhoul.jpa.engine.Reply;
 import karzhoul.jpa.engine.Session;
 import karzhoul.jpa.model.Callbacks;
 import karzhoul.jpa.model.EntityModel;
+import karzhoul.jpa.model.KeyModel;
 import karzhoul.jpa.model.Relation;
 import karzhoul.jpa.model.UnitModel;
 
@@ -38,6 +39,7 @@ final class Context {
     private final Map<Entry, Set<Callbacks.Event>> heard = new IdentityHashMap<>();
     private final BitSet detached = new BitSet();
     private final Map<Long, WeakReference<Object>> lost = new HashMap<>();
+    private final List<Entry> touched = new ArrayList<>();
     private Session session;
     private int depth;
     private boolean isActive;
@@ -45,6 +47,8 @@ final class Context {
     private boolean isBeginSent;
     private boolean isMarked;
     private boolean isTouched;
+    private boolean hasStale;
+    private boolean isClosing;
 
     Context(Factory factory) {
         this.factory = factory;
@@ -81,22 +85,45 @@ final class Context {
 
     /** Does one operation that asks the program: it is busy meanwhile, and what it left waiting is sent at its end. */
     <T> T within(Supplier<T> operation) {
-        boolean isOuter = depth == 0 && !hasBegun;
-        if (isOuter) {
-            enter();
+        if (depth > 0 || hasBegun) {
+            return deeper(operation);
         }
+        enter();
+        T done;
+        try {
+            done = deeper(operation);
+        } catch (RuntimeException | Error e) {
+            try {
+                finish();
+            } catch (RuntimeException second) {
+                e.addSuppressed(second);
+            }
+            throw e;
+        }
+        finish();
+        return done;
+    }
+
+    private <T> T deeper(Supplier<T> operation) {
         depth++;
         try {
-            T done = operation.get();
-            if (depth == 1 && !isActive && !queue.isEmpty()) {
-                ask(queue.count());
-            }
-            return done;
+            return operation.get();
         } finally {
             depth--;
-            if (isOuter && !hasBegun) {
-                leave();
+        }
+    }
+
+    /** What is told of instances must reach the program, also where the operation was refused then. */
+    private void finish() {
+        if (hasBegun) {
+            return;
+        }
+        try {
+            if (session != null && session.engine().isRunning()) {
+                send();
             }
+        } finally {
+            leave();
         }
     }
 
@@ -178,6 +205,43 @@ final class Context {
         }
     }
 
+    /** Whether the program's manager has a transaction, as far as it was told. */
+    boolean isBegunThere() {
+        return isBeginSent;
+    }
+
+    /** Sends what waits. */
+    void send() {
+        if (!queue.isEmpty()) {
+            ask(queue.count());
+        }
+    }
+
+    /** A push of this context's changes. */
+    Push push() {
+        return factory.pushing().apply(this);
+    }
+
+    /** The program was told of a change of it, since its row was read or written. */
+    void hasTouched(Entry entry) {
+        touched.add(entry);
+    }
+
+    /** All that was told is written. */
+    void cleanTouched() {
+        touched.forEach(Entry::clean);
+        touched.clear();
+    }
+
+    boolean hasStale() {
+        return hasStale;
+    }
+
+    void setStale(Entry entry) {
+        entry.stale(true);
+        hasStale = true;
+    }
+
     /** Whether the program was told of a change since the last flush. */
     boolean isTouched() {
         return isTouched;
@@ -185,10 +249,6 @@ final class Context {
 
     void touched(boolean is) {
         isTouched = is;
-    }
-
-    boolean hasBegun() {
-        return hasBegun;
     }
 
     /** The transaction has ended at the program, by a commit that was done. */
@@ -204,6 +264,9 @@ final class Context {
             entry.lock(LockModeType.NONE);
         }
         heard.clear();
+        if (isClosing) {
+            letAllGo();
+        }
         leave();
     }
 
@@ -282,7 +345,8 @@ final class Context {
             try {
                 entry.model().callbacks().run(event, entry.instance());
             } catch (RuntimeException | Error e) {
-                throw marked(e);
+                mark();
+                throw e;
             }
         }
     }
@@ -291,6 +355,43 @@ final class Context {
     void runAhead(Callbacks.Event event, Entry entry) {
         if (heard.computeIfAbsent(entry, e -> EnumSet.noneOf(Callbacks.Event.class)).add(event)) {
             run(event, entry);
+        }
+    }
+
+    /** They ran in an earlier run, and don't run again. */
+    void hush(Callbacks.Event event, Entry entry) {
+        heard.computeIfAbsent(entry, e -> EnumSet.noneOf(Callbacks.Event.class)).add(event);
+    }
+
+    /**
+     * Takes what an event tells of an entry's state and version.
+     *
+     * @return whether it is managed by that
+     */
+    boolean told(Event event, Entry entry) {
+        switch (event.kind()) {
+            case PrePersist:
+                if (entry.key() == null && entry.model().key().generation() != KeyModel.Generation.COUNTER) {
+                    entry.key(Targets.keyOf(entry.model(), entry.instance()));
+                }
+                entry.state(Entry.State.MANAGED);
+                identities.put(entry);
+                return true;
+            case PreRemove:
+                entry.state(Entry.State.REMOVED);
+                return false;
+            case PostPersist:
+                entry.stored(true);
+                entry.version(0);
+                return false;
+            case PostUpdate:
+                entry.raiseVersion();
+                return false;
+            case PostRemove:
+                entry.stored(false);
+                return false;
+            default:
+                return false;
         }
     }
 
@@ -384,6 +485,8 @@ final class Context {
         lost.clear();
         told.clear();
         heard.clear();
+        touched.clear();
+        hasStale = false;
     }
 
     /** Detaches all (chapter 3.2.7); an open transaction goes on. */
@@ -397,6 +500,14 @@ final class Context {
         } else {
             factory.pool().giveBack(session, true);
             session = null;
+        }
+    }
+
+    /** Its entity manager is closed: what it has is let go now, or once its transaction ends. */
+    void close() {
+        isClosing = true;
+        if (!isActive) {
+            clear();
         }
     }
 

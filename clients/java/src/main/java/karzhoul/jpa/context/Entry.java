@@ -177,9 +177,22 @@ final class Entry {
         context.fillProxy(this);
     }
 
-    /** The place of the version among the values, or -1. */
-    int versionPlace() {
-        return model.version().map(Attribute::place).orElse(-1);
+    /** Its row has this version now. */
+    void version(long now) {
+        if (model.version().isPresent()) {
+            Attribute version = model.version().get();
+            Object value = version.codec().toAttribute(now);
+            version.set(instance, value);
+            values[version.place()] = value;
+        }
+    }
+
+    /** Its row was written again. */
+    void raiseVersion() {
+        if (model.version().isPresent()) {
+            Attribute version = model.version().get();
+            version(1 + (Long) version.codec().toColumn(values[version.place()]));
+        }
     }
 
     @Override

@@ -5,6 +5,7 @@ import java.lang.ref.WeakReference;
 import java.util.ArrayList;
 import java.util.Arrays;
 import java.util.HashMap;
+import java.util.HashSet;
 import java.util.LinkedHashSet;
 import java.util.List;
 import java.util.Map;
@@ -24,7 +25,7 @@ import karzhoul.jpa.model.Relation;
  * once all is in. One for each reading.
  */
 final class Fill {
-    private static final int CHUNK = 4_000;
+    static final int CHUNK = 4_000;
 
     /** A relation that was told, or is to be read. */
     private record Told(Entry owner, Relation relation, Object told) {}
@@ -36,6 +37,7 @@ final class Fill {
     private final List<Entry> loaded = new ArrayList<>();
     private final List<Told> links = new ArrayList<>();
     private final List<Told> collections = new ArrayList<>();
+    private final Set<Long> merged = new HashSet<>();
     private List<Told> unread = new ArrayList<>();
 
     Fill(Context context) {
@@ -47,7 +49,7 @@ final class Fill {
     Entry found(EntityModel model, List<Object> key) {
         Lines queue = context.queue();
         int from = queue.count();
-        queue.find(context.manager(), model.name(), key).about(model.name() + " " + key);
+        queue.find(context.manager(), model.mappedName(), key).about(model.name() + " " + key);
         long[] next = new long[1];
         Reply[] replies = context.ask(from, (lines, number) -> {
             next[0] = number;
@@ -71,7 +73,7 @@ final class Fill {
         Lines queue = context.queue();
         int from = queue.count();
         for (int i = 0; i < keys.size(); i++) {
-            queue.find(context.manager(), models.get(i).name(), keys.get(i)).about(models.get(i).name() + keys.get(i));
+            queue.find(context.manager(), models.get(i).mappedName(), keys.get(i)).about(models.get(i).name() + keys.get(i));
         }
         List<Object> refs = new ArrayList<>();
         for (Reply reply : context.ask(from)) {
@@ -118,10 +120,29 @@ final class Fill {
         complete();
     }
 
-    /** Takes what was shown of an object already. */
-    void shown(long number, Shown shown) {
-        take(number, shown);
+    /**
+     * Reads what a merge has made of these objects: it is no row yet, and no PostLoad runs.
+     *
+     * @param persisted those that are new
+     */
+    void merged(Iterable<Long> numbers, Set<Long> persisted) {
+        for (long number : numbers) {
+            Entry known = identities.of(number);
+            if (known != null) {
+                known.touch();
+            }
+            wanted.add(number);
+        }
+        merged.addAll(wanted);
         complete();
+        for (long number : numbers) {
+            Entry entry = identities.of(number);
+            entry.touch();
+            context.hasTouched(entry);
+            if (persisted.contains(number)) {
+                entry.stored(false);
+            }
+        }
     }
 
     /** Reads the members of a collection. */
@@ -211,18 +232,21 @@ final class Fill {
     }
 
     private void take(long number, Shown shown) {
-        EntityModel model = context.unit().named(shown.entity());
+        EntityModel model = context.factory().mapped(shown.entity());
         Object[] values = shown.values();
         List<Object> key = List.of(Arrays.copyOf(values, model.key().parts().size()));
         Entry entry = entryFor(number, model, key);
         entry.hollow(false);
-        entry.stored(true);
+        if (!merged.contains(number)) {
+            entry.stored(true);
+            entry.clean();
+        }
         values(entry, values);
         List<Relation> relations = model.relations();
         for (int i = 0; i < relations.size(); i++) {
             relation(entry, relations.get(i), shown.relations()[i]);
         }
-        if (entry.context() != null) {
+        if (entry.context() != null && !merged.contains(number)) {
             loaded.add(entry);
         }
     }
@@ -271,7 +295,6 @@ final class Fill {
             entry.values[i] = columns[i] == null ? Values.kept(attribute, attribute.get(entry.instance()))
                 : attribute.codec().isMutable() ? columns[i] : value;
         }
-        entry.clean();
     }
 
     private void relation(Entry entry, Relation relation, Object told) {

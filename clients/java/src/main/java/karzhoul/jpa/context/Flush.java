@@ -1,18 +1,16 @@
 package karzhoul.jpa.context;
 
+import jakarta.persistence.LockModeType;
 import jakarta.persistence.OptimisticLockException;
 import jakarta.persistence.PersistenceException;
 import java.util.ArrayList;
 import java.util.HashSet;
-import java.util.LinkedHashSet;
 import java.util.List;
 import java.util.Set;
 import karzhoul.jpa.engine.Event;
 import karzhoul.jpa.engine.Lines;
 import karzhoul.jpa.engine.Ref;
-import karzhoul.jpa.model.Attribute;
 import karzhoul.jpa.model.Callbacks;
-import karzhoul.jpa.model.KeyModel;
 
 /**
  * The flush (chapters 3.2.4 and 3.6). What changed is told, the program is asked which callbacks are due, and these
@@ -23,6 +21,7 @@ final class Flush {
 
     private final Context context;
     private final Lines queue;
+    private final List<Event> later = new ArrayList<>();
 
     Flush(Context context) {
         this.context = context;
@@ -40,42 +39,51 @@ final class Flush {
     /** Flushes and commits; nothing is asked where nothing changed since the begin. */
     void commit() {
         prepare();
-        if (context.isTouched() && context.factory().hearsAfter()) {
+        if (context.isTouched() && context.factory().hearsWrites()) {
             write();
         }
-        if (!context.hasBegun()) {
+        if (!context.isTouched() && !context.isBegunThere()) {
             context.committed();
             return;
         }
         context.send();                 // a change that were refused must not be behind a commit that is done
         queue.commit(context.manager());
         context.ask(0);
-        List<Entry> written = take();
+        take(false);
         context.committed();
-        after(written);
+        context.forgetRunAhead();
     }
 
     /** Tells what changed, and runs what is due before the writes. */
     private void prepare() {
-        context.pushAll();
-        if (!context.isTouched() || !context.factory().hearsBefore()) {
+        push();
+        if (context.isTouched() && context.factory().hearsBefore()) {
+            Set<Event> due = new HashSet<>();
+            for (int round = 0; runDue(due); round++) {
+                if (round == MOST_ROUNDS) {
+                    throw new PersistenceException("callbacks before the writes set each other off: after "
+                        + MOST_ROUNDS + " rounds each still changed something");
+                }
+                int before = queue.count();
+                push();
+                if (queue.count() == before) {
+                    break;
+                }
+            }
+        }
+        if (context.hasStale()) {
             checkStale();
-            return;
         }
-        context.begun();
-        Set<Event> due = new HashSet<>();
-        for (int round = 0; runDue(due); round++) {
-            if (round == MOST_ROUNDS) {
-                throw new PersistenceException("callbacks before the writes set each other off: after " + MOST_ROUNDS
-                    + " rounds each still changed something");
-            }
-            int before = queue.count();
-            context.pushAll();
-            if (queue.count() == before) {
-                break;
+    }
+
+    private void push() {
+        Push push = context.push();
+        push.all();
+        for (Entry orphan : push.orphans()) {
+            if (orphan.isManaged()) {
+                new Operations(context).remove(orphan);
             }
         }
-        checkStale();
     }
 
     /** Asks which callbacks are due, and runs those that didn't; answers whether there were any. */
@@ -116,7 +124,7 @@ final class Flush {
     private void checkStale() {
         for (Entry entry : context.identities().numbered()) {
             boolean isWritten = entry.isTouched() || entry.state() == Entry.State.REMOVED
-                || entry.lock() != jakarta.persistence.LockModeType.NONE;
+                || entry.lock() != LockModeType.NONE;
             if (entry.isStale() && isWritten) {
                 throw context.marked(new OptimisticLockException("OptimisticLock, " + entry
                     + ": another commit changed or removed the row meanwhile; find it again, apply the change, commit",
@@ -126,58 +134,46 @@ final class Flush {
     }
 
     private void write() {
-        context.begun();
         context.send();
         queue.flush(context.manager());
         context.ask(0);
-        after(take());
+        take(true);
+        after();
     }
 
-    private final List<Event> later = new ArrayList<>();
-
-    /** Takes what the flush tells: states, keys, versions. */
-    private List<Entry> take() {
+    /** Takes what the flush tells: states, keys, versions. What it loaded and removed is read where that is possible. */
+    private void take(boolean isOpen) {
         context.touched(false);
         List<Event> events = context.takeEvents();
-        Set<Entry> written = new LinkedHashSet<>();
-        List<Entry> keyed = new ArrayList<>();
-        List<Object> unknown = new ArrayList<>();
+        if (isOpen) {
+            readRemoved(events);
+        }
+        List<Entry> persisted = new ArrayList<>();
         for (Event event : events) {
             Entry entry = context.identities().of(event.number());
-            if (entry == null) {
-                if (event.kind() == Callbacks.Event.PreRemove) {
-                    unknown.add(new Ref(event.number()));
-                }
-                continue;
+            if (entry != null && context.told(event, entry) && Persist.isKeyless(entry)) {
+                persisted.add(entry);
             }
-            if (context.told(event, entry) && entry.key() == null
-                    && entry.model().key().generation() == KeyModel.Generation.COUNTER) {
-                keyed.add(entry);
-            }
-            written.add(entry);
         }
         later.addAll(events);
-        keys(keyed);
-        return new ArrayList<>(written);
+        Persist.manage(context, persisted);
+        context.cleanTouched();
     }
 
-    /** The keys that the program gave to what the flush's cascade reached. */
-    private void keys(List<Entry> keyed) {
-        if (keyed.isEmpty()) {
-            return;
+    private void readRemoved(List<Event> events) {
+        List<Object> unknown = new ArrayList<>();
+        for (Event event : events) {
+            if (event.kind() == Callbacks.Event.PreRemove && context.identities().of(event.number()) == null) {
+                unknown.add(new Ref(event.number()));
+            }
         }
-        for (Entry entry : keyed) {
-            queue.get(entry.number(), entry.model().key().parts().get(0).member());
+        if (!unknown.isEmpty()) {
+            new Fill(context).entries(unknown);
         }
-        var replies = context.ask(0);
-        for (int i = 0; i < replies.length; i++) {
-            Persist.giveKey(keyed.get(i), replies[i].ok());
-        }
-        keyed.forEach(context.identities()::put);
     }
 
     /** Runs the callbacks that the flush told, and that didn't run before it. */
-    private void after(List<Entry> written) {
+    private void after() {
         List<Event> events = List.copyOf(later);
         later.clear();
         for (Event event : events) {
@@ -187,15 +183,5 @@ final class Flush {
             }
         }
         context.forgetRunAhead();
-        for (Entry entry : written) {
-            if (!entry.isHollow()) {
-                entry.clean();
-            }
-        }
-    }
-
-    /** Whether an attribute is the version. */
-    static boolean isVersion(Attribute attribute) {
-        return attribute.role() == Attribute.Role.VERSION;
     }
 }

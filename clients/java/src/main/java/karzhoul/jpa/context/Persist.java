@@ -156,12 +156,16 @@ final class Persist {
     }
 
     private void send(Entry root) {
-        Lines queue = context.queue();
-        queue.persist(context.manager(), root.number()).about(root);
+        context.queue().persist(context.manager(), root.number()).about(root);
         context.touched(true);
-        List<Entry> keyed = made.stream()
-            .filter(entry -> entry.key() == null && entry.model().key().generation() == KeyModel.Generation.COUNTER).toList();
+        manage(context, made);
+    }
+
+    /** These are managed, once the calls that wait are done; keys that the program gives are asked for. */
+    static void manage(Context context, List<Entry> persisted) {
+        Lines queue = context.queue();
         int from = queue.count();
+        List<Entry> keyed = persisted.stream().filter(Persist::isKeyless).toList();
         for (Entry entry : keyed) {
             queue.get(entry.number(), entry.model().key().parts().get(0).member());
         }
@@ -171,12 +175,17 @@ final class Persist {
                 giveKey(keyed.get(i), replies[i].ok());
             }
         }
-        for (Entry entry : made) {
+        for (Entry entry : persisted) {
             entry.state(Entry.State.MANAGED);
             context.identities().put(entry);
         }
     }
 
+    static boolean isKeyless(Entry entry) {
+        return entry.key() == null && entry.model().key().generation() == KeyModel.Generation.COUNTER;
+    }
+
+    /** Gives an instance the key that the program gave. */
     static void giveKey(Entry entry, Object column) {
         Attribute part = entry.model().key().parts().get(0);
         Object value = part.codec().toAttribute(column);

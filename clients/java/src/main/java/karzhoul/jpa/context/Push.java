@@ -26,12 +26,18 @@ class Push {
     private final Targets targets;
     private final Deque<Entry> work = new ArrayDeque<>();
     private final List<Entry> orphans = new ArrayList<>();
+    private boolean isMerging;
 
     Push(Context context) {
         this.context = context;
         identities = context.identities();
         queue = context.queue();
         targets = new Targets(context);
+    }
+
+    /** From now on this is for a merge: what wasn't read isn't told, and nothing is left out. */
+    final void merging() {
+        isMerging = true;
     }
 
     /** All that the context has, and what it leads to. */
@@ -99,7 +105,7 @@ class Push {
             return;
         }
         Object column = Values.column(attribute, now);
-        entry.touch();
+        touch(entry);
         set(entry, attribute, column);
         entry.values[place] = Values.kept(attribute, now);
     }
@@ -114,6 +120,13 @@ class Push {
         return attribute.role() == Attribute.Role.KEY
             && entry.model().key().generation() == KeyModel.Generation.COUNTER
             && Long.valueOf(0).equals(attribute.codec().toColumn(now));
+    }
+
+    private void touch(Entry entry) {
+        if (!entry.isTouched()) {
+            entry.touch();
+            context.hasTouched(entry);
+        }
     }
 
     /** Sends one value. */
@@ -131,7 +144,7 @@ class Push {
         if (target == before) {
             return;
         }
-        entry.touch();
+        touch(entry);
         queue.link(entry.number(), relation.member(), target == null ? 0 : target.number()).about(entry);
         entry.relations[relation.place()] = target;
     }
@@ -141,7 +154,7 @@ class Push {
      * the program isn't told.
      */
     private boolean isLeftOut(Relation relation, Object member) {
-        if (relation.isOwner() || relation.cascades().contains(CascadeType.PERSIST)) {
+        if (isMerging || relation.isOwner() || relation.cascades().contains(CascadeType.PERSIST)) {
             return false;
         }
         Entry entry = context.entryOf(member);
@@ -154,6 +167,9 @@ class Push {
         if (value instanceof Lazy lazy && lazy.owner() == entry && (!lazy.isRead() || isAsBefore(entry, relation, lazy))) {
             return;
         }
+        if (isMerging && Unread.is(value)) {
+            return;
+        }
         if (value instanceof Unread) {
             throw new PersistenceException(entry + "." + relation.path() + " wasn't read before it was serialized");
         }
@@ -164,7 +180,7 @@ class Push {
         @SuppressWarnings("unchecked")
         List<Entry> before = (List<Entry>) entry.relations[relation.place()];
         if (!isSame(before, now)) {
-            entry.touch();
+            touch(entry);
             changes(entry, relation, before, now);
             entry.relations[relation.place()] = now;
         }
@@ -215,7 +231,7 @@ class Push {
             for (Entry member : before) {
                 if (more.get(member) < 0) {
                     more.merge(member, 1, Integer::sum);
-                    queue.takeOut(entry.number(), relation.member(), member.number()).about(entry);
+                    queue.takeOut(entry.number(), relation.member(), numbered(member).number()).about(entry);
                     if (relation.isJoined() && relation.removesOrphans() && !now.contains(member)) {
                         orphans.add(member);
                     }
@@ -231,7 +247,10 @@ class Push {
     }
 
     private Entry target(Relation relation, Object instance) {
-        Entry entry = made(instance, relation.cascades().contains(CascadeType.PERSIST));
+        return numbered(made(instance, !isMerging && relation.cascades().contains(CascadeType.PERSIST)));
+    }
+
+    private Entry numbered(Entry entry) {
         if (entry.number() == 0) {
             targets.number(entry);
         }

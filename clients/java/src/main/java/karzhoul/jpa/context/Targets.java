@@ -86,23 +86,28 @@ final class Targets {
     /** The number of what has this key, or 0 where there is none. */
     private long find(EntityModel model, List<Object> key) {
         int from = context.queue().count();
-        context.queue().find(context.manager(), model.name(), key).about(model.name() + " " + key);
+        context.queue().find(context.manager(), model.mappedName(), key).about(model.name() + " " + key);
         Reply reply = context.ask(from)[0];
         return reply.ok() == null ? 0 : reply.number();
     }
 
     /**
-     * Gives a proxy its number.
+     * Gives its number to a proxy, or to what was let go before the end of a run.
      *
      * @throws EntityNotFoundException where its row is gone
      */
-    void number(Entry proxy) {
-        long number = find(proxy.model(), proxy.key());
+    void number(Entry entry) {
+        long number = find(entry.model(), entry.key());
         if (number == 0) {
-            throw context.marked(new EntityNotFoundException("EntityNotFound, " + proxy + ": there is no such row"));
+            throw context.marked(new EntityNotFoundException("EntityNotFound, " + entry + ": there is no such row"));
         }
-        proxy.number(number);
-        context.identities().put(proxy);
+        entry.number(number);
+        if (entry.state() == Entry.State.DETACHED) {
+            context.queue().detach(context.manager(), number);
+            context.setDetached(number, new WeakReference<>(entry.instance()));
+        } else {
+            context.identities().put(entry);
+        }
     }
 
     /** Lets the program read a collection which an instance has replaced before it was read. */

@@ -34,6 +34,13 @@ final class Values {
         return value != null && kept != null && isSameColumn(column(attribute, value), column(attribute, kept));
     }
 
+    /** Whether a column is that of what a snapshot keeps; the zero of a primitive counts as null too. */
+    static boolean isKept(Attribute attribute, Object column, Object kept) {
+        Object known = columnOfKept(attribute, kept);
+        return isSameColumn(column, known)
+            || column == null && (Long.valueOf(0).equals(known) || "\0".equals(known));
+    }
+
     /**
      * What is kept of a value in a column.
      *

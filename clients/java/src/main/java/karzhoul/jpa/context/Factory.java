@@ -1,0 +1,192 @@
+package karzhoul.jpa.context;
+
+import jakarta.persistence.Cache;
+import jakarta.persistence.EntityGraph;
+import jakarta.persistence.EntityManager;
+import jakarta.persistence.EntityManagerFactory;
+import jakarta.persistence.PersistenceException;
+import jakarta.persistence.PersistenceUnitUtil;
+import jakarta.persistence.Query;
+import jakarta.persistence.SynchronizationType;
+import jakarta.persistence.criteria.CriteriaBuilder;
+import jakarta.persistence.metamodel.Metamodel;
+import java.util.HashMap;
+import java.util.Map;
+import java.util.Set;
+import java.util.concurrent.atomic.AtomicBoolean;
+import java.util.function.Function;
+import karzhoul.jpa.engine.Pool;
+import karzhoul.jpa.engine.Program;
+import karzhoul.jpa.model.Callbacks.Event;
+import karzhoul.jpa.model.EntityModel;
+import karzhoul.jpa.model.UnitModel;
+import karzhoul.jpa.spi.UnitSettings;
+
+/** A factory of entity managers (chapter 7.4), over the program of its store. Safe for all threads. */
+public final class Factory implements EntityManagerFactory {
+    private static final Set<Event> BEFORE = Set.of(Event.PrePersist, Event.PreUpdate, Event.PreRemove);
+    private static final Set<Event> WRITES =
+        Set.of(Event.PreRemove, Event.PostPersist, Event.PostUpdate, Event.PostRemove);
+
+    private final UnitSettings settings;
+    private final Program program;
+    private final boolean hearsBefore;
+    private final boolean hearsWrites;
+    private final Map<String, EntityModel> mapped = new HashMap<>();
+    private final Map<String, Object> properties;
+    private final AtomicBoolean isOpen = new AtomicBoolean(true);
+    private Function<Context, Push> pushing = Push::new;
+
+
+    /**
+     * Opens a unit.
+     *
+     * @throws PersistenceException where the program can't be started, or refuses the mapping or the store
+     */
+    public Factory(UnitSettings settings) {
+        this.settings = settings;
+        program = Program.open(settings.url(), settings.program(), settings.unit().mapping(), settings.log().orElse(null));
+        hearsBefore = hears(BEFORE);
+        hearsWrites = hears(WRITES);
+        settings.unit().entities().forEach(entity -> mapped.put(entity.mappedName(), entity));
+        properties = Map.copyOf(settings.properties());
+    }
+
+    private boolean hears(Set<Event> events) {
+        return settings.unit().entities().stream()
+            .anyMatch(entity -> events.stream().anyMatch(event -> entity.callbacks().hears(event)));
+    }
+
+    UnitModel unit() {
+        return settings.unit();
+    }
+
+    /** The entity of a name in the program's mapping. */
+    EntityModel mapped(String name) {
+        return mapped.get(name);
+    }
+
+    Pool pool() {
+        return program.pool();
+    }
+
+    long waitMillis() {
+        return settings.poolWait().toMillis();
+    }
+
+    /** Whether a callback before the writes is registered, so that the program is asked which are due. */
+    boolean hearsBefore() {
+        return hearsBefore;
+    }
+
+    /** Whether a callback is registered that belongs between the writes and the commit. */
+    boolean hearsWrites() {
+        return hearsWrites;
+    }
+
+    Function<Context, Push> pushing() {
+        return pushing;
+    }
+
+    /** Lets a test push in another way, as one that loses a value. */
+    void pushing(Function<Context, Push> other) {
+        pushing = other;
+    }
+
+    void needOpen() {
+        if (!isOpen.get()) {
+            throw new IllegalStateException("the entity manager factory is closed");
+        }
+    }
+
+    @Override
+    public EntityManager createEntityManager() {
+        return createEntityManager(Map.of());
+    }
+
+    @Override
+    public EntityManager createEntityManager(Map map) {
+        needOpen();
+        return new Manager(this, map == null ? Map.of() : map);
+    }
+
+    /** @throws IllegalStateException always: there is no JTA here (chapter 7.4) */
+    @Override
+    public EntityManager createEntityManager(SynchronizationType synchronizationType) {
+        return createEntityManager(synchronizationType, Map.of());
+    }
+
+    @Override
+    public EntityManager createEntityManager(SynchronizationType synchronizationType, Map map) {
+        needOpen();
+        throw new IllegalStateException("this unit's transactions are resource-local: there is no JTA to synchronize with");
+    }
+
+    @Override
+    public CriteriaBuilder getCriteriaBuilder() {
+        needOpen();
+        throw Later.criteria();
+    }
+
+    @Override
+    public Metamodel getMetamodel() {
+        needOpen();
+        throw Later.metamodel();
+    }
+
+    @Override
+    public boolean isOpen() {
+        return isOpen.get();
+    }
+
+    @Override
+    public void close() {
+        if (!isOpen.compareAndSet(true, false)) {
+            throw new IllegalStateException("the entity manager factory is closed already");
+        }
+        program.close();
+    }
+
+    @Override
+    public Map<String, Object> getProperties() {
+        needOpen();
+        return properties;
+    }
+
+    @Override
+    public Cache getCache() {
+        needOpen();
+        return new NoCache(this);
+    }
+
+    @Override
+    public PersistenceUnitUtil getPersistenceUnitUtil() {
+        needOpen();
+        return new UnitUtil(this);
+    }
+
+    @Override
+    public void addNamedQuery(String name, Query query) {
+        needOpen();
+        throw new UnsupportedOperationException("addNamedQuery comes with a later version: name the query by @NamedQuery");
+    }
+
+    @Override
+    public <T> T unwrap(Class<T> cls) {
+        if (cls.isInstance(this)) {
+            return cls.cast(this);
+        }
+        throw new PersistenceException("an entity manager factory of Karzhoul is no " + cls.getName());
+    }
+
+    @Override
+    public <T> void addNamedEntityGraph(String graphName, EntityGraph<T> entityGraph) {
+        needOpen();
+        throw Later.graphs();
+    }
+
+    @Override
+    public String toString() {
+        return "Karzhoul unit " + settings.name() + " over " + settings.url();
+    }
+}
