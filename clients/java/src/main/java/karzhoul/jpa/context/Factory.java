@@ -45,7 +45,9 @@ public final class Factory implements EntityManagerFactory {
      */
     public Factory(UnitSettings settings) {
         this.settings = settings;
-        program = Program.open(settings.url(), settings.program(), settings.unit().mapping(), settings.log().orElse(null));
+        UnitModel unit = settings.unit();
+        program = Program.open(settings.url(), settings.program(), unit.mapping(), unit.description(),
+            settings.log().orElse(null));
         hearsBefore = hears(BEFORE);
         hearsWrites = hears(WRITES);
         settings.unit().entities().forEach(entity -> mapped.put(entity.mappedName(), entity));

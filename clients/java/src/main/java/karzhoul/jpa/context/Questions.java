@@ -1,6 +1,7 @@
 package karzhoul.jpa.context;
 
 import jakarta.persistence.FlushModeType;
+import jakarta.persistence.LockModeType;
 import jakarta.persistence.Query;
 import jakarta.persistence.TypedQuery;
 import java.util.ArrayList;
@@ -36,6 +37,16 @@ final class Questions implements Asking {
     @Override
     public void needTransaction() {
         context.needTransaction();
+    }
+
+    @Override
+    public FlushModeType flushMode() {
+        return manager.getFlushMode();
+    }
+
+    @Override
+    public void lock(Object instance, LockModeType mode) {
+        manager.lock(instance, mode);
     }
 
     @Override
