@@ -18,6 +18,7 @@ import karzhoul.jpa.spi.Units;
  * {@code <provider>} in {@code META-INF/persistence.xml}, or lets it be found by a url that begins with
  * {@code karzhoul:}. Safe for all threads.
  */
+@SuppressWarnings("rawtypes")
 public final class KarzhoulProvider implements PersistenceProvider {
     private static final ProviderUtil LOADED = new Loaded();
 

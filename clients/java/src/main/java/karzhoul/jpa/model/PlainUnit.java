@@ -31,10 +31,8 @@ final class PlainUnit implements UnitModel {
 
     @Override
     public EntityModel of(Class<?> javaClass) {
-        EntityModel found = byClass.get(javaClass);
-        for (Class<?> at = javaClass; found == null && at != null; at = at.getSuperclass()) {
-            found = byClass.get(at);
-        }
+        boolean isProxy = javaClass != null && ProxyClass.class.isAssignableFrom(javaClass);
+        EntityModel found = byClass.get(isProxy ? javaClass.getSuperclass() : javaClass);
         if (found == null) {
             throw new IllegalArgumentException(javaClass == null ? "null is no entity class"
                     : javaClass.getName() + " is no entity class of this persistence unit");
