@@ -19,7 +19,7 @@ final class Binding {
     private static final int LONGEST_LITERAL = 200;
 
     final Asking asking;
-    final Clock clock = new Clock(LocalDateTime.now());
+    final Clock clock;
     private final Map<Object, Object> given;
     private final Map<Integer, Object> asked = new HashMap<>();
     private final List<Asking.Parameter> bound = new ArrayList<>();
@@ -28,6 +28,14 @@ final class Binding {
     Binding(Asking asking, Map<Object, Object> given) {
         this.asking = asking;
         this.given = given;
+        this.clock = new Clock(LocalDateTime.now());
+    }
+
+    /** The same execution, of a block that is asked before. */
+    Binding(Binding outer) {
+        this.asking = outer.asking;
+        this.given = outer.given;
+        this.clock = outer.clock;
     }
 
     /** The parameters of the text that was written last. */

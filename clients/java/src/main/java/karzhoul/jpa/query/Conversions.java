@@ -99,8 +99,9 @@ final class Conversions {
             return time == null ? value : type == LocalTime.class ? time : type == Time.class ? Time.valueOf(time)
                     : time.atOffset(ZonedDateTime.now().getOffset());
         }
+        boolean isLegacy = type == java.util.Date.class || Calendar.class.isAssignableFrom(type);
         LocalDateTime at = local instanceof LocalDate day ? day.atStartOfDay() : local instanceof LocalDateTime l ? l
-                : null;
+                : isLegacy ? ((LocalTime) local).atDate(LocalDate.EPOCH) : null;
         if (at == null) {
             return value;
         }

@@ -10,6 +10,13 @@ final class Text {
         void write(Binding binding, StringBuilder text);
     }
 
+    private record Fixed(String text) implements Part {
+        @Override
+        public void write(Binding binding, StringBuilder to) {
+            to.append(text);
+        }
+    }
+
     private final List<Part> parts = new ArrayList<>();
     private final StringBuilder fixed = new StringBuilder();
 
@@ -37,10 +44,21 @@ final class Text {
 
     private void flush() {
         if (!fixed.isEmpty()) {
-            String constant = fixed.toString();
-            parts.add((binding, text) -> text.append(constant));
+            parts.add(new Fixed(fixed.toString()));
             fixed.setLength(0);
         }
+    }
+
+    /** The text that doesn't depend on values, for what is counted in it. */
+    String shape() {
+        flush();
+        StringBuilder text = new StringBuilder();
+        for (Part part : parts) {
+            if (part instanceof Fixed known) {
+                text.append(known.text());
+            }
+        }
+        return text.toString();
     }
 
     /** The text for these values. */
