@@ -1,7 +1,6 @@
 package karzhoul.jpa.context;
 
 import java.util.ArrayList;
-import java.util.Arrays;
 import java.util.HashSet;
 import java.util.List;
 import java.util.Set;
@@ -191,9 +190,7 @@ final class Carry {
             entry.key(null);
         }
         entry.number(context.newNumber(entry.model()));
-        Arrays.fill(entry.values, null);
-        Arrays.fill(entry.relations, null);
-        entry.clean();
+        entry.forgetTold();
         identities.put(entry);
     }
 

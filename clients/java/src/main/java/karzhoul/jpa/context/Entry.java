@@ -2,9 +2,11 @@ package karzhoul.jpa.context;
 
 import jakarta.persistence.LockModeType;
 import jakarta.persistence.PersistenceException;
+import java.util.Arrays;
 import java.util.List;
 import karzhoul.jpa.model.Attribute;
 import karzhoul.jpa.model.EntityModel;
+import karzhoul.jpa.model.Relation;
 
 /**
  * One instance of an entity beside the program's object: what the program has of it, and where it stands in its life
@@ -43,6 +45,16 @@ final class Entry {
         this.state = state;
         values = new Object[model.attributes().size()];
         relations = new Object[model.relations().size()];
+        forgetTold();
+    }
+
+    /** The program has nothing of it but an object without values, links and members. */
+    void forgetTold() {
+        Arrays.fill(values, null);
+        for (Relation relation : model.relations()) {
+            relations[relation.place()] = relation.isMany() ? List.of() : null;
+        }
+        clean();
     }
 
     EntityModel model() {

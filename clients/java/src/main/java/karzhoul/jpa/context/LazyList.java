@@ -4,7 +4,6 @@ import java.io.Serializable;
 import java.util.AbstractList;
 import java.util.ArrayList;
 import java.util.Collection;
-import java.util.Iterator;
 import java.util.List;
 import java.util.RandomAccess;
 import karzhoul.jpa.model.Relation;
@@ -55,8 +54,10 @@ final class LazyList extends AbstractList<Object> implements Lazy, RandomAccess,
 
     @Override
     public void fill(Collection<?> now) {
+        if (members != null) {
+            modCount++;
+        }
         members = new ArrayList<>(now);
-        modCount++;
         isChanged = false;
     }
 
@@ -101,12 +102,6 @@ final class LazyList extends AbstractList<Object> implements Lazy, RandomAccess,
         modCount++;
         isChanged = true;
         return before;
-    }
-
-    @Override
-    public Iterator<Object> iterator() {
-        members();
-        return super.iterator();
     }
 
     @Override

@@ -209,9 +209,6 @@ class Push {
     }
 
     private static boolean isSame(List<Entry> before, List<Entry> now) {
-        if (before == null) {
-            return now.isEmpty();
-        }
         if (before.size() != now.size()) {
             return false;
         }
@@ -226,15 +223,13 @@ class Push {
     private void changes(Entry entry, Relation relation, List<Entry> before, List<Entry> now) {
         Map<Entry, Integer> more = new IdentityHashMap<>();
         now.forEach(member -> more.merge(member, 1, Integer::sum));
-        if (before != null) {
-            before.forEach(member -> more.merge(member, -1, Integer::sum));
-            for (Entry member : before) {
-                if (more.get(member) < 0) {
-                    more.merge(member, 1, Integer::sum);
-                    queue.takeOut(entry.number(), relation.member(), numbered(member).number()).about(entry);
-                    if (relation.isJoined() && relation.removesOrphans() && !now.contains(member)) {
-                        orphans.add(member);
-                    }
+        before.forEach(member -> more.merge(member, -1, Integer::sum));
+        for (Entry member : before) {
+            if (more.get(member) < 0) {
+                more.merge(member, 1, Integer::sum);
+                queue.takeOut(entry.number(), relation.member(), numbered(member).number()).about(entry);
+                if (relation.isJoined() && relation.removesOrphans() && !now.contains(member)) {
+                    orphans.add(member);
                 }
             }
         }
