@@ -11,6 +11,7 @@ import jakarta.persistence.SynchronizationType;
 import jakarta.persistence.criteria.CriteriaBuilder;
 import jakarta.persistence.metamodel.Metamodel;
 import java.util.HashMap;
+import java.util.List;
 import java.util.Map;
 import java.util.Set;
 import java.util.concurrent.atomic.AtomicBoolean;
@@ -20,6 +21,7 @@ import karzhoul.jpa.engine.Program;
 import karzhoul.jpa.model.Callbacks.Event;
 import karzhoul.jpa.model.EntityModel;
 import karzhoul.jpa.model.UnitModel;
+import karzhoul.jpa.query.Statements;
 import karzhoul.jpa.spi.UnitSettings;
 
 /** A factory of entity managers (chapter 7.4), over the program of its store. Safe for all threads. */
@@ -35,17 +37,25 @@ public final class Factory implements EntityManagerFactory {
     private final Map<String, EntityModel> mapped = new HashMap<>();
     private final Map<String, Object> properties;
     private final AtomicBoolean isOpen = new AtomicBoolean(true);
+    private final Statements statements;
     private Function<Context, Push> pushing = Push::new;
 
 
     /**
      * Opens a unit.
      *
-     * @throws PersistenceException where the program can't be started, or refuses the mapping or the store
+     * @throws PersistenceException where a named query is none, the program can't be started, or it refuses the
+     *     mapping or the store
      */
     public Factory(UnitSettings settings) {
         this.settings = settings;
         UnitModel unit = settings.unit();
+        statements = new Statements(unit);
+        List<String> faults = statements.faults();
+        if (!faults.isEmpty()) {
+            throw new PersistenceException("the persistence unit " + settings.name() + " is refused:\n  "
+                + String.join("\n  ", faults));
+        }
         program = Program.open(settings.url(), settings.program(), unit.mapping(), unit.description(),
             settings.log().orElse(null));
         hearsBefore = hears(BEFORE);
@@ -61,6 +71,10 @@ public final class Factory implements EntityManagerFactory {
 
     UnitModel unit() {
         return settings.unit();
+    }
+
+    Statements statements() {
+        return statements;
     }
 
     /** The entity of a name in the program's mapping. */
@@ -170,7 +184,7 @@ public final class Factory implements EntityManagerFactory {
     @Override
     public void addNamedQuery(String name, Query query) {
         needOpen();
-        throw new UnsupportedOperationException("addNamedQuery comes with a later version: name the query by @NamedQuery");
+        statements.addNamed(name, query);
     }
 
     @Override

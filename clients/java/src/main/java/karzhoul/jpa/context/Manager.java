@@ -19,8 +19,10 @@ import jakarta.persistence.metamodel.Metamodel;
 import java.util.HashMap;
 import java.util.List;
 import java.util.Map;
+import java.util.function.Function;
 import java.util.function.Supplier;
 import karzhoul.jpa.model.EntityModel;
+import karzhoul.jpa.query.Statements;
 
 /**
  * An entity manager (chapter 3.1.1) over one persistence context, which lasts until it is cleared or closed. For one
@@ -255,26 +257,32 @@ final class Manager implements EntityManager {
 
     @Override
     public Query createQuery(String text) {
-        needOpen();
-        return questions.query(text);
+        return question(statements -> statements.create(questions, text));
     }
 
     @Override
     public <T> TypedQuery<T> createQuery(String text, Class<T> resultClass) {
-        needOpen();
-        return questions.query(text, resultClass);
+        return question(statements -> statements.create(questions, text, resultClass));
     }
 
     @Override
     public Query createNamedQuery(String name) {
-        needOpen();
-        return questions.named(name);
+        return question(statements -> statements.createNamed(questions, name));
     }
 
     @Override
     public <T> TypedQuery<T> createNamedQuery(String name, Class<T> resultClass) {
+        return question(statements -> statements.createNamed(questions, name, resultClass));
+    }
+
+    /** A query; a text that is none marks the transaction, as every other refusal does. */
+    private <T> T question(Function<Statements, T> created) {
         needOpen();
-        return questions.named(name, resultClass);
+        try {
+            return created.apply(factory.statements());
+        } catch (IllegalArgumentException e) {
+            throw context.marked(e);
+        }
     }
 
     @Override

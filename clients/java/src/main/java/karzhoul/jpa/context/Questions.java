@@ -2,13 +2,10 @@ package karzhoul.jpa.context;
 
 import jakarta.persistence.FlushModeType;
 import jakarta.persistence.LockModeType;
-import jakarta.persistence.Query;
-import jakarta.persistence.TypedQuery;
 import java.util.ArrayList;
 import java.util.HashMap;
 import java.util.List;
 import java.util.Map;
-import karzhoul.jpa.engine.Refusals;
 import karzhoul.jpa.engine.Reply;
 import karzhoul.jpa.model.Relation;
 import karzhoul.jpa.model.UnitModel;
@@ -155,21 +152,5 @@ final class Questions implements Asking {
             new Fill(context).fetch(owners, relation);
             return null;
         });
-    }
-
-    Query query(String text) {
-        throw Refusals.of("IllegalArgument(syntax)", text);
-    }
-
-    <T> TypedQuery<T> query(String text, Class<T> resultClass) {
-        throw Refusals.of("IllegalArgument(syntax)", text);
-    }
-
-    Query named(String name) {
-        throw Refusals.of("IllegalArgument(syntax)", name);
-    }
-
-    <T> TypedQuery<T> named(String name, Class<T> resultClass) {
-        throw Refusals.of("IllegalArgument(syntax)", name);
     }
 }
