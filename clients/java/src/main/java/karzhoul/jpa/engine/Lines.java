@@ -302,6 +302,7 @@ public final class Lines {
                 bytes[length++] = (byte) (0xf0 | c >> 18);
                 bytes[length++] = (byte) (0x80 | c >> 12 & 63);
             } else if (Character.isSurrogate((char) c)) {
+                length = count == 0 ? 0 : ends[count - 1];
                 throw new IllegalArgumentException("the text has half of a surrogate pair, at " + i);
             } else {
                 bytes[length++] = (byte) (0xe0 | c >> 12);
