@@ -1,6 +1,7 @@
 package karzhoul.jpa.context;
 
 import jakarta.persistence.Cache;
+import jakarta.persistence.CascadeType;
 import jakarta.persistence.EntityGraph;
 import jakarta.persistence.EntityManager;
 import jakarta.persistence.EntityManagerFactory;
@@ -10,7 +11,9 @@ import jakarta.persistence.Query;
 import jakarta.persistence.SynchronizationType;
 import jakarta.persistence.criteria.CriteriaBuilder;
 import jakarta.persistence.metamodel.Metamodel;
+import java.util.Collections;
 import java.util.HashMap;
+import java.util.HashSet;
 import java.util.List;
 import java.util.Map;
 import java.util.Set;
@@ -20,6 +23,7 @@ import karzhoul.jpa.engine.Pool;
 import karzhoul.jpa.engine.Program;
 import karzhoul.jpa.model.Callbacks.Event;
 import karzhoul.jpa.model.EntityModel;
+import karzhoul.jpa.model.Relation;
 import karzhoul.jpa.model.UnitModel;
 import karzhoul.jpa.query.Statements;
 import karzhoul.jpa.spi.UnitSettings;
@@ -32,8 +36,8 @@ public final class Factory implements EntityManagerFactory {
 
     private final UnitSettings settings;
     private final Program program;
-    private final boolean hearsBefore;
-    private final boolean hearsWrites;
+    private final Set<EntityModel> hearingBefore;
+    private final Set<EntityModel> hearingWrites;
     private final Map<String, EntityModel> mapped = new HashMap<>();
     private final Map<String, Object> properties;
     private final AtomicBoolean isOpen = new AtomicBoolean(true);
@@ -58,15 +62,35 @@ public final class Factory implements EntityManagerFactory {
         }
         program = Program.open(settings.url(), settings.program(), unit.mapping(), unit.description(),
             settings.log().orElse(null));
-        hearsBefore = hears(BEFORE);
-        hearsWrites = hears(WRITES);
+        hearingBefore = hearing(BEFORE);
+        hearingWrites = hearing(WRITES);
         settings.unit().entities().forEach(entity -> mapped.put(entity.mappedName(), entity));
         properties = Map.copyOf(settings.properties());
     }
 
-    private boolean hears(Set<Event> events) {
-        return settings.unit().entities().stream()
-            .anyMatch(entity -> events.stream().anyMatch(event -> entity.callbacks().hears(event)));
+    /** The entities that hear one of these events, or that a flush may lead from to one which does. */
+    private Set<EntityModel> hearing(Set<Event> events) {
+        Set<EntityModel> hearing = new HashSet<>();
+        for (EntityModel entity : settings.unit().entities()) {
+            if (events.stream().anyMatch(event -> entity.callbacks().hears(event))) {
+                hearing.add(entity);
+            }
+        }
+        boolean isMore = !hearing.isEmpty();
+        while (isMore) {
+            isMore = false;
+            for (EntityModel entity : settings.unit().entities()) {
+                isMore |= entity.relations().stream().anyMatch(relation -> isAlong(relation, hearing))
+                    && hearing.add(entity);
+            }
+        }
+        return hearing;
+    }
+
+    private static boolean isAlong(Relation relation, Set<EntityModel> hearing) {
+        boolean isWalked = relation.removesOrphans() || relation.cascades().contains(CascadeType.PERSIST)
+            || relation.cascades().contains(CascadeType.REMOVE);
+        return isWalked && hearing.stream().anyMatch(entity -> entity.isA(relation.target()));
     }
 
     UnitModel unit() {
@@ -90,14 +114,14 @@ public final class Factory implements EntityManagerFactory {
         return settings.poolWait().toMillis();
     }
 
-    /** Whether a callback before the writes is registered, so that the program is asked which are due. */
-    boolean hearsBefore() {
-        return hearsBefore;
+    /** Whether a flush of one of these may have callbacks before the writes, so that the program is asked which. */
+    boolean hearsBefore(Set<EntityModel> entities) {
+        return !Collections.disjoint(hearingBefore, entities);
     }
 
-    /** Whether a callback is registered that belongs between the writes and the commit. */
-    boolean hearsWrites() {
-        return hearsWrites;
+    /** Whether a flush of one of these may have callbacks that belong between the writes and the commit. */
+    boolean hearsWrites(Set<EntityModel> entities) {
+        return !Collections.disjoint(hearingWrites, entities);
     }
 
     Function<Context, Push> pushing() {

@@ -39,7 +39,7 @@ final class Flush {
     /** Flushes and commits; nothing is asked where nothing changed since the begin. */
     void commit() {
         prepare();
-        if (context.isTouched() && context.factory().hearsWrites()) {
+        if (context.isTouched() && context.factory().hearsWrites(context.identities().models())) {
             write();
         }
         if (!context.isTouched() && !context.isBegunThere()) {
@@ -57,7 +57,7 @@ final class Flush {
     /** Tells what changed, and runs what is due before the writes. */
     private void prepare() {
         push();
-        if (context.isTouched() && context.factory().hearsBefore()) {
+        if (context.isTouched() && context.factory().hearsBefore(context.identities().models())) {
             Set<Event> due = new HashSet<>();
             for (int round = 0; runDue(due); round++) {
                 if (round == MOST_ROUNDS) {

@@ -3,11 +3,13 @@ package karzhoul.jpa.context;
 import java.nio.ByteBuffer;
 import java.util.ArrayList;
 import java.util.Collection;
+import java.util.Collections;
 import java.util.HashMap;
 import java.util.IdentityHashMap;
 import java.util.LinkedHashMap;
 import java.util.List;
 import java.util.Map;
+import java.util.Set;
 import karzhoul.jpa.model.EntityModel;
 
 /** The identity map of a context: its entries by number, by instance, and by hierarchy and key (chapter 3.1). */
@@ -15,6 +17,7 @@ final class Identities {
     private final Map<Long, Entry> byNumber = new LinkedHashMap<>();
     private final Map<Object, Entry> byInstance = new IdentityHashMap<>();
     private final Map<EntityModel, Map<List<Object>, Entry>> byKey = new IdentityHashMap<>();
+    private final Set<EntityModel> models = Collections.newSetFromMap(new IdentityHashMap<>());
 
     Entry of(long number) {
         return byNumber.get(number);
@@ -33,6 +36,7 @@ final class Identities {
     void put(Entry entry) {
         if (entry.number() != 0) {
             byNumber.put(entry.number(), entry);
+            models.add(entry.model());
         }
         if (entry.instance() != null) {
             byInstance.put(entry.instance(), entry);
@@ -79,6 +83,11 @@ final class Identities {
         return !byNumber.isEmpty();
     }
 
+    /** The entities of all that have, or had, a number. */
+    Set<EntityModel> models() {
+        return models;
+    }
+
     /** Forgets all numbers, which are of a run that has ended. */
     void forgetNumbers() {
         byNumber.clear();
@@ -88,5 +97,6 @@ final class Identities {
         byNumber.clear();
         byInstance.clear();
         byKey.clear();
+        models.clear();
     }
 }
