@@ -31,7 +31,7 @@ public final class StoreDescription {
     private static final int PART_BYTES = 60_000;
     private static final String MARK = ".new";
     private static final String NULL = "\"ok\":null}";
-    private static final String REMEDY = "Keep the names of before, by @Table, @Column, @JoinColumn, @JoinTable and "
+    private static final String REMEDY = "Keep the names of before, by @Entity, @Table, @Column, @JoinColumn, @JoinTable and "
             + "@DiscriminatorValue; or take another file for a new store.";
 
     private final Path store;

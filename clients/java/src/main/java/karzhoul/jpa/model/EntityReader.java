@@ -11,6 +11,7 @@ import jakarta.persistence.Id;
 import jakarta.persistence.MappedSuperclass;
 import jakarta.persistence.Version;
 import java.lang.invoke.MethodHandle;
+import java.lang.reflect.Modifier;
 import java.lang.reflect.Type;
 import java.lang.reflect.TypeVariable;
 import java.util.ArrayList;
@@ -18,6 +19,8 @@ import java.util.LinkedHashMap;
 import java.util.List;
 import java.util.Map;
 import java.util.Optional;
+import java.util.Set;
+import java.util.stream.Collectors;
 
 /** Reads the members of one entity: its own, and those of the mapped superclasses between it and the entity above. */
 final class EntityReader {
@@ -27,6 +30,7 @@ final class EntityReader {
     private final Members members;
     private final Codecs codecs;
     private final RelationReader relations;
+    private final MemberCheck memberCheck;
     private final PlainEntity entity;
     private final Names names;
     private final AccessType access;
@@ -39,6 +43,7 @@ final class EntityReader {
         this.members = new Members(faults);
         this.codecs = codecs;
         this.relations = new RelationReader(faults);
+        this.memberCheck = new MemberCheck(faults);
         this.entity = entity;
         this.names = names;
         this.access = Members.accessOf(entity.javaClass());
@@ -107,6 +112,7 @@ final class EntityReader {
     }
 
     private void read(Member member, Scope scope) {
+        memberCheck.check(member);
         if (member.has(Id.class) || member.has(EmbeddedId.class)) {
             keyMembers.add(member);
             if (RelationReader.isRelation(member)) {
@@ -140,18 +146,9 @@ final class EntityReader {
         Optional<Codec> codec = codecs.of(member, scope, inScope, column);
         boolean isRequired = column.filter(it -> !it.nullable()).isPresent()
                 || member.find(Basic.class).filter(it -> !it.optional()).isPresent();
-        column.ifPresent(it -> check(member, it));
+        column.ifPresent(it -> memberCheck.check(member, it));
         codec.ifPresent(it -> entity.has(new PlainAttribute(path, names.give(path), Attribute.Role.PLAIN, it, isRequired, way,
                 columnName(column, path))));
-    }
-
-    private void check(Member member, Column column) {
-        if (column.unique()) {
-            faults.add(member, "unique isn't kept", "Leave it out, or make it the key");
-        }
-        if (!column.insertable() || !column.updatable()) {
-            faults.add(member, "a column that isn't written isn't kept", "Leave insertable and updatable out, or add @Transient");
-        }
     }
 
     /** Columns of a class below the root are its own, whatever classes beside it have; so are those of other tables. */
@@ -205,8 +202,18 @@ final class EntityReader {
         }
         Scope inner = new Scope(scope, inScope + ".", member.annotated());
         for (Member part : embeddedMembers(type, member)) {
+            memberCheck.check(part);
             read(part, way.then(constructor.get(), part), path + "." + part.name(), inner, part.name(), depth + 1);
         }
+        memberCheck.checkOverrides(member, pathsWithin(path + "."));
+    }
+
+    private Set<String> pathsWithin(String before) {
+        return entity.ownAttributes().stream()
+                .map(PlainAttribute::path)
+                .filter(it -> it.startsWith(before))
+                .map(it -> it.substring(before.length()))
+                .collect(Collectors.toSet());
     }
 
     /** The constructor of the embeddable that a member has; empty where there is none, which was told then. */
@@ -214,6 +221,11 @@ final class EntityReader {
         Class<?> type = member.javaType();
         if (!type.isAnnotationPresent(Embeddable.class)) {
             faults.add(member, type.getName() + " is no embeddable", "Annotate that class with @Embeddable");
+            return Optional.empty();
+        }
+        if (type.isRecord() || Modifier.isAbstract(type.getModifiers())) {
+            faults.add(type, "a record, an interface or an abstract class is no embeddable", "Make it a class with a constructor "
+                    + "without parameters");
             return Optional.empty();
         }
         return constructor(faults, type);
@@ -224,7 +236,7 @@ final class EntityReader {
         try {
             return Optional.of(Accessor.constructor(type));
         } catch (NoSuchMethodException missing) {
-            boolean isInner = type.isMemberClass() && !java.lang.reflect.Modifier.isStatic(type.getModifiers());
+            boolean isInner = type.isMemberClass() && !Modifier.isStatic(type.getModifiers());
             faults.add(type, isInner ? "it is an inner class" : "it has no constructor without parameters",
                     isInner ? "Make it static" : "Add one; it may be protected");
         } catch (IllegalAccessException closed) {

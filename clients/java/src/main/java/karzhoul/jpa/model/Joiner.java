@@ -1,5 +1,6 @@
 package karzhoul.jpa.model;
 
+import jakarta.persistence.JoinColumn;
 import jakarta.persistence.OrderBy;
 import java.util.ArrayList;
 import java.util.HashMap;
@@ -26,6 +27,7 @@ final class Joiner {
         for (PlainEntity entity : all) {
             entity.ownRelations().stream().filter(it -> it.target() != null).forEach(it -> {
                 findOwner(entity, it);
+                checkReferenced(it);
                 sort(it);
             });
         }
@@ -59,6 +61,20 @@ final class Joiner {
             faults.add(member, "another relation is mapped by " + mappedBy + " too", "Leave one of them");
         } else {
             relation.isOwnedBy(owner.get());
+        }
+    }
+
+    /** A column of a relation refers to the key: to another column it can't. */
+    private void checkReferenced(PlainRelation relation) {
+        PlainKey key = ((PlainEntity) relation.target()).plainKey();
+        Member member = relation.said().declared();
+        for (JoinColumn column : member.annotated().getAnnotationsByType(JoinColumn.class)) {
+            String name = column.referencedColumnName();
+            boolean isKey = name.isEmpty() || key == null || relation.isMany() || key.hasColumn(name);
+            if (!isKey) {
+                faults.add(member, "it refers to the column " + name + " of " + relation.target().name() + ", which is no part of its key",
+                        "Leave referencedColumnName out, or make that column the key");
+            }
         }
     }
 

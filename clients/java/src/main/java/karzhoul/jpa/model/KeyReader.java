@@ -28,8 +28,9 @@ final class KeyReader {
      * @param path its path from the entity
      * @param leaf its name within the key
      * @param inHolder where it stands in the embedded id or the id class; null where there is none
+     * @param column the name by which relations refer to it
      */
-    private record Part(String path, String leaf, Codec codec, Place where, Place inHolder) {}
+    private record Part(String path, String leaf, Codec codec, Place where, Place inHolder, String column) {}
 
     /** What an entity's reader has left for its key. */
     record Draft(PlainEntity entity, EntityReader reader, Names names) {}
@@ -102,8 +103,8 @@ final class KeyReader {
                 faults.add(part, "an embedded id has no relations", "Keep the key's value, and map the relation with @MapsId");
             } else {
                 Scope scope = new Scope(null, "", holder.annotated());
-                codec(part, scope).ifPresent(codec ->
-                        parts.add(new Part(before + part.name(), before + part.name(), codec, partWay, partInHolder)));
+                codec(part, scope).ifPresent(codec -> parts.add(new Part(before + part.name(), before + part.name(), codec,
+                        partWay, partInHolder, columnOf(part, scope))));
             }
         }
     }
@@ -121,6 +122,11 @@ final class KeyReader {
         return codec;
     }
 
+    private static String columnOf(Member member, Scope scope) {
+        return scope.column(member.name()).or(() -> member.find(Column.class)).map(Column::name)
+                .filter(it -> !it.isEmpty()).orElse(member.name());
+    }
+
     private void readPlain(Draft draft, List<Member> members) {
         Optional<Class<?>> idClass = idClass(draft.entity().javaClass());
         if (members.size() > 1 && idClass.isEmpty()) {
@@ -135,8 +141,9 @@ final class KeyReader {
             if (RelationReader.isRelation(member)) {
                 collectDerived(draft, member, inHolder.orElse(null), parts);
             } else if (idClass.isEmpty() || inHolder.isPresent()) {
-                codec(member, new Scope(null, "", member.annotated())).ifPresent(codec -> parts.add(
-                        new Part(member.name(), member.name(), codec, Way.to(member), inHolder.orElse(null))));
+                Scope scope = new Scope(null, "", member.annotated());
+                codec(member, scope).ifPresent(codec -> parts.add(new Part(member.name(), member.name(), codec, Way.to(member),
+                        inHolder.orElse(null), columnOf(member, scope))));
             }
         }
         if (parts.isEmpty()) {
@@ -187,7 +194,8 @@ final class KeyReader {
             Place there = holder == null ? null : holder.places().get(i);
             Place part = inHolder == null ? there : there == null ? inHolder : new Through(inHolder, holder.constructor(), there);
             String path = member.name() + "." + theirs.get(i).path();
-            parts.add(new Part(path, path, theirs.get(i).codec(), new KeyOfTarget(relation.get(), theirs.get(i)), part));
+            parts.add(new Part(path, path, theirs.get(i).codec(), new KeyOfTarget(relation.get(), theirs.get(i)), part,
+                    member.name()));
         }
     }
 
@@ -258,7 +266,8 @@ final class KeyReader {
         for (Part part : found) {
             String leaf = leaves.give(part.leaf());
             String member = isNamed ? keyName + "." + leaf : leaf;
-            parts.add(new PlainAttribute(before + part.path(), member, Attribute.Role.KEY, part.codec(), true, part.where(), null));
+            parts.add(new PlainAttribute(before + part.path(), member, Attribute.Role.KEY, part.codec(), true, part.where(),
+                    part.column()));
         }
         Place embeddedAt = embedded == null ? null : Way.to(embedded);
         entity.isKnownBy(new PlainKey(parts, generation, holder, embedded == null ? null : embedded.name(), embeddedAt, isZeroNone), keyName);

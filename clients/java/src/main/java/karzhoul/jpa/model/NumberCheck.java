@@ -10,6 +10,9 @@ final class NumberCheck {
     private static final int MOST_ENTITIES = 63;
     private static final int MOST_MEMBERS = 64;
 
+    /** A table or a column that has a number already. */
+    private record Taken(String name, String place) {}
+
     private final Faults faults;
 
     NumberCheck(Faults faults) {
@@ -17,8 +20,8 @@ final class NumberCheck {
     }
 
     void check(List<PlainEntity> all) {
-        Map<Integer, String> tables = new HashMap<>();
-        Map<PlainEntity, Map<Integer, String>> columns = new HashMap<>();
+        Map<Integer, Taken> tables = new HashMap<>();
+        Map<PlainEntity, Map<Integer, Taken>> columns = new HashMap<>();
         Map<PlainEntity, Map<String, PlainEntity>> discriminators = new HashMap<>();
         Map<String, PlainEntity> names = new HashMap<>();
         for (PlainEntity entity : all) {
@@ -47,7 +50,7 @@ final class NumberCheck {
         }
     }
 
-    private void checkColumns(PlainEntity entity, Map<Integer, String> columns) {
+    private void checkColumns(PlainEntity entity, Map<Integer, Taken> columns) {
         if (entity.above() == null && entity.version().isPresent()) {
             PlainAttribute version = (PlainAttribute) entity.version().get();
             take(columns, "column", version.columnName(), entity, version.path());
@@ -62,7 +65,7 @@ final class NumberCheck {
         }
     }
 
-    private void checkJoinTables(PlainEntity entity, Map<Integer, String> tables) {
+    private void checkJoinTables(PlainEntity entity, Map<Integer, Taken> tables) {
         for (PlainRelation relation : entity.ownRelations()) {
             if (relation.isOwner() && relation.isMany()) {
                 take(tables, "table", relation.storedName(), entity, relation.path());
@@ -70,18 +73,22 @@ final class NumberCheck {
         }
     }
 
-    private void take(Map<Integer, String> taken, String sort, String name, PlainEntity entity, String path) {
+    private void take(Map<Integer, Taken> taken, String sort, String name, PlainEntity entity, String path) {
         String place = entity.javaClass().getName() + (path.isEmpty() ? "" : "." + path);
         int number = Names.number(name);
-        String other = taken.putIfAbsent(number, "the " + sort + " " + name + " of " + place);
-        if (other != null) {
-            String what = "the " + sort + " " + name + " has the number " + number + ", which " + other + " has too";
-            String by = sort.equals("column") ? "@Column, @JoinColumn or @AttributeOverride" : "@Table or @JoinTable";
-            if (path.isEmpty()) {
-                faults.add(entity.javaClass(), what, "Name one of them otherwise, by " + by);
-            } else {
-                faults.add(entity.javaClass(), path, what, "Name one of them otherwise, by " + by);
-            }
+        Taken other = taken.putIfAbsent(number, new Taken(name, place));
+        if (other == null) {
+            return;
+        }
+        String what = other.name().equalsIgnoreCase(name) ? other.place() + " has the " + sort + " " + name + " too"
+                : "the " + sort + " " + name + " has the number " + number + ", as the " + sort + " " + other.name() + " of "
+                        + other.place();
+        String remedy = "Name one of them otherwise, by "
+                + (sort.equals("column") ? "@Column, @JoinColumn or @AttributeOverride" : "@Table or @JoinTable");
+        if (path.isEmpty()) {
+            faults.add(entity.javaClass(), what, remedy);
+        } else {
+            faults.add(entity.javaClass(), path, what, remedy);
         }
     }
 

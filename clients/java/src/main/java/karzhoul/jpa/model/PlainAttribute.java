@@ -11,7 +11,7 @@ final class PlainAttribute implements Attribute {
     private final String columnName;
     private int place = -1;
 
-    /** @param columnName the column's name of which its number is made; null in a key, which has no columns */
+    /** @param columnName the column's name, of which its number is made; in a key, whose parts have none, for relations alone */
     PlainAttribute(String path, String member, Role role, Codec codec, boolean isRequired, Place where, String columnName) {
         this.path = path;
         this.member = member;

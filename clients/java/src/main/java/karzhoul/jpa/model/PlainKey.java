@@ -41,6 +41,11 @@ final class PlainKey implements KeyModel {
         derived.add(from);
     }
 
+    /** Whether a part has this column, by its annotation or by its own name; the key of another entity has any. */
+    boolean hasColumn(String name) {
+        return !derived.isEmpty() || parts.stream().anyMatch(part -> part.columnName().equalsIgnoreCase(name));
+    }
+
     Holder holder() {
         return holder;
     }
