@@ -36,7 +36,7 @@ import org.junit.jupiter.api.TestFactory;
 
 /** What is kept of values has their order and equality, and gives them back. */
 class CodecTest {
-    private static final int VALUES = 400;
+    private static final int VALUES = 150;
 
     enum Mood { GLAD, SAD, TIRED { @Override public String toString() { return "worn"; } } }
 
@@ -115,13 +115,16 @@ class CodecTest {
         for (int i = 0; i < VALUES; i++) {
             values.add(type.random().apply(random));
         }
-        for (V value : values) {
-            Object kept = type.codec().toColumn(value);
+        List<Object> all = values.stream().map(type.codec()::toColumn).toList();
+        for (int i = 0; i < values.size(); i++) {
+            V value = values.get(i);
+            Object kept = all.get(i);
             assertEquals(value, type.codec().toAttribute(kept), "given back");
-            for (V other : values) {
+            for (int j = 0; j < values.size(); j++) {
+                V other = values.get(j);
                 int wanted = Integer.signum(value.compareTo(other));
-                assertEquals(wanted, sign(kept, type.codec().toColumn(other)), value + " and " + other);
-                assertEquals(value.equals(other), equal(kept, type.codec().toColumn(other)), value + " and " + other);
+                assertEquals(wanted, sign(kept, all.get(j)), value + " and " + other);
+                assertEquals(value.equals(other), equal(kept, all.get(j)), value + " and " + other);
             }
         }
         assertNull(type.codec().toColumn(null));
