@@ -21,8 +21,13 @@ final class Classes {
         return depth;
     }
 
+    /** Whether this can be an entity at all. */
+    static boolean isClass(Class<?> javaClass) {
+        return !javaClass.isInterface() && !javaClass.isEnum() && !javaClass.isRecord();
+    }
+
     static void checkEntity(Faults faults, Class<?> javaClass) {
-        if (javaClass.isInterface() || javaClass.isEnum() || javaClass.isRecord()) {
+        if (!isClass(javaClass)) {
             faults.add(javaClass, "an interface, an enum or a record is no entity", "Make it a class");
         }
         if (javaClass.isAnnotationPresent(Embeddable.class) || javaClass.isAnnotationPresent(MappedSuperclass.class)) {

@@ -101,13 +101,13 @@ final class EntityReader {
     /** A property that is overridden counts where it was declared last; a field can't be declared twice. */
     private void take(Map<String, Member> found, Member member) {
         Member above = found.get(member.name());
-        boolean isBelow = entity.above() != null && (entity.above().find(member.name()).isPresent()
-                || entity.above().relation(member.name()).isPresent());
+        boolean isBelow = entity.above() != null && entity.above().hasMember(member.name());
         boolean isProperty = member.accessor().isProperty();
         if (!isProperty && (above != null || isBelow)) {
             faults.add(member, "a class above has a member of this name too", "Name it otherwise, or add @Transient");
         } else if (!isBelow) {
             found.put(member.name(), member);
+            entity.declares(member.name());
         }
     }
 

@@ -40,6 +40,7 @@ final class KeyReader {
     private final Generators generators;
     private final Map<Class<?>, Draft> roots;
     private final Set<Class<?>> begun = new HashSet<>();
+    private final Set<Class<?>> ended = new HashSet<>();
 
     /** @param roots the entities without one above, by their classes */
     KeyReader(Faults faults, Codecs codecs, Generators generators, Map<Class<?>, Draft> roots) {
@@ -57,7 +58,7 @@ final class KeyReader {
     private void read(Draft draft) {
         PlainEntity entity = draft.entity();
         if (!begun.add(entity.javaClass())) {
-            if (entity.plainKey() == null) {
+            if (entity.plainKey() == null && !ended.contains(entity.javaClass())) {
                 faults.add(entity.javaClass(), "its key can't be read, or is made of itself", "Give it an @Id of its own");
             }
             return;
@@ -72,6 +73,7 @@ final class KeyReader {
         } else {
             readPlain(draft, members);
         }
+        ended.add(entity.javaClass());
         if (entity.plainKey() != null) {
             mapIds(draft);
         }
@@ -86,7 +88,11 @@ final class KeyReader {
             return;
         }
         List<Part> parts = new ArrayList<>();
+        int told = faults.found().size();
         collect(draft, member, Way.to(member), null, constructor.get(), "", parts);
+        if (faults.found().size() > told) {
+            return;
+        }
         PlainKey.Holder holder = holder(member.javaType(), constructor.get(), parts);
         finish(draft, parts, Generation.ASSIGNED, holder, member, false);
     }

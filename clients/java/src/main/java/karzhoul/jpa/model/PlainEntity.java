@@ -2,8 +2,10 @@ package karzhoul.jpa.model;
 
 import java.lang.invoke.MethodHandle;
 import java.util.ArrayList;
+import java.util.HashSet;
 import java.util.List;
 import java.util.Optional;
+import java.util.Set;
 import java.util.stream.Stream;
 
 /** An entity as it was read. It is joined to others by the {@link Reader}, and doesn't change afterwards. */
@@ -16,6 +18,7 @@ final class PlainEntity implements EntityModel {
     private final String discriminator;
     private final boolean isAbstract;
     private final List<EntityModel> below = new ArrayList<>();
+    private final Set<String> names = new HashSet<>();
     private final List<PlainAttribute> ownAttributes = new ArrayList<>();
     private final List<PlainRelation> ownRelations = new ArrayList<>();
     private List<Attribute> attributes = List.of();
@@ -37,6 +40,16 @@ final class PlainEntity implements EntityModel {
         if (above != null) {
             above.below.add(this);
         }
+    }
+
+    /** Takes the name of a member, of whatever sort. */
+    void declares(String name) {
+        names.add(name);
+    }
+
+    /** Whether this class or one above has a member of this name. */
+    boolean hasMember(String name) {
+        return names.contains(name) || above != null && above.hasMember(name);
     }
 
     /** @param keyName the name in the mapping under which the parts stand, or null */

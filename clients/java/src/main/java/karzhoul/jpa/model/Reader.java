@@ -55,9 +55,9 @@ public final class Reader {
             }
         }
         classes.stream()
-                .filter(it -> it.isAnnotationPresent(Entity.class))
+                .filter(it -> it.isAnnotationPresent(Entity.class) && Classes.isClass(it))
                 .sorted(Comparator.comparingInt(Classes::depth))
-                .forEach(it -> readEntity(it, classes));
+                .forEach(this::readEntity);
         new KeyReader(faults, codecs, generators, roots).readAll();
         List<PlainEntity> all = List.copyOf(entities.values());
         new Joiner(faults, entities).join(all);
@@ -72,13 +72,14 @@ public final class Reader {
         return new PlainUnit(all, queries, MappingWriter.write(all), DescriptionWriter.write(all));
     }
 
-    private void readEntity(Class<?> javaClass, Set<Class<?>> classes) {
+    private void readEntity(Class<?> javaClass) {
         PlainEntity above = null;
         for (Class<?> at = javaClass.getSuperclass(); at != null && above == null; at = at.getSuperclass()) {
             above = entities.get(at);
             if (above == null && at.isAnnotationPresent(Entity.class)) {
                 faults.add(javaClass, "the class above it, " + at.getName() + ", is an entity, and isn't among those of the unit",
                         "Add it as <class> to persistence.xml");
+                return;
             }
         }
         String said = javaClass.getAnnotation(Entity.class).name();
