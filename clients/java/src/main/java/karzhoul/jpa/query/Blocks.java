@@ -278,7 +278,7 @@ final class Blocks extends Rewriting {
 
     /** COUNT compared with 0 or 1, as whether there is one. */
     private Condition counted(Compare of, String sign, Value other, Select select, Aggregate count) {
-        String asks = sign + (other instanceof Literal literal ? literal.value() : "");
+        String asks = turned(sign) + (other instanceof Literal literal ? literal.value() : "");
         boolean isAny = List.of(">0", "<>0", ">=1").contains(asks);
         if (!isAny && !List.of("=0", "<=0", "<1").contains(asks)) {
             throw refusal(of.at(), "COUNT of a subquery that uses a variable from outside is compared with 0 alone; "

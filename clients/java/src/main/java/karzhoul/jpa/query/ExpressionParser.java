@@ -374,7 +374,7 @@ final class ExpressionParser {
         Value found = switch (name) {
             case "TRIM" -> trimmed(token.at());
             case "EXTRACT" -> extracted(token.at());
-            case "TYPE" -> new TypeOf(token.at(), value());
+            case "TYPE" -> typeOf(token.at());
             case "TREAT" -> treated(token.at());
             case "KEY", "VALUE", "ENTRY" -> mapPart(token.at(), name);
             case "INDEX" -> throw QueryFault.refusal(tokens.text, token.at(),
@@ -384,6 +384,12 @@ final class ExpressionParser {
             default -> plain(token, Function.named(name));
         };
         return found;
+    }
+
+    private Value typeOf(int at) {
+        Value operand = value();
+        tokens.expectMark(")");
+        return new TypeOf(at, operand);
     }
 
     private Value plain(Token token, Function function) {

@@ -3,6 +3,9 @@ package karzhoul.jpa.query;
 import java.util.ArrayList;
 import java.util.List;
 import karzhoul.jpa.query.Tree.And;
+import karzhoul.jpa.query.Tree.Arithmetic;
+import karzhoul.jpa.query.Tree.Call;
+import karzhoul.jpa.query.Tree.Case;
 import karzhoul.jpa.query.Tree.Condition;
 import karzhoul.jpa.query.Tree.Derived;
 import karzhoul.jpa.query.Tree.Join;
@@ -10,11 +13,12 @@ import karzhoul.jpa.query.Tree.Range;
 import karzhoul.jpa.query.Tree.Reference;
 import karzhoul.jpa.query.Tree.Select;
 import karzhoul.jpa.query.Tree.Source;
+import karzhoul.jpa.query.Tree.Value;
 import karzhoul.jpa.query.Tree.Variable;
 
 /**
  * Makes of each join one along one relation of one variable, and of IN (path) a join. Steps on the way are inner joins
- * (chapter 4.4.4). The ON of an inner join whose paths have several steps goes to WHERE.
+ * (chapter 4.4.4). The ON of an inner join goes to WHERE where a path of it has several steps, or the door computes in it.
  */
 final class Joins extends Rewriting {
     private final String text;
@@ -80,7 +84,8 @@ final class Joins extends Rewriting {
             from = to;
         }
         Condition on = join.on();
-        if (on != null && Visiting.has(on, value -> value instanceof Reference deep && isDeep(deep))) {
+        boolean isDeep = on != null && Visiting.has(on, value -> value instanceof Reference deep && isDeep(deep));
+        if (isDeep || on != null && !join.isLeft() && Visiting.has(on, Joins::isComputedByDoor)) {
             if (join.isLeft()) {
                 throw QueryFault.refusal(text, on.at(), "in the ON of a LEFT JOIN a path has one step at most; join what it "
                         + "goes along before, and name that variable");
@@ -89,6 +94,11 @@ final class Joins extends Rewriting {
             on = null;
         }
         sources.add(new Join(join.at(), join.isLeft(), false, along(path, from, last), join.name(), join.variable(), on));
+    }
+
+    private static boolean isComputedByDoor(Value value) {
+        return value instanceof Case || value instanceof Call call && !call.function().isKept
+                || value instanceof Arithmetic arithmetic && arithmetic.sign() == '/';
     }
 
     private static boolean isDeep(Reference path) {

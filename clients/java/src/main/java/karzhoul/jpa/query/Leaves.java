@@ -107,6 +107,12 @@ final class Leaves {
             }
             paths.add(path);
         }
+        for (int place = 0; place < columns.size(); place++) {
+            if (column.text().isSame(columns.get(place).text())) {
+                places.put(value, place);
+                return;
+            }
+        }
         places.put(value, columns.size());
         columns.add(column);
     }

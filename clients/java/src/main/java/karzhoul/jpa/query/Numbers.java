@@ -89,6 +89,6 @@ final class Numbers {
     /** A sum that is divided by a count, as AVG is: a Double. */
     static Double average(Number sum, long count) {
         return sum instanceof Double twice ? twice / count
-                : Conversions.decimal(sum).divide(BigDecimal.valueOf(count), MathContext.DECIMAL64).doubleValue();
+                : Conversions.decimal(sum).divide(BigDecimal.valueOf(count), MathContext.DECIMAL128).doubleValue();
     }
 }

@@ -72,7 +72,8 @@ final class Planner {
                 kept.add(writer.conditions.condition(conjunct));
             } catch (NotKept e) {
                 if (Visiting.hasBlock(conjunct)) {
-                    throw e;
+                    throw new NotKept(e.at, e.getMessage() + "; where no subquery stands beside it but by AND, the door "
+                            + "decides it");
                 }
                 filters.add(conjunct);
             }
@@ -88,7 +89,11 @@ final class Planner {
     }
 
     /** What all plans of one SELECT share. */
-    private record Parts(Select select, List<SelectPlan> asked, List<Fetches.Fetch> fetches) {}
+    private record Parts(Select select, List<SelectPlan> asked, List<Fetches.Fetch> fetches) {
+        Parts with(Select other) {
+            return new Parts(other, asked, fetches);
+        }
+    }
 
     static List<Condition> conjuncts(Condition where) {
         return where == null ? List.of() : where instanceof And and ? and.parts() : List.of(where);
@@ -136,14 +141,17 @@ final class Planner {
             if (!isGrouped) {
                 return byRows(null);
             }
-            if (filters.isEmpty()) {
-                try {
-                    return byGroups();
-                } catch (NotKept e) {
-                    // the door groups
-                }
+            SelectPlan kept = filters.isEmpty() ? byGroupsOrNull() : null;
+            return kept != null ? kept : new Body(writer, parts.with(new Counts().select(select)), body, filters)
+                    .byRows(select.groups());
+        }
+
+        private SelectPlan byGroupsOrNull() {
+            try {
+                return byGroups();
+            } catch (NotKept e) {
+                return null;
             }
-            return byRows(select.groups());
         }
 
         /** The program makes no groups; the door does, where there are some. */
@@ -229,7 +237,8 @@ final class Planner {
                 throw QueryFault.at(text, value.at(), "with DISTINCT, ORDER BY takes what is selected, and \"" + path
                         + "\" isn't");
             }
-            return Text.of(writer.values.path(path));
+            boolean isSortedByDoor = select.isDistinct() && !path.steps().isEmpty();
+            return isSortedByDoor ? null : Text.of(writer.values.path(path));
         }
 
         private boolean isGiven(Reference path) {

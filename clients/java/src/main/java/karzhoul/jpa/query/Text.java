@@ -61,6 +61,13 @@ final class Text {
         return text.toString();
     }
 
+    /** Whether both are one text, whatever the values. */
+    boolean isSame(Text other) {
+        flush();
+        other.flush();
+        return parts.equals(other.parts) && parts.stream().allMatch(Fixed.class::isInstance);
+    }
+
     /** The text for these values. */
     String written(Binding binding) {
         flush();

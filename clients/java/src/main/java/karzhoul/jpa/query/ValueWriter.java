@@ -152,8 +152,8 @@ final class ValueWriter {
             return new Written(new Text().add(left.within(1)).add(" * ").add(right.within(2)), new Whole(a + b), 1);
         }
         int scale = Math.max(a, b);
-        Text text = new Text().add(scaled(left, scale).within(0)).add(" " + arithmetic.sign() + " ")
-                .add(scaled(right, scale).within(1));
+        Text text = new Text().add(scaled(arithmetic.left(), left, scale).within(0)).add(" " + arithmetic.sign() + " ")
+                .add(scaled(arithmetic.right(), right, scale).within(1));
         return new Written(text, new Whole(scale), 0);
     }
 
@@ -161,6 +161,10 @@ final class ValueWriter {
         if (places > MOST_PLACES) {
             throw new NotKept(value.at(), "a product of " + places + " decimal places doesn't fit into 64 bits");
         }
+    }
+
+    private static Written scaled(Value value, Written written, int scale) {
+        return value instanceof Literal ? constant(value, new Whole(scale)) : scaled(written, scale);
     }
 
     private static Written scaled(Written written, int scale) {
@@ -232,9 +236,9 @@ final class ValueWriter {
     // ---- constants
 
     /** A constant in a unit; a literal is judged at once. */
-    private Written constant(Value value, Unit unit) {
+    private static Written constant(Value value, Unit unit) {
         if (unit instanceof Unit.Thing) {
-            if (!(value instanceof Parameter)) {
+            if (!(value instanceof Parameter || value instanceof Tree.Asked)) {
                 throw new NotKept(value.at(), "an entity is compared with entities and parameters");
             }
             return new Written(new Text().add((binding, text) -> text.append(
