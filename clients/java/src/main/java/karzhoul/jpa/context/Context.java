@@ -179,7 +179,6 @@ final class Context {
     void begin() {
         isActive = true;
         isMarked = false;
-        isTouched = false;
     }
 
     boolean isMarked() {
@@ -486,6 +485,7 @@ final class Context {
         told.clear();
         heard.clear();
         touched.clear();
+        isTouched = false;
         hasStale = false;
     }
 

@@ -11,7 +11,6 @@ import java.util.List;
 import java.util.Map;
 import java.util.Optional;
 import java.util.Set;
-import java.util.UUID;
 import karzhoul.jpa.engine.Event;
 import karzhoul.jpa.engine.Lines;
 import karzhoul.jpa.engine.Ref;
@@ -163,9 +162,7 @@ final class Merge {
         }
         Attribute part = model.key().parts().get(0);
         if (model.key().generation() == KeyModel.Generation.UUID && part.get(source.instance()) == null) {
-            UUID made = UUID.randomUUID();
-            Object value = part.codec().javaType() == UUID.class ? made : made.toString();
-            queue.set(source.number(), part.member(), part.codec().toColumn(value)).about(source);
+            queue.set(source.number(), part.member(), part.codec().toColumn(Keys.newUuid(part))).about(source);
         }
         for (KeyModel.Derived derived : model.key().derived()) {
             derive(source, derived);

@@ -7,7 +7,6 @@ import java.util.ArrayDeque;
 import java.util.ArrayList;
 import java.util.Deque;
 import java.util.List;
-import java.util.UUID;
 import karzhoul.jpa.engine.Lines;
 import karzhoul.jpa.engine.Reply;
 import karzhoul.jpa.model.Attribute;
@@ -82,11 +81,11 @@ final class Persist {
                 + " can't be persisted, nor be reached by persist: merge it"));
         }
         if (entry == null || entry.state() == Entry.State.NEW || !entry.isStored()) {
-            giveUuid(model, instance);
+            Keys.giveUuid(model, instance);
             Entry ahead = entry == null ? aheadOf(model, instance) : entry;
             context.runAhead(Callbacks.Event.PrePersist, ahead);
         }
-        deriveKey(model, instance);
+        new Keys(context).derive(model, instance);
         fresh.add(instance);
     }
 
@@ -102,39 +101,6 @@ final class Persist {
         entry.number(context.newNumber(model));
         context.identities().put(entry);
         return entry;
-    }
-
-    private static void giveUuid(EntityModel model, Object instance) {
-        Attribute part = model.key().parts().get(0);
-        if (model.key().generation() == KeyModel.Generation.UUID && part.get(instance) == null) {
-            UUID made = UUID.randomUUID();
-            part.set(instance, part.codec().javaType() == UUID.class ? made : made.toString());
-        }
-    }
-
-    /** Copies the keys of those from which its key is derived (chapter 2.4.1). */
-    private void deriveKey(EntityModel model, Object instance) {
-        for (KeyModel.Derived derived : model.key().derived()) {
-            Object from = derived.from().get(instance);
-            if (from == null) {
-                throw context.marked(new PersistenceException("the key of a new " + model.name() + " is that of its "
-                    + derived.from().path() + ", which is null"));
-            }
-            Entry target = context.entryOf(from);
-            boolean isNew = target == null || target.state() == Entry.State.NEW;
-            if (isNew && derived.from().cascades().contains(CascadeType.PERSIST)) {
-                new Persist(context).of(from);
-            }
-            List<Object> key = Targets.keyOf(context.modelOf(from), from);
-            if (key == null) {
-                throw context.marked(new IllegalStateException("the key of a new " + model.name() + " is that of its "
-                    + derived.from().path() + ", which has none yet: persist it first"));
-            }
-            for (int i = 0; i < key.size(); i++) {
-                Attribute part = derived.parts().get(i);
-                part.set(instance, part.codec().toAttribute(key.get(i)));
-            }
-        }
     }
 
     private void checkKey(Entry entry) {

@@ -266,6 +266,9 @@ class Push {
         entry.instance(instance);
         entry.number(context.newNumber(model));
         identities.put(entry);
+        if (isPersisted) {
+            new Keys(context).prepare(entry);
+        }
         work.add(entry);
         return entry;
     }

@@ -60,7 +60,8 @@ public final class Engine implements AutoCloseable {
         return end == null && process.isAlive();
     }
 
-    long pid() {
+    /** The process of the program. */
+    public long pid() {
         return process.pid();
     }
 
