@@ -51,7 +51,7 @@ final class Manager implements EntityManager {
     }
 
     void needOpen() {
-        if (!isOpen) {
+        if (!isOpen()) {
             throw new IllegalStateException("the entity manager is closed");
         }
     }
@@ -378,7 +378,7 @@ final class Manager implements EntityManager {
 
     @Override
     public boolean isOpen() {
-        return isOpen;
+        return isOpen && factory.isOpen();
     }
 
     @Override

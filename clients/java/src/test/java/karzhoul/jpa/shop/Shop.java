@@ -13,7 +13,8 @@ import karzhoul.jpa.spi.UnitSettings;
 public final class Shop {
     /** The classes of the shop. */
     public static final List<Class<?>> CLASSES = List.of(Address.class, Base.class, Circle.class, Depot.class,
-        Holder.class, Order.class, Person.class, Place.class, Sealed.class, Tag.class, Team.class, Vip.class);
+        Holder.class, Order.class, Person.class, Place.class, Profile.class, Sealed.class, Tag.class, Team.class,
+        Vip.class);
 
     private Shop() {}
 
