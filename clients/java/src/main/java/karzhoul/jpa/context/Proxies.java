@@ -102,7 +102,7 @@ public final class Proxies {
             DynamicType.Builder<?> builder = described(entity);
             Class<?> made = builder.make()
                 .load(entity.getClassLoader(), ClassLoadingStrategy.UsingLookup.of(lookup)).getLoaded();
-            MethodHandles.Lookup inside = MethodHandles.privateLookupIn(made, lookup);
+            MethodHandles.Lookup inside = MethodHandles.privateLookupIn(made, MethodHandles.lookup());
             return Optional.of(inside.findConstructor(made, MethodType.methodType(void.class)));
         } catch (ReflectiveOperationException | IllegalArgumentException | IllegalStateException | LinkageError e) {
             System.getLogger("karzhoul").log(System.Logger.Level.INFO,
