@@ -11,6 +11,7 @@ import karzhoul.jpa.query.Tree.Asked;
 import karzhoul.jpa.query.Tree.Literal;
 import karzhoul.jpa.query.Tree.Now;
 import karzhoul.jpa.query.Tree.Parameter;
+import karzhoul.jpa.query.Tree.PartOf;
 import karzhoul.jpa.query.Tree.Value;
 
 /** The values of one execution, and the program's parameters that are made of them. */
@@ -49,6 +50,14 @@ final class Binding {
         names.clear();
     }
 
+    /** Refuses a text that is too long for the program, in words. */
+    void checkLength(String text) {
+        if (text.length() > SelectPlan.LONGEST) {
+            throw new IllegalArgumentException("the statement has " + text.length() + " letters with the values of its lists,"
+                    + " and at most " + SelectPlan.LONGEST + " are served; give it fewer values at a time");
+        }
+    }
+
     /** Keeps what a block of its own has answered. */
     void answer(int number, Object value) {
         asked.put(number, value);
@@ -56,7 +65,8 @@ final class Binding {
 
     /** Whether a value is known before any row is read. */
     static boolean isConstant(Value value) {
-        return value instanceof Literal || value instanceof Parameter || value instanceof Now || value instanceof Asked;
+        return value instanceof Literal || value instanceof Parameter || value instanceof Now || value instanceof Asked
+                || value instanceof PartOf;
     }
 
     /** What a literal, a parameter or the like is. */
@@ -69,6 +79,11 @@ final class Binding {
         }
         if (value instanceof Asked block) {
             return asked.get(block.number());
+        }
+        if (value instanceof PartOf part) {
+            Object key = constant(part.parameter());
+            return key == null ? null : part.entity().key().parts().get(part.place()).codec()
+                    .toAttribute(part.entity().key().columnsOf(key).get(part.place()));
         }
         return given.get(((Parameter) value).key());
     }

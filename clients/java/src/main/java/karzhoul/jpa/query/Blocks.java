@@ -10,6 +10,7 @@ import karzhoul.jpa.query.Tree.Aggregate;
 import karzhoul.jpa.query.Tree.Always;
 import karzhoul.jpa.query.Tree.And;
 import karzhoul.jpa.query.Tree.Asked;
+import karzhoul.jpa.query.Tree.Call;
 import karzhoul.jpa.query.Tree.Compare;
 import karzhoul.jpa.query.Tree.Condition;
 import karzhoul.jpa.query.Tree.Derived;
@@ -276,8 +277,24 @@ final class Blocks extends Rewriting {
         return exists(at, true, select, new Compare(at, isMax ? sign : turned(sign), y, x), x);
     }
 
+    /** The collection whose members a block counts, all of them; else null. */
+    private static Reference counted(Select select, Aggregate count) {
+        boolean isWhole = select.sources().size() == 1 && select.where() == null && !count.isDistinct()
+                && select.sources().get(0) instanceof Derived;
+        if (!isWhole || !Fetches.isVariable(count.operand(), select.sources().get(0).variable())) {
+            return null;
+        }
+        Reference path = (Reference) ((Derived) select.sources().get(0)).path();
+        return path.isCollection() ? path : null;
+    }
+
     /** COUNT compared with 0 or 1, as whether there is one. */
     private Condition counted(Compare of, String sign, Value other, Select select, Aggregate count) {
+        Reference collection = counted(select, count);
+        if (collection != null) {
+            move(collection);
+            return condition(new Compare(of.at(), sign, other, new Call(of.at(), Function.SIZE, List.of(collection))));
+        }
         String asks = turned(sign) + (other instanceof Literal literal ? literal.value() : "");
         boolean isAny = List.of(">0", "<>0", ">=1").contains(asks);
         if (!isAny && !List.of("=0", "<=0", "<1").contains(asks)) {

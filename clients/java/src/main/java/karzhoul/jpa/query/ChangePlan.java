@@ -25,6 +25,8 @@ record ChangePlan(Text text, Text check, List<SelectPlan> asked) implements Plan
             }
         }
         binding.clear();
-        return binding.asking.update(text.written(binding), binding.parameters());
+        String written = text.written(binding);
+        binding.checkLength(written);
+        return binding.asking.update(written, binding.parameters());
     }
 }

@@ -60,7 +60,8 @@ final class ChangePlanner {
         if (where == null) {
             return new Text();
         }
-        Condition lowered = new Joins(text, true).condition(blocks.filter(new Negation().condition(where)));
+        Condition lowered = new Joins(text, true).condition(blocks.filter(new WholeKeys().condition(
+                new Negation().condition(where))));
         try {
             return Text.of(" WHERE ").add(writer.conditions.condition(lowered));
         } catch (NotKept e) {
@@ -73,7 +74,8 @@ final class ChangePlanner {
         Reference path = (Reference) assignment.path();
         Value value = blocks.value(assignment.value());
         Text to = Text.of(writer.values.path(path) + " = ");
-        if (value instanceof Literal literal && literal.value() == null) {
+        boolean isNothing = value instanceof Literal literal && literal.value() == null;
+        if (isNothing && (path.attribute() == null || path.attribute().codec().toColumn(null) == null)) {
             return to.add("NULL");
         }
         if (path.attribute() == null) {

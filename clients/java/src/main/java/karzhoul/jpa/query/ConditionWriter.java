@@ -126,15 +126,15 @@ final class ConditionWriter {
             Decimals.decimal(literal.value());
         }
         String sign = compare.sign();
+        Text path = left.within(0);
         return new Text().add((binding, text) -> {
             Object value = binding.constant(right);
+            String written = path.written(binding);
             if (value == null) {
-                text.append(left.within(0).written(binding)).append(' ').append(sign).append(' ')
-                        .append(binding.parameter(null));
+                text.append(written).append(' ').append(sign).append(' ').append(binding.parameter(null));
                 return;
             }
             BigDecimal number = number(right, value);
-            String written = left.within(0).written(binding);
             if (sign.equals("=") || sign.equals("<>")) {
                 text.append(equated(binding, written, sign, number, whole.scale()));
             } else {
@@ -221,17 +221,26 @@ final class ConditionWriter {
 
     /** An element of a list as it is written; null where no value of the unit is equal to it. */
     private static String listed(Binding binding, Parameter list, Object one, Unit unit) {
+        Object column = one == null ? null : column(binding, list, one, unit);
         if (one == null) {
             return binding.parameter(null);
         } else if (unit instanceof Unit.Thing) {
             return binding.parameter(binding.thing(list, one));
+        }
+        return column == null ? null : binding.written(column);
+    }
+
+    /** What the program has of an element, the number of an object; null where no value of the unit is equal to it. */
+    static Object column(Binding binding, Parameter list, Object one, Unit unit) {
+        if (unit instanceof Unit.Thing) {
+            return binding.thing(list, one).number();
         } else if (unit instanceof Whole whole) {
             BigDecimal number = number(list, one);
-            return Decimals.isExact(number, whole.scale()) ? binding.written(Decimals.exact(number, whole.scale())) : null;
+            return Decimals.isExact(number, whole.scale()) ? Decimals.exact(number, whole.scale()) : null;
         } else if (unit instanceof Unit.Kept kept) {
-            return binding.written(binding.kept(kept.codec(), list, one));
+            return binding.kept(kept.codec(), list, one);
         } else if (one instanceof String || one instanceof Character) {
-            return binding.written(one.toString());
+            return one.toString();
         }
         throw new IllegalArgumentException("the parameter " + list + ": a text is expected, and " + one + " is of "
                 + one.getClass().getName());

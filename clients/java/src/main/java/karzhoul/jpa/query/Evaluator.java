@@ -48,6 +48,12 @@ final class Evaluator {
         return frame.row() == null ? null : frame.row()[place];
     }
 
+    /** The unit of a value that is a column; else null. */
+    Unit unit(Value value) {
+        Integer place = leaves.place(value);
+        return place == null ? null : leaves.columns().get(place).unit();
+    }
+
     Object value(Value value, Frame frame) {
         Integer place = leaves.place(value);
         if (place != null) {

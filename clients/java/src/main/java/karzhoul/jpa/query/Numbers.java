@@ -77,7 +77,7 @@ final class Numbers {
         if (isFloating && !isExact(a) && !isExact(b)) {
             double x = a.doubleValue();
             double y = b.doubleValue();
-            return x < y ? -1 : x > y ? 1 : 0;
+            return x == y ? 0 : Double.compare(x, y);
         }
         return Conversions.decimal(a).compareTo(Conversions.decimal(b));
     }

@@ -7,6 +7,7 @@ import karzhoul.jpa.query.Tree.And;
 import karzhoul.jpa.query.Tree.Asked;
 import karzhoul.jpa.query.Tree.Condition;
 import karzhoul.jpa.query.Tree.Delete;
+import karzhoul.jpa.query.Tree.InParameter;
 import karzhoul.jpa.query.Tree.Item;
 import karzhoul.jpa.query.Tree.ItemName;
 import karzhoul.jpa.query.Tree.Key;
@@ -58,16 +59,32 @@ final class Planner {
     }
 
     private SelectPlan select(Select typed) {
+        SelectPlan withoutLists = null;
+        if (Planner.conjuncts(typed.where()).stream().anyMatch(Planner::isList)) {
+            withoutLists = select(typed, true, null);
+        }
+        return select(typed, false, withoutLists);
+    }
+
+    private static boolean isList(Condition condition) {
+        return condition instanceof InParameter;
+    }
+
+    private SelectPlan select(Select typed, boolean areListsByDoor, SelectPlan withoutLists) {
         Fetches.Split split = Fetches.of(text, typed);
         Blocks blocks = new Blocks(text);
-        Select lowered = blocks.select(new Negation().select(split.select()));
+        Select lowered = blocks.select(new WholeKeys().select(new Negation().select(split.select())));
         lowered = new Averages().select(new Joins(text, false).select(lowered));
-        Parts parts = new Parts(lowered, asked(blocks.asked()), split.fetches());
+        Parts parts = new Parts(lowered, asked(blocks.asked()), split.fetches(), withoutLists);
         BlockWriter writer = new BlockWriter(unit);
         Text from = writer.from(lowered.sources());
         List<Text> kept = new ArrayList<>();
         List<Condition> filters = new ArrayList<>();
         for (Condition conjunct : conjuncts(lowered.where())) {
+            if (areListsByDoor && isList(conjunct)) {
+                filters.add(conjunct);
+                continue;
+            }
             try {
                 kept.add(writer.conditions.condition(conjunct));
             } catch (NotKept e) {
@@ -89,9 +106,9 @@ final class Planner {
     }
 
     /** What all plans of one SELECT share. */
-    private record Parts(Select select, List<SelectPlan> asked, List<Fetches.Fetch> fetches) {
+    private record Parts(Select select, List<SelectPlan> asked, List<Fetches.Fetch> fetches, SelectPlan withoutLists) {
         Parts with(Select other) {
-            return new Parts(other, asked, fetches);
+            return new Parts(other, asked, fetches, withoutLists);
         }
     }
 
@@ -234,8 +251,7 @@ final class Planner {
                 return null;
             }
             if (select.isDistinct() && !isGiven(path)) {
-                throw QueryFault.at(text, value.at(), "with DISTINCT, ORDER BY takes what is selected, and \"" + path
-                        + "\" isn't");
+                throw notGiven(value.at(), path);
             }
             boolean isSortedByDoor = select.isDistinct() && !path.steps().isEmpty();
             return isSortedByDoor ? null : Text.of(writer.values.path(path));
@@ -249,24 +265,50 @@ final class Planner {
 
         private SelectPlan finished(Leaves leaves, List<Value> groups, Condition having, List<Text> order,
                 boolean isDistinctKept, Text tail) {
-            List<SelectPlan.Sorted> sorted = new ArrayList<>();
-            if (order == null) {
-                for (Key key : select.order()) {
-                    Value value = key.value() instanceof ItemName name ? select.items().get(name.place()).value()
-                            : key.value();
-                    leaves.add(value);
-                    sorted.add(new SelectPlan.Sorted(value, key.isDescending()));
-                }
-            }
+            int columns = leaves.columns().size();
+            List<SelectPlan.Sorted> sorted = order == null ? sorted(leaves) : List.of();
+            // DISTINCT over a column more would keep rows that are equal
+            boolean isDistinctByProgram = isDistinctKept && leaves.columns().size() == columns;
             if (leaves.columns().isEmpty()) {
                 leaves.addNothing();
             }
-            Text whole = Text.of(isDistinctKept ? "SELECT DISTINCT " : "SELECT ").add(columns(leaves)).add(body).add(tail);
+            Text whole = Text.of(isDistinctByProgram ? "SELECT DISTINCT " : "SELECT ").add(columns(leaves)).add(body).add(tail);
             if (order != null && !order.isEmpty()) {
                 whole.add(" ORDER BY ").add(Text.joined(", ", order));
             }
             return new SelectPlan(whole, leaves, select.items(), filters, groups, having,
-                    select.isDistinct() && !isDistinctKept, sorted, parts.asked(), parts.fetches());
+                    select.isDistinct() && !isDistinctByProgram, sorted, parts.asked(), parts.fetches(),
+                    parts.withoutLists());
+        }
+
+        /** The keys by which the door sorts. */
+        private List<SelectPlan.Sorted> sorted(Leaves leaves) {
+            List<SelectPlan.Sorted> sorted = new ArrayList<>();
+            for (Key key : select.order()) {
+                Value value = key.value() instanceof ItemName name ? select.items().get(name.place()).value() : key.value();
+                if (select.isDistinct() && !(key.value() instanceof ItemName)) {
+                    checkGiven(value);
+                }
+                leaves.add(value);
+                sorted.add(new SelectPlan.Sorted(value, key.isDescending()));
+            }
+            return sorted;
+        }
+
+        private void checkGiven(Value value) {
+            new Rewriting() {
+                @Override
+                Value value(Value part) {
+                    if (part instanceof Reference path && !isGiven(path)) {
+                        throw notGiven(path.at(), path);
+                    }
+                    return valueWithin(part);
+                }
+            }.value(value);
+        }
+
+        private QueryFault notGiven(int at, Reference path) {
+            return QueryFault.at(text, at, "with DISTINCT, ORDER BY takes what is selected, and \"" + path + "\" isn't");
         }
 
         private Text columns(Leaves leaves) {

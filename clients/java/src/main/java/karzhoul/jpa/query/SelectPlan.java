@@ -27,10 +27,13 @@ import karzhoul.jpa.query.Tree.Value;
  * @param order by what it sorts; empty where it doesn't
  * @param asked the blocks that are asked before, by their numbers
  * @param fetches what is read of the results' instances
+ * @param withoutLists how it is answered where its lists make the text too long; null where no list stands in WHERE
  */
 record SelectPlan(Text text, Leaves leaves, List<Item> items, List<Condition> filters, List<Value> groups,
         Condition having, boolean isDistinct, List<Sorted> order, List<SelectPlan> asked,
-        List<Fetches.Fetch> fetches) implements Plan {
+        List<Fetches.Fetch> fetches, SelectPlan withoutLists) implements Plan {
+    /** The most bytes of a text; a parameter's name has one for each letter. */
+    static final int LONGEST = 16_384;
 
     /** A key by which the door sorts. */
     record Sorted(Value value, boolean isDescending) {}
@@ -48,8 +51,16 @@ record SelectPlan(Text text, Leaves leaves, List<Item> items, List<Condition> fi
         for (int number = 0; number < asked.size(); number++) {
             binding.answer(number, asked.get(number).single(binding));
         }
+        return answered(binding, first, max);
+    }
+
+    private List<Object[]> answered(Binding binding, Integer first, Integer max) {
         binding.clear();
         String written = text.written(binding);
+        if (written.length() > LONGEST && withoutLists != null) {
+            return withoutLists.answered(binding, first, max);
+        }
+        binding.checkLength(written);
         boolean isCut = isCutByProgram();
         List<Object[]> found = binding.asking.rows(written, binding.parameters(), isCut ? first : null, isCut ? max : null);
         Evaluator evaluator = new Evaluator(leaves, binding);

@@ -3,7 +3,10 @@ package karzhoul.jpa.query;
 import java.util.ArrayList;
 import java.util.List;
 
-/** A text of the program's language, parts of which are known as it is executed. */
+/**
+ * A text of the program's language, parts of which are known as it is executed. Once it is made, threads may write it at
+ * the same time.
+ */
 final class Text {
     /** A part that is known as the statement is executed. */
     interface Part {
@@ -70,12 +73,11 @@ final class Text {
 
     /** The text for these values. */
     String written(Binding binding) {
-        flush();
         StringBuilder text = new StringBuilder();
         for (Part part : parts) {
             part.write(binding, text);
         }
-        return text.toString();
+        return text.append(fixed).toString();
     }
 
     /** The texts with something between. */

@@ -68,7 +68,7 @@ final class Tree {
 
     /** What has a value. */
     sealed interface Value extends Expression permits Path, Reference, Literal, Parameter, EntityName, ItemName, Signed,
-            Arithmetic, Call, Aggregate, Case, Scalar, TypeOf, Now, Treated, MapPart, Construct, Asked, Average {}
+            Arithmetic, Call, Aggregate, Case, Scalar, TypeOf, Now, Treated, MapPart, Construct, Asked, Average, PartOf {}
 
     /** Names with dots between them, as they are written. */
     record Path(int at, List<String> names) implements Value {
@@ -182,6 +182,9 @@ final class Tree {
 
     /** The value of a block of its own, asked before the statement. */
     record Asked(int at, Select select, int number) implements Value {}
+
+    /** A part of a parameter that is an embedded key. */
+    record PartOf(int at, Parameter parameter, EntityModel entity, int place) implements Value {}
 
     /** A sum that is divided by a count, as AVG is had. */
     record Average(int at, Value sum, Value count) implements Value {}

@@ -1,7 +1,11 @@
 package karzhoul.jpa.query;
 
 import java.util.Collection;
+import java.util.HashSet;
+import java.util.IdentityHashMap;
 import java.util.List;
+import java.util.Map;
+import java.util.Set;
 import java.util.regex.Pattern;
 import karzhoul.jpa.query.Evaluator.Frame;
 import karzhoul.jpa.query.Tree.Always;
@@ -22,6 +26,7 @@ import karzhoul.jpa.query.Tree.Value;
 /** Decides conditions over the program's rows, in three truths; null is unknown (chapter 4.11, tables of truth). */
 final class Truths {
     private final Evaluator evaluator;
+    private final Map<InParameter, Set<Object>> lists = new IdentityHashMap<>();
 
     Truths(Evaluator evaluator) {
         this.evaluator = evaluator;
@@ -39,8 +44,7 @@ final class Truths {
             of.values().forEach(value -> all.add(evaluator.value(value, frame)));
             return turned(of.isNot(), among(evaluator.value(of.value(), frame), all));
         } else if (condition instanceof InParameter of) {
-            Collection<?> all = ConditionWriter.list(evaluator.binding(), of.list());
-            return turned(of.isNot(), among(evaluator.value(of.value(), frame), all));
+            return turned(of.isNot(), amongAll(of, frame));
         } else if (condition instanceof Like of) {
             return turned(of.isNot(), like(of, frame));
         } else if (condition instanceof IsNull of) {
@@ -109,6 +113,31 @@ final class Truths {
             }
         }
         return found;
+    }
+
+    /** IN of a list: its elements are looked up as the program has them, where the value is a column. */
+    private Boolean amongAll(InParameter of, Frame frame) {
+        Collection<?> all = ConditionWriter.list(evaluator.binding(), of.list());
+        Unit unit = evaluator.unit(of.value());
+        if (unit == null || all.isEmpty()) {
+            return among(evaluator.value(of.value(), frame), all);
+        }
+        Set<Object> columns = lists.computeIfAbsent(of, list -> columns(list, all, unit));
+        Object value = evaluator.key(of.value(), null, frame);
+        if (value == null) {
+            return null;
+        }
+        return columns.contains(value) ? Boolean.TRUE : all.contains(null) ? null : Boolean.FALSE;
+    }
+
+    private Set<Object> columns(InParameter of, Collection<?> all, Unit unit) {
+        Set<Object> columns = new HashSet<>();
+        for (Object one : all) {
+            if (one != null) {
+                columns.add(Comparing.key(ConditionWriter.column(evaluator.binding(), of.list(), one, unit)));
+            }
+        }
+        return columns;
     }
 
     private Boolean like(Like of, Frame frame) {

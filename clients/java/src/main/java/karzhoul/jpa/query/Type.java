@@ -2,6 +2,9 @@ package karzhoul.jpa.query;
 
 import java.math.BigDecimal;
 import java.math.BigInteger;
+import java.sql.Time;
+import java.time.LocalTime;
+import java.time.OffsetTime;
 import java.time.temporal.Temporal;
 import java.util.Calendar;
 import java.util.Date;
@@ -75,8 +78,18 @@ record Type(Kind kind, Class<?> java, EntityModel entity) {
         return switch (kind) {
             case ENUM, OTHER -> java == other.java;
             case ENTITY -> entity.root() == other.entity.root();
+            case TEMPORAL -> isLegacy() || other.isLegacy() || isTimeOfDay() == other.isTimeOfDay();
             default -> true;
         };
+    }
+
+    private boolean isTimeOfDay() {
+        return java == LocalTime.class || java == OffsetTime.class || java == Time.class;
+    }
+
+    /** Whether the class doesn't tell which part of a time it is. */
+    private boolean isLegacy() {
+        return java == Date.class || Calendar.class.isAssignableFrom(java);
     }
 
     /** Whether values of it have an order in the language (chapter 4.6.4). */
@@ -124,6 +137,7 @@ record Type(Kind kind, Class<?> java, EntityModel entity) {
         return switch (kind) {
             case ENUM, OTHER -> java.getName();
             case ENTITY -> "the entity " + entity.name();
+            case TEMPORAL -> isTimeOfDay() ? "a time of day" : "a date";
             default -> kind.told;
         };
     }
