@@ -33,8 +33,8 @@ final class Carry {
         queue = context.queue();
     }
 
-    /** Gives all objects their numbers of the new run. */
-    void overNewRun() {
+    /** Gives all objects their numbers of the new run; answers how many there are. */
+    int overNewRun() {
         for (Entry entry : identities.numbered()) {
             if (entry.state() == Entry.State.DETACHED) {
                 identities.remove(entry);
@@ -60,6 +60,7 @@ final class Carry {
         read(reads);
         fresh.forEach(this::makeAnew);
         repeat();
+        return stored.size() + fresh.size();
     }
 
     /** What relations lead to, and the context let go, has no number in the new run. */

@@ -35,7 +35,6 @@ final class Context {
     private final UnitModel unit;
     private final Identities identities = new Identities();
     private final Lines queue = new Lines();
-    private final List<Event> told = new ArrayList<>();
     private final Map<Entry, Set<Callbacks.Event>> heard = new IdentityHashMap<>();
     private final BitSet detached = new BitSet();
     private final Map<Long, WeakReference<Object>> lost = new HashMap<>();
@@ -154,7 +153,13 @@ final class Context {
             queue.clearAll(now.manager());
         }
         if (identities.hasNumbers()) {
-            new Carry(this).overNewRun();
+            try {
+                int carried = new Carry(this).overNewRun();
+                factory.pool().carried(carried);
+            } catch (RuntimeException e) {
+                letAllGo();         // half carried over it would lose changes without a word
+                throw e;
+            }
         }
     }
 
@@ -294,7 +299,7 @@ final class Context {
 
     // ---- asking ----------------------------------------------------------------------------------------------------
 
-    /** Sends what waits; the replies from this place on. The first refusal is thrown, once all events were taken. */
+    /** Sends what waits; the replies from this place on. The first refusal is thrown. */
     Reply[] ask(int from) {
         return ask(from, null);
     }
@@ -312,28 +317,15 @@ final class Context {
         } finally {
             queue.clear();
         }
-        Reply refused = null;
-        for (int i = 0; i < replies.length; i++) {
-            if (!replies[i].isRefused()) {
-                told.addAll(replies[i].events());
-            } else if (refused == null && i < main) {
-                refused = replies[i];
+        for (int i = 0; i < main; i++) {
+            if (replies[i].isRefused()) {
+                if (i < from || Refusals.marks(replies[i])) {
+                    mark();         // what waited, and was refused, must not be missing from a commit
+                }
+                throw Refusals.of(replies[i]);
             }
-        }
-        if (refused != null) {
-            if (Refusals.marks(refused)) {
-                mark();
-            }
-            throw Refusals.of(refused);
         }
         return from == 0 ? replies : Arrays.copyOfRange(replies, from, replies.length);
-    }
-
-    /** The events told since they were taken last. */
-    List<Event> takeEvents() {
-        List<Event> taken = List.copyOf(told);
-        told.clear();
-        return taken;
     }
 
     // ---- callbacks -------------------------------------------------------------------------------------------------
@@ -482,7 +474,6 @@ final class Context {
         identities.clear();
         detached.clear();
         lost.clear();
-        told.clear();
         heard.clear();
         touched.clear();
         isTouched = false;

@@ -21,7 +21,6 @@ final class Flush {
 
     private final Context context;
     private final Lines queue;
-    private final List<Event> later = new ArrayList<>();
 
     Flush(Context context) {
         this.context = context;
@@ -48,8 +47,7 @@ final class Flush {
         }
         context.send();                 // a change that were refused must not be behind a commit that is done
         queue.commit(context.manager());
-        context.ask(0);
-        take(false);
+        take(context.ask(0)[0].events(), false);
         context.committed();
         context.forgetRunAhead();
     }
@@ -136,15 +134,14 @@ final class Flush {
     private void write() {
         context.send();
         queue.flush(context.manager());
-        context.ask(0);
-        take(true);
-        after();
+        List<Event> events = context.ask(0)[0].events();
+        take(events, true);
+        after(events);
     }
 
     /** Takes what the flush tells: states, keys, versions. What it loaded and removed is read where that is possible. */
-    private void take(boolean isOpen) {
+    private void take(List<Event> events, boolean isOpen) {
         context.touched(false);
-        List<Event> events = context.takeEvents();
         if (isOpen) {
             readRemoved(events);
         }
@@ -155,7 +152,6 @@ final class Flush {
                 persisted.add(entry);
             }
         }
-        later.addAll(events);
         Persist.manage(context, persisted);
         context.cleanTouched();
     }
@@ -173,9 +169,7 @@ final class Flush {
     }
 
     /** Runs the callbacks that the flush told, and that didn't run before it. */
-    private void after() {
-        List<Event> events = List.copyOf(later);
-        later.clear();
+    private void after(List<Event> events) {
         for (Event event : events) {
             Entry entry = context.identities().of(event.number());
             if (entry != null && event.kind() != Callbacks.Event.PostLoad && !context.wasRunAhead(event.kind(), entry)) {

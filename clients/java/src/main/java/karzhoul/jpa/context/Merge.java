@@ -84,6 +84,8 @@ final class Merge {
                     continue;
                 }
                 reached.add(instance);
+            } else if (entry.isHollow()) {
+                continue;
             } else {
                 managed.add(entry);
             }
@@ -103,7 +105,10 @@ final class Merge {
         for (Object instance : reached) {
             EntityModel model = context.modelOf(instance);
             List<Object> key = Targets.keyOf(model, instance);
-            if (key != null && context.identities().of(model, key) == null) {
+            Entry known = key == null ? null : context.identities().of(model, key);
+            if (known != null && known.isHollow()) {
+                new Fill(context).proxy(known);
+            } else if (known == null && key != null) {
                 models.add(model.root());
                 keys.add(key);
             }
@@ -143,10 +148,9 @@ final class Merge {
         int from = queue.count();
         queue.merge(context.manager(), source.number()).about(source);
         context.touched(true);
-        long image = context.ask(from)[0].number();
-        List<Event> events = context.takeEvents();
-        readBack(events, image);
-        return context.identities().of(image);
+        Reply reply = context.ask(from)[0];
+        readBack(reply.events(), reply.number());
+        return context.identities().of(reply.number());
     }
 
     private void versionAndKey(Entry source) {

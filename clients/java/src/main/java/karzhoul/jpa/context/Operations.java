@@ -85,11 +85,11 @@ final class Operations {
         Predicate<Relation> cascades =
             relation -> relation.cascades().contains(CascadeType.REMOVE) || relation.removesOrphans();
         Set<Entry> reached = new Graph(context).entries(entry, cascades);
-        context.push().these(reached);
+        context.push().relationsOf(reached);
+        int from = queue.count();
         queue.remove(context.manager(), entry.number()).about(entry);
         context.touched(true);
-        context.ask(0);
-        removed(context.takeEvents());
+        removed(context.ask(from)[0].events());
         for (Entry each : reached) {
             removeJoined(each);
         }
@@ -163,13 +163,11 @@ final class Operations {
             new Fill(context).proxy(entry);
             return;
         }
-        Set<Entry> reached = new Graph(context).entries(entry, it -> it.cascades().contains(CascadeType.REFRESH));
-        context.push().these(reached.stream().filter(Entry::isManaged).toList());
+        int from = queue.count();
         queue.refresh(context.manager(), entry.number()).about(entry);
         context.touched(true);
-        context.ask(0);
         Set<Entry> read = new LinkedHashSet<>();
-        for (Event event : context.takeEvents()) {
+        for (Event event : context.ask(from)[0].events()) {
             Entry known = context.identities().of(event.number());
             if (known != null && event.kind() == Callbacks.Event.PostLoad) {
                 known.stale(false);
@@ -195,7 +193,7 @@ final class Operations {
             return;
         }
         Set<Entry> reached = new Graph(context).entries(entry, it -> it.cascades().contains(CascadeType.DETACH));
-        context.push().these(reached);
+        context.push().relationsOf(reached);
         if (entry.number() != 0) {
             queue.detach(context.manager(), entry.number()).about(entry);
         }

@@ -43,7 +43,7 @@ final class Persist {
                 Entry entry = push.known(instance);
                 made.add(entry);
             }
-            push.these(reached);
+            push.relationsOf(reached);
             push.these(made);
             made.forEach(this::checkKey);
             send(context.entryOf(root));

@@ -54,6 +54,12 @@ class Push {
         rest();
     }
 
+    /** The relations of these, along which the program is to go on, and what they lead to. */
+    final void relationsOf(Collection<Entry> entries) {
+        entries.forEach(this::tellRelations);
+        rest();
+    }
+
     /** What left a joined relation that removes orphans, which the program doesn't know as such. */
     final List<Entry> orphans() {
         return orphans;
@@ -76,20 +82,22 @@ class Push {
         if (entry.isHollow() || entry.state() == Entry.State.DETACHED) {
             return;
         }
-        int before = queue.count();
-        EntityModel model = entry.model();
-        for (Attribute attribute : model.attributes()) {
+        for (Attribute attribute : entry.model().attributes()) {
             value(entry, attribute);
         }
-        for (Relation relation : model.relations()) {
+        tellRelations(entry);
+    }
+
+    private void tellRelations(Entry entry) {
+        if (entry.isHollow() || entry.state() == Entry.State.DETACHED) {
+            return;
+        }
+        for (Relation relation : entry.model().relations()) {
             if (relation.isMany()) {
                 collection(entry, relation);
             } else {
                 link(entry, relation);
             }
-        }
-        if (queue.count() > before) {
-            context.touched(true);
         }
     }
 
@@ -123,6 +131,7 @@ class Push {
     }
 
     private void touch(Entry entry) {
+        context.touched(true);
         if (!entry.isTouched()) {
             entry.touch();
             context.hasTouched(entry);

@@ -17,7 +17,7 @@ import java.util.function.Supplier;
  * <p>An entity manager is busy from {@link #enter} to {@link #leave}: for one operation, or for a whole transaction.
  * While one is busy its numbers stay names. A run ends, by {@code restart}, while none is busy, once it has made half
  * of the objects that it may; who wants to begin then waits, but not longer than {@link #PATIENCE}, since a thread
- * may wait for itself. Where all managers of the program are held, one that isn't busy is taken from its holder, who
+ * may wait for itself; then nobody waits until so many more objects are made. Where all managers of the program are held, one that isn't busy is taken from its holder, who
  * finds its objects again at its next use.
  */
 public final class Pool implements AutoCloseable {
@@ -27,6 +27,7 @@ public final class Pool implements AutoCloseable {
     /** How many objects a run may make before it is ended, and how many the program makes at most. */
     static final int HIGH = 500_000;
     static final int MOST = 990_000;
+    private static final int STEP = 50_000;
     private static final long PATIENCE = TimeUnit.MILLISECONDS.toNanos(200);
 
     private final Supplier<Engine> starting;
@@ -40,6 +41,7 @@ public final class Pool implements AutoCloseable {
     private int opened;
     private int busy;
     private long high = HIGH;
+    private long gate = HIGH;
     private boolean isClosed;
 
     Pool(Supplier<Engine> starting) {
@@ -144,6 +146,17 @@ public final class Pool implements AutoCloseable {
         leave(session);
     }
 
+    /** So many objects were made again for a manager that lived over the end of a run: they count for no end of this one. */
+    public void carried(int objects) {
+        lock.lock();
+        try {
+            high = Math.min(MOST, high + objects);
+            gate = Math.max(gate, high);
+        } finally {
+            lock.unlock();
+        }
+    }
+
     /** Ends the run now, where no entity manager is busy; else not at all. Answers whether it did. */
     public boolean restartIfIdle() {
         lock.lock();
@@ -183,7 +196,10 @@ public final class Pool implements AutoCloseable {
         if (engine.made() >= high && busy == 0) {
             restart();
         }
-        return engine.made() < high || passed > PATIENCE && engine.made() < MOST;
+        if (engine.made() >= gate && passed > PATIENCE && engine.made() < MOST) {
+            gate = Math.min(MOST, engine.made() + STEP);
+        }
+        return engine.made() < gate;
     }
 
     private Session sessionFor(Session held) {
@@ -236,6 +252,7 @@ public final class Pool implements AutoCloseable {
         idle.clear();
         opened = 0;
         high = HIGH;
+        gate = HIGH;
     }
 
     private void await(long passed, long wait) {

@@ -288,6 +288,38 @@ class ManagerTest extends Tried {
     }
 
     @Test
+    void refreshLeavesOthersAsTheyAre() {
+        store(new Person("Ada"), new Person("Bea"));
+        Person ada = manager.find(Person.class, 1L);
+        Person bea = manager.find(Person.class, 2L);
+        ada.setName("changed");
+        bea.setName("x".repeat(70_000));
+        manager.refresh(bea);
+        assertEquals("Bea", bea.getName());
+        assertEquals("changed", ada.getName());
+        commit(() -> { });
+        assertEquals("changed", read(other -> other.find(Person.class, 1L)).getName());
+    }
+
+    @Test
+    void mergeOntoAProxyThatNobodyRead() {
+        Depot depot = new Depot("d", "here");
+        Order order = new Order(1, 1);
+        order.setDepot(depot);
+        store(depot, order);
+        Depot detached = manager.find(Depot.class, "d");
+        manager.clear();
+        detached.setPlace("there");
+        commit(() -> {
+            Depot proxy = manager.find(Order.class, 1L).getDepot();
+            assertFalse(LoadStates.isRead(proxy));
+            assertSame(proxy, manager.merge(detached));
+            assertSame(proxy, manager.merge(manager.getReference(Depot.class, "d")));
+        });
+        assertEquals("there", read(other -> other.find(Depot.class, "d")).getPlace());
+    }
+
+    @Test
     void detachGoesOnAlongItsCascade() {
         store(new Person("Ada").add(new Order(1, 1)));
         Person ada = manager.find(Person.class, 1L);
