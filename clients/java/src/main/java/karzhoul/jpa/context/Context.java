@@ -47,6 +47,7 @@ final class Context {
     private boolean isMarked;
     private boolean isTouched;
     private boolean hasStale;
+    private boolean hasRemoved;
     private boolean isClosing;
 
     Context(Factory factory) {
@@ -237,6 +238,21 @@ final class Context {
         touched.clear();
     }
 
+    /**
+     * What was removed, and whose row a flush has not dropped, is managed again: a relation that cascades PERSIST led
+     * to it still (chapter 3.2.4).
+     */
+    void revive() {
+        if (!hasRemoved) {
+            return;
+        }
+        for (Entry entry : identities.numbered()) {
+            if (entry.state() == Entry.State.REMOVED && entry.isStored()) {
+                entry.state(Entry.State.MANAGED);
+            }
+        }
+    }
+
     boolean hasStale() {
         return hasStale;
     }
@@ -370,8 +386,10 @@ final class Context {
                 return true;
             case PreRemove:
                 entry.state(Entry.State.REMOVED);
+                hasRemoved = true;
                 return false;
             case PostPersist:
+                entry.state(Entry.State.MANAGED);
                 entry.stored(true);
                 entry.version(0);
                 return false;
@@ -425,6 +443,7 @@ final class Context {
 
     /** Lets an entry go, as it is: it is detached. */
     void forget(Entry entry) {
+        heard.remove(entry);
         identities.remove(entry);
         if (entry.number() != 0) {
             detached.set((int) entry.number());
@@ -478,6 +497,7 @@ final class Context {
         touched.clear();
         isTouched = false;
         hasStale = false;
+        hasRemoved = false;
     }
 
     /** Detaches all (chapter 3.2.7); an open transaction goes on. */

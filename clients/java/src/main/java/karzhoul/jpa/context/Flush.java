@@ -152,6 +152,7 @@ final class Flush {
                 persisted.add(entry);
             }
         }
+        context.revive();
         Persist.manage(context, persisted);
         context.cleanTouched();
     }

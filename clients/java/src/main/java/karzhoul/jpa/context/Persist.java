@@ -36,20 +36,29 @@ final class Persist {
         if (known != null && known.isHollow()) {
             return;
         }
-        List<Entry> reached = reach(root);
         try {
+            List<Entry> reached = reach(root);
             Push push = context.push();
             for (Object instance : fresh) {
-                Entry entry = push.known(instance);
-                made.add(entry);
+                made.add(push.known(instance));
             }
             push.relationsOf(reached);
             push.these(made);
             made.forEach(this::checkKey);
             send(context.entryOf(root));
         } catch (RuntimeException e) {
-            made.stream().filter(entry -> entry.state() == Entry.State.NEW).forEach(context::forget);
+            giveUp();
             throw context.marked(e);
+        }
+    }
+
+    /** What was refused is new as before, and may be persisted another time. */
+    private void giveUp() {
+        for (Object instance : fresh) {
+            Entry entry = context.entryOf(instance);
+            if (entry != null && entry.state() == Entry.State.NEW) {
+                context.forget(entry);
+            }
         }
     }
 
@@ -80,13 +89,13 @@ final class Persist {
             throw context.marked(new EntityExistsException("EntityExists: a detached " + model.name()
                 + " can't be persisted, nor be reached by persist: merge it"));
         }
+        fresh.add(instance);
         if (entry == null || entry.state() == Entry.State.NEW || !entry.isStored()) {
             Keys.giveUuid(model, instance);
             Entry ahead = entry == null ? aheadOf(model, instance) : entry;
             context.runAhead(Callbacks.Event.PrePersist, ahead);
         }
         new Keys(context).derive(model, instance);
-        fresh.add(instance);
     }
 
     /** A generated key that is set, or a proxy that isn't this context's, is of what was stored before. */

@@ -16,6 +16,7 @@ import java.util.function.Consumer;
 public final class Program {
     private static final String SCHEME = "karzhoul:";
     private static final String MEMORY = "memory";
+    private static final List<String> SUFFIXES = List.of("", "-wal", "-shm", "-journal");
     private static final Map<String, Program> OPEN = new HashMap<>();
 
     private final String store;
@@ -111,7 +112,12 @@ public final class Program {
         Path shared = Path.of("/dev/shm");
         Path folder = Files.isWritable(shared)
             ? Files.createTempDirectory(shared, "karzhoul") : Files.createTempDirectory("karzhoul");
-        return folder.resolve("memory.db");
+        Path file = folder.resolve("memory.db");
+        folder.toFile().deleteOnExit();         // where the factory isn't closed; deleted last
+        for (String suffix : SUFFIXES) {
+            file.resolveSibling(file.getFileName() + suffix).toFile().deleteOnExit();
+        }
+        return file;
     }
 
     public Pool pool() {
@@ -134,7 +140,7 @@ public final class Program {
         try {
             Files.deleteIfExists(mappingFile);
             if (memory != null) {
-                for (String suffix : List.of("", "-wal", "-shm", "-journal")) {
+                for (String suffix : SUFFIXES) {
                     Files.deleteIfExists(memory.resolveSibling(memory.getFileName() + suffix));
                 }
                 Files.deleteIfExists(memory.getParent());

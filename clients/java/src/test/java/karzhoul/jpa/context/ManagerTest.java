@@ -20,6 +20,7 @@ import jakarta.persistence.SynchronizationType;
 import jakarta.persistence.TransactionRequiredException;
 import java.util.List;
 import java.util.Map;
+import karzhoul.jpa.shop.Audit;
 import karzhoul.jpa.shop.Depot;
 import karzhoul.jpa.shop.Holder;
 import karzhoul.jpa.shop.Order;
@@ -285,6 +286,35 @@ class ManagerTest extends Tried {
         manager.refresh(ada);
         assertEquals("Bea", ada.getName());
         assertEquals(1, ada.getVersion());
+    }
+
+    @Test
+    void whatIsRemovedAndStillInACascadingRelationIsManagedAgain() {
+        store(new Person("Ada").add(new Order(1, 1)));
+        Person ada = manager.find(Person.class, 1L);
+        Order order = ada.getOrders().get(0);
+        commit(() -> manager.remove(order));
+        assertTrue(manager.contains(order));
+        assertSame(order, manager.find(Order.class, 1L));
+        commit(() -> order.setAmount(9L));
+        assertEquals(9L, read(other -> other.find(Order.class, 1L)).getAmount());
+    }
+
+    @Test
+    void whatWasRefusedMayBePersistedAnotherTime() {
+        Person ada = new Person("Ada");
+        Audit.also((event, entity) -> {
+            throw new IllegalStateException("not today");
+        });
+        manager.getTransaction().begin();
+        assertThrows(IllegalStateException.class, () -> manager.persist(ada));
+        manager.getTransaction().rollback();
+        Audit.also(null);
+        Audit.told();
+        assertFalse(manager.contains(ada));
+        commit(() -> manager.persist(ada));
+        assertEquals(List.of("PrePersist Person Ada", "PostPersist Person Ada"), Audit.told());
+        assertEquals("created", read(other -> other.find(Person.class, 1L)).getCreated());
     }
 
     @Test
