@@ -474,7 +474,7 @@ final class Context {
 
     /** The number of a new object of this entity. */
     long newNumber(EntityModel model) {
-        return factory.pool().numbers().take(session.engine(), model.name());
+        return factory.pool().numbers().take(session.engine(), model.mappedName());
     }
 
     /** A proxy of this key, which this context manages from now on. */

@@ -10,6 +10,7 @@ import java.io.IOException;
 import java.io.InputStream;
 import java.io.OutputStream;
 import java.nio.charset.StandardCharsets;
+import java.nio.file.FileAlreadyExistsException;
 import java.nio.file.Files;
 import java.nio.file.Path;
 import java.util.Arrays;
@@ -53,13 +54,19 @@ public final class StoreDescription {
      */
     public void prepare() {
         try {
-            isNew = !Files.exists(store) || Files.size(store) == 0 || Files.exists(mark);
+            isNew = isEmpty() || Files.exists(mark);
             if (isNew && !Files.exists(mark)) {
                 Files.createFile(mark);
             }
+        } catch (FileAlreadyExistsException another) {
+            // Another JVM begins with the same store: the program lets one of them have it.
         } catch (IOException fault) {
             throw new PersistenceException("The store " + store + " can't be made: " + fault, fault);
         }
+    }
+
+    private boolean isEmpty() throws IOException {
+        return !Files.exists(store) || Files.size(store) == 0;
     }
 
     /**
@@ -96,6 +103,10 @@ public final class StoreDescription {
      */
     public PersistenceException explained(String program, PersistenceException refused) {
         try {
+            if (isEmpty()) {
+                Files.deleteIfExists(mark);
+                return refused;
+            }
             String stored = isNew ? null : readAlone(program);
             return stored == null || stored.equals(description) ? refused : refused(stored);
         } catch (IOException | InterruptedException fault) {

@@ -17,7 +17,7 @@ final class PlainEntity implements EntityModel {
     private final String table;
     private final String discriminator;
     private final boolean isAbstract;
-    private final List<EntityModel> below = new ArrayList<>();
+    private List<EntityModel> below = List.of();
     private final Set<String> names = new HashSet<>();
     private final List<PlainAttribute> ownAttributes = new ArrayList<>();
     private final List<PlainRelation> ownRelations = new ArrayList<>();
@@ -38,7 +38,7 @@ final class PlainEntity implements EntityModel {
         this.discriminator = discriminator;
         this.isAbstract = java.lang.reflect.Modifier.isAbstract(javaClass.getModifiers());
         if (above != null) {
-            above.below.add(this);
+            above.below = Stream.concat(above.below.stream(), Stream.of(this)).toList();
         }
     }
 
@@ -180,7 +180,7 @@ final class PlainEntity implements EntityModel {
 
     @Override
     public List<EntityModel> subEntities() {
-        return List.copyOf(below);
+        return below;
     }
 
     @Override

@@ -4,6 +4,7 @@ import java.lang.invoke.MethodHandle;
 import java.util.ArrayList;
 import java.util.List;
 import java.util.Optional;
+import java.util.stream.Stream;
 
 /** A key as it was read. */
 final class PlainKey implements KeyModel {
@@ -15,11 +16,12 @@ final class PlainKey implements KeyModel {
     record Holder(Class<?> javaClass, MethodHandle constructor, List<? extends Place> places) {}
 
     private final List<PlainAttribute> parts;
+    private final List<Attribute> asAttributes;
     private final Generation generation;
     private final Holder holder;
     private final Place embeddedAt;
     private final String embedded;
-    private final List<Derived> derived = new ArrayList<>();
+    private List<Derived> derived = List.of();
     private final boolean isZeroNone;
 
     /**
@@ -30,6 +32,7 @@ final class PlainKey implements KeyModel {
      */
     PlainKey(List<PlainAttribute> parts, Generation generation, Holder holder, String embedded, Place embeddedAt, boolean isZeroNone) {
         this.parts = List.copyOf(parts);
+        this.asAttributes = List.copyOf(parts);
         this.generation = generation;
         this.holder = holder;
         this.embedded = embedded;
@@ -38,7 +41,7 @@ final class PlainKey implements KeyModel {
     }
 
     void derives(Derived from) {
-        derived.add(from);
+        derived = Stream.concat(derived.stream(), Stream.of(from)).toList();
     }
 
     /** Whether a part has this column, by its annotation or by its own name; the key of another entity has any. */
@@ -52,7 +55,7 @@ final class PlainKey implements KeyModel {
 
     @Override
     public List<Attribute> parts() {
-        return List.copyOf(parts);
+        return asAttributes;
     }
 
     @Override
@@ -128,7 +131,7 @@ final class PlainKey implements KeyModel {
 
     @Override
     public List<Derived> derived() {
-        return List.copyOf(derived);
+        return derived;
     }
 
     @Override

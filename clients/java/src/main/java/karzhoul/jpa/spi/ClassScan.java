@@ -88,6 +88,11 @@ final class ClassScan {
     }
 
     private static void take(List<String> names, byte[] bytes) {
+        // Annotations are where they were: so classes of a later Java than the reader knows are read too.
+        if (((bytes[6] & 0xff) << 8 | bytes[7] & 0xff) > Opcodes.V17) {
+            bytes[6] = 0;
+            bytes[7] = Opcodes.V17;
+        }
         ClassReader reader = new ClassReader(bytes);
         boolean[] found = new boolean[1];
         reader.accept(new ClassVisitor(Opcodes.ASM9) {

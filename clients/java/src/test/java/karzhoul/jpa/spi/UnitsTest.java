@@ -170,6 +170,16 @@ class UnitsTest {
     }
 
     @Test
+    void classesOfALaterJavaAreFoundToo() throws IOException {
+        copy(folder, One.class);
+        Path file = folder.resolve(One.class.getName().replace('.', '/') + ".class");
+        byte[] bytes = Files.readAllBytes(file);
+        bytes[7] = 99;
+        Files.write(file, bytes);
+        assertEquals(List.of(One.class.getName()), ClassScan.names(folder.toUri()));
+    }
+
+    @Test
     void aJarIsScannedAndItsJarFilesToo() throws IOException {
         Path content = folder.resolve("content");
         copy(content, One.class);
