@@ -32,6 +32,7 @@ import karzhoul.jpa.model.UnitModel;
  */
 final class Context {
     private final Factory factory;
+    private final long waitMillis;
     private final UnitModel unit;
     private final Identities identities = new Identities();
     private final Lines queue = new Lines();
@@ -51,7 +52,13 @@ final class Context {
     private boolean isClosing;
 
     Context(Factory factory) {
+        this(factory, factory.waitMillis());
+    }
+
+    /** One that waits so long for one of the program's managers. */
+    Context(Factory factory, long waitMillis) {
         this.factory = factory;
+        this.waitMillis = waitMillis;
         unit = factory.unit();
     }
 
@@ -128,7 +135,7 @@ final class Context {
     }
 
     private void enter() {
-        Session now = factory.pool().enter(session, factory.waitMillis());
+        Session now = factory.pool().enter(session, waitMillis);
         boolean isOther = now != session;
         session = now;
         try {

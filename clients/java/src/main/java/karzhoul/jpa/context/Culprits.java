@@ -23,11 +23,11 @@ import karzhoul.jpa.model.Relation;
 final class Culprits {
     private static final int MOST = 2_000;
 
-    private final Context context;
+    private final Context probe;
     private final List<Entry> suspects = new ArrayList<>();
 
     Culprits(Context context) {
-        this.context = context;
+        probe = new Context(context.factory(), 0);
         for (Entry entry : context.identities().numbered()) {
             boolean isWritten = entry.isTouched() || !entry.isStored() || entry.state() == Entry.State.REMOVED
                 || entry.lock() != LockModeType.NONE;
@@ -40,6 +40,9 @@ final class Culprits {
     /** The refusal with its entity, where that is found. */
     RuntimeException named(RuntimeException refusal) {
         try {
+            if (suspects.isEmpty()) {
+                return refusal;
+            }
             if (refusal instanceof RollbackException && refusal.getCause() instanceof RuntimeException cause) {
                 RuntimeException named = cause(cause);
                 return named == cause ? refusal : Refusals.rolledBack(named);
@@ -101,7 +104,7 @@ final class Culprits {
 
     private Optional<Entry> first(BiPredicate<Entry, Shown> isCulprit) {
         List<Entry> keyed = suspects.stream().filter(entry -> entry.key() != null).toList();
-        List<Shown> rows = context.within(() -> rows(keyed));
+        List<Shown> rows = probe.within(() -> rows(keyed));
         for (int i = 0; i < rows.size(); i++) {
             if (isCulprit.test(keyed.get(i), rows.get(i))) {
                 return Optional.of(keyed.get(i));
@@ -111,17 +114,17 @@ final class Culprits {
     }
 
     private List<Shown> rows(List<Entry> entries) {
-        int from = context.queue().count();
+        int from = probe.queue().count();
         for (Entry entry : entries) {
-            context.queue().find(context.manager(), entry.model().root().mappedName(), entry.key());
+            probe.queue().find(probe.manager(), entry.model().root().mappedName(), entry.key());
         }
         List<Object> refs = new ArrayList<>();
-        for (Reply reply : context.ask(from)) {
+        for (Reply reply : probe.ask(from)) {
             refs.add(reply.ok());
         }
         long[] numbers = refs.stream().filter(ref -> ref != null).mapToLong(ref -> ((Ref) ref).number()).toArray();
-        context.queue().values(numbers, 0, numbers.length);
-        List<Object> shown = context.ask(0)[0].list();
+        probe.queue().values(numbers, 0, numbers.length);
+        List<Object> shown = probe.ask(0)[0].list();
         List<Shown> rows = new ArrayList<>();
         int place = 0;
         for (Object ref : refs) {

@@ -154,7 +154,7 @@ final class Manager implements EntityManager {
         try {
             within(() -> new Flush(context).flush());
         } catch (RuntimeException e) {
-            throw context.marked(e);
+            throw context.marked(new Culprits(context).named(e));
         }
     }
 

@@ -125,6 +125,7 @@ final class Merge {
             List<Object> key = Targets.keyOf(model, instance);
             Entry source = new Entry(model, context, Entry.State.NEW);
             source.instance(instance);
+            source.key(key);
             source.number(context.newNumber(model));
             context.identities().put(source);
             sources.put(instance, source);

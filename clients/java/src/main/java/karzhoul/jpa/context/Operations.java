@@ -36,6 +36,7 @@ final class Operations {
             return null;
         }
         if (entry.isHollow() && !fill(entry)) {
+            context.forget(entry);      // a reference to nothing: another instance may be persisted with its key
             return null;
         }
         return entry.instance();

@@ -270,6 +270,8 @@ class Push {
         Entry there = targets.foreign(model, instance, isPersisted);
         if (there != null) {
             return there;
+        } else if (Graph.isForeignProxy(instance)) {
+            throw context.marked(Targets.isGone(model.name() + " " + Targets.keyOf(model, instance)));
         }
         entry = new Entry(model, context, Entry.State.NEW);
         entry.instance(instance);

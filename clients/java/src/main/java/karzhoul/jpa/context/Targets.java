@@ -91,6 +91,11 @@ final class Targets {
         return reply.ok() == null ? 0 : reply.number();
     }
 
+    /** The refusal of what leads to a row that isn't there. */
+    static EntityNotFoundException isGone(Object what) {
+        return new EntityNotFoundException("EntityNotFound, " + what + ": there is no such row");
+    }
+
     /**
      * Gives its number to a proxy, or to what was let go before the end of a run.
      *
@@ -99,7 +104,7 @@ final class Targets {
     void number(Entry entry) {
         long number = find(entry.model(), entry.key());
         if (number == 0) {
-            throw context.marked(new EntityNotFoundException("EntityNotFound, " + entry + ": there is no such row"));
+            throw context.marked(isGone(entry));
         }
         entry.number(number);
         if (entry.state() == Entry.State.DETACHED) {

@@ -2,6 +2,7 @@ package karzhoul.jpa.context;
 
 import static org.junit.jupiter.api.Assertions.assertEquals;
 import static org.junit.jupiter.api.Assertions.assertFalse;
+import static org.junit.jupiter.api.Assertions.assertNull;
 import static org.junit.jupiter.api.Assertions.assertSame;
 import static org.junit.jupiter.api.Assertions.assertThrows;
 import static org.junit.jupiter.api.Assertions.assertTrue;
@@ -64,6 +65,21 @@ class LazyTest extends Tried {
         Depot none = manager.getReference(Depot.class, "none");
         assertThrows(EntityNotFoundException.class, none::getPlace);
         assertThrows(EntityNotFoundException.class, () -> manager.getReference(Person.class, 9L));
+    }
+
+    @Test
+    void aReferenceToNothingLeavesItsKeyToANewInstance() {
+        Depot none = manager.getReference(Depot.class, "d");
+        assertNull(manager.find(Depot.class, "d"));
+        assertFalse(manager.contains(none));
+        commit(() -> manager.persist(new Depot("d", "here")));
+        Order order = new Order(1, 1);
+        order.setDepot(manager.getReference(Depot.class, "none"));
+        manager.getTransaction().begin();
+        assertThrows(EntityNotFoundException.class, () -> {
+            manager.persist(order);
+            manager.flush();
+        });
     }
 
     @Test

@@ -8,12 +8,15 @@ import java.util.List;
 import java.util.Map;
 import java.util.Random;
 import java.util.TreeMap;
+import java.util.UUID;
 import karzhoul.jpa.shop.Address;
 import karzhoul.jpa.shop.Audit;
 import karzhoul.jpa.shop.Depot;
 import karzhoul.jpa.shop.Order;
 import karzhoul.jpa.shop.Person;
+import karzhoul.jpa.shop.Place;
 import karzhoul.jpa.shop.Tag;
+import karzhoul.jpa.shop.Team;
 import karzhoul.jpa.shop.Vip;
 
 /**
@@ -31,6 +34,8 @@ final class RandomWork {
     private final List<String> did = new ArrayList<>();
     private long number;
     private EntityManager manager;
+    private UUID teamId;
+    private Team teamSeen;
 
     int commits;
     int others;
@@ -69,6 +74,7 @@ final class RandomWork {
 
     private void round(int round) {
         did.clear();
+        teamSeen = null;
         try {
             boolean isBegunFirst = random.nextBoolean();
             List<Person> persons = new ArrayList<>();
@@ -123,6 +129,7 @@ final class RandomWork {
                 }
             }
         }
+        checkTeam(round);
         EntityManager reader = factory.createEntityManager();
         for (Map.Entry<Long, String> want : wanted.entrySet()) {
             Person stored = reader.find(Person.class, want.getKey());
@@ -150,7 +157,7 @@ final class RandomWork {
         if (hasOthers && random.nextInt(12) == 0) {
             other(round);
         }
-        int kind = random.nextInt(17);
+        int kind = random.nextInt(22);
         did.add(kind + " " + person);
         if (person == null || kind == 0) {
             persons.add(fresh(round));
@@ -236,6 +243,23 @@ final class RandomWork {
                     order.setDepot(random.nextBoolean() ? null : manager.getReference(Depot.class, "d"));
                 }
                 break;
+            case 16:
+                manager.createQuery("SELECT o FROM Order o JOIN FETCH o.person p WHERE p.name LIKE 'r%'", Order.class)
+                    .getResultList().forEach(it -> it.setAmount(it.getAmount() + 1));
+                break;
+            case 17:
+                mergeFromAnother(round, person, persons);
+                break;
+            case 18:
+                team(round);
+                break;
+            case 19:
+                manager.createQuery("SELECT DISTINCT p FROM Person p JOIN FETCH p.orders WHERE p.id = :id", Person.class)
+                    .setParameter("id", person.getId()).getResultList();
+                break;
+            case 20:
+                person.setOrders(new ArrayList<>(person.getOrders()));
+                break;
             default:
                 Order order = manager.find(Order.class, 1L + random.nextInt((int) number + 1));
                 if (order != null && order.getPerson() != null) {
@@ -256,6 +280,72 @@ final class RandomWork {
             person.setName("m" + round);
         }
         persons.set(persons.indexOf(person), manager.merge(person));
+    }
+
+    /** Merges what another manager read, and changed once that was closed; now and then its lists weren't read. */
+    private void mergeFromAnother(int round, Person person, List<Person> persons) {
+        manager.flush();
+        if (person.getVersion() > 0 && random.nextBoolean()) {
+            return;
+        }
+        Person copy;
+        try (EntityManager other = factory.createEntityManager()) {
+            copy = other.find(Person.class, person.getId());
+            if (copy == null || copy.getVersion() != person.getVersion()) {
+                return;
+            }
+            if (random.nextBoolean()) {
+                copy.getOrders().forEach(Order::getAmount);
+            }
+            if (random.nextBoolean()) {
+                copy.getTags().size();
+            }
+        }
+        copy.setName("c" + round);
+        if (LoadStates.isReadMember(copy.getOrders())) {
+            if (!copy.getOrders().isEmpty()) {
+                copy.getOrders().get(0).setAmount(5L);
+            }
+            copy.add(new Order(++number, 6));
+        }
+        persons.set(persons.indexOf(person), manager.merge(copy));
+    }
+
+    /** Teams have places by a relation without mappedBy, whose orphans the door removes. */
+    private void team(int round) {
+        Team team = teamId == null ? null : manager.find(Team.class, teamId);
+        if (team == null) {
+            team = new Team("t" + round);
+            manager.persist(team);
+            teamId = team.getId();
+        }
+        if (team.getPlaces().size() > 3) {
+            team.getPlaces().remove(random.nextInt(team.getPlaces().size()));
+        } else {
+            team.getPlaces().add(new Place("p" + round));
+        }
+        if (random.nextBoolean()) {
+            team.getPlaces().get(0).setName("q" + round);
+        }
+        teamSeen = team;
+    }
+
+    private static String told(Team team) {
+        return team.getName() + " " + team.getPlaces().stream().map(it -> it.getId() + it.getName()).sorted().toList();
+    }
+
+    private void checkTeam(int round) {
+        if (teamSeen == null || !manager.contains(teamSeen) || hasOthers) {
+            return;
+        }
+        try (EntityManager reader = factory.createEntityManager()) {
+            Team stored = reader.find(Team.class, teamSeen.getId());
+            long places = reader.createQuery("SELECT COUNT(p) FROM Place p", Long.class).getSingleResult();
+            if (!told(stored).equals(told(teamSeen)) || places != stored.getPlaces().size()) {
+                wrong.add("round " + round + " " + did + "\n  had    " + told(teamSeen) + "\n  stored " + told(stored)
+                    + " of " + places);
+            }
+        }
     }
 
     private void depot(Person person) {

@@ -21,6 +21,7 @@ class RandomWorkTest {
             RandomWork work = new RandomWork(factory, seed, false, false).rounds(ROUNDS);
             assertEquals(List.of(), work.wrong, work.toString());
             assertTrue(work.commits > ROUNDS / 2, work.toString());
+            System.out.println(work);
         }
     }
 
@@ -30,6 +31,7 @@ class RandomWorkTest {
         try (Factory factory = Shop.open()) {
             RandomWork work = new RandomWork(factory, seed, false, true).rounds(ROUNDS);
             assertEquals(List.of(), work.wrong, work.toString());
+            System.out.println(work);
             assertTrue(work.commits > ROUNDS / 2 && work.restarts > 0, work.toString());
         }
     }
@@ -40,6 +42,7 @@ class RandomWorkTest {
         try (Factory factory = Shop.open()) {
             RandomWork work = new RandomWork(factory, seed, true, true).rounds(ROUNDS);
             assertEquals(List.of(), work.wrong, work.toString());
+            System.out.println(work);
             assertTrue(work.commits > ROUNDS / 3 && work.others > 0, work.toString());
         }
     }
