@@ -28,7 +28,7 @@ from typing import TYPE_CHECKING, Any, Iterator
 if TYPE_CHECKING:
     from pathlib import Path
 
-PAGES = ("*.md", "docs/*.md", "tests/*.md", "tests/*/*.md", "clients/python/*.md",
+PAGES = ("*.md", "docs/*.md", "tests/*.md", "tests/*/*.md", "clients/*/*.md",
          "examples/*/*.md", "crates/*/README.md")
 RUNS = "tests/runs/README.md"
 INDEXES = ("docs/CHAPTERS.md", "docs/PROMISES.md")

@@ -1,0 +1,544 @@
+package karzhoul.jpa.context;
+
+import jakarta.persistence.LockModeType;
+import jakarta.persistence.TransactionRequiredException;
+import java.lang.ref.WeakReference;
+import java.util.ArrayList;
+import java.util.Arrays;
+import java.util.BitSet;
+import java.util.EnumSet;
+import java.util.HashMap;
+import java.util.IdentityHashMap;
+import java.util.List;
+import java.util.Map;
+import java.util.Set;
+import java.util.function.Supplier;
+import karzhoul.jpa.engine.Engine;
+import karzhoul.jpa.engine.Event;
+import karzhoul.jpa.engine.Lines;
+import karzhoul.jpa.engine.ProgramEnded;
+import karzhoul.jpa.engine.Refusals;
+import karzhoul.jpa.engine.Reply;
+import karzhoul.jpa.engine.Session;
+import karzhoul.jpa.model.Callbacks;
+import karzhoul.jpa.model.EntityModel;
+import karzhoul.jpa.model.KeyModel;
+import karzhoul.jpa.model.Relation;
+import karzhoul.jpa.model.UnitModel;
+
+/**
+ * A persistence context (chapter 3.1) beside one of the program's managers: which instance is which object, what waits
+ * to be sent, and the transaction. What the program decides is asked of it. For one thread at a time.
+ */
+final class Context {
+    private final Factory factory;
+    private final long waitMillis;
+    private final UnitModel unit;
+    private final Identities identities = new Identities();
+    private final Lines queue = new Lines();
+    private final Map<Entry, Set<Callbacks.Event>> heard = new IdentityHashMap<>();
+    private final BitSet detached = new BitSet();
+    private final Map<Long, WeakReference<Object>> lost = new HashMap<>();
+    private final List<Entry> touched = new ArrayList<>();
+    private Session session;
+    private int depth;
+    private boolean isActive;
+    private boolean hasBegun;
+    private boolean isBeginSent;
+    private boolean isMarked;
+    private boolean isTouched;
+    private boolean hasStale;
+    private boolean hasRemoved;
+    private boolean isClosing;
+
+    Context(Factory factory) {
+        this(factory, factory.waitMillis());
+    }
+
+    /** One that waits so long for one of the program's managers. */
+    Context(Factory factory, long waitMillis) {
+        this.factory = factory;
+        this.waitMillis = waitMillis;
+        unit = factory.unit();
+    }
+
+    Factory factory() {
+        return factory;
+    }
+
+    UnitModel unit() {
+        return unit;
+    }
+
+    Identities identities() {
+        return identities;
+    }
+
+    /** The calls that wait for the next one that is answered. */
+    Lines queue() {
+        return queue;
+    }
+
+    /** The number of the program's manager; within {@link #within} alone. */
+    long manager() {
+        return session.manager();
+    }
+
+    Engine engine() {
+        return session.engine();
+    }
+
+    // ---- operations and transactions -------------------------------------------------------------------------------
+
+    /** Does one operation that asks the program: it is busy meanwhile, and what it left waiting is sent at its end. */
+    <T> T within(Supplier<T> operation) {
+        if (depth > 0 || hasBegun) {
+            return deeper(operation);
+        }
+        enter();
+        T done;
+        try {
+            done = deeper(operation);
+        } catch (RuntimeException | Error e) {
+            try {
+                finish();
+            } catch (RuntimeException second) {
+                e.addSuppressed(second);
+            }
+            throw e;
+        }
+        finish();
+        return done;
+    }
+
+    private <T> T deeper(Supplier<T> operation) {
+        depth++;
+        try {
+            return operation.get();
+        } finally {
+            depth--;
+        }
+    }
+
+    /** What is told of instances must reach the program, also where the operation was refused then. */
+    private void finish() {
+        if (hasBegun) {
+            return;
+        }
+        try {
+            if (session != null && session.engine().isRunning()) {
+                send();
+            }
+        } finally {
+            leave();
+        }
+    }
+
+    private void enter() {
+        Session now = factory.pool().enter(session, waitMillis);
+        boolean isOther = now != session;
+        session = now;
+        try {
+            if (isOther) {
+                renumbered(now);
+            }
+            if (isActive) {
+                queue.begin(now.manager());
+                hasBegun = true;
+            }
+        } catch (RuntimeException e) {
+            factory.pool().leave(now);
+            session = null;
+            throw e;
+        }
+    }
+
+    private void renumbered(Session now) {
+        queue.clear();
+        detached.clear();
+        lost.clear();
+        if (now.needsClear()) {
+            queue.clearAll(now.manager());
+        }
+        if (identities.hasNumbers()) {
+            try {
+                int carried = new Carry(this).overNewRun();
+                factory.pool().carried(carried);
+            } catch (RuntimeException e) {
+                letAllGo();         // half carried over it would lose changes without a word
+                throw e;
+            }
+        }
+    }
+
+    /** Ends what {@link #enter} began; a manager that holds nothing goes back to the pool. */
+    private void leave() {
+        if (session == null) {
+            return;
+        }
+        queue.clear();
+        if (identities.hasNumbers()) {
+            factory.pool().leave(session);
+        } else {
+            factory.pool().giveBack(session, true);
+            session = null;
+        }
+    }
+
+    boolean isActive() {
+        return isActive;
+    }
+
+    void begin() {
+        isActive = true;
+        isMarked = false;
+    }
+
+    boolean isMarked() {
+        return isMarked;
+    }
+
+    /** The transaction can only roll back from now on. */
+    void mark() {
+        if (isActive && !isMarked) {
+            isMarked = true;
+        }
+    }
+
+    /** Marks the transaction, and answers what is to be thrown. */
+    <E extends Throwable> E marked(E refusal) {
+        mark();
+        return refusal;
+    }
+
+    void needTransaction() {
+        if (!isActive) {
+            throw new TransactionRequiredException("no transaction is active");
+        }
+    }
+
+    /** Whether the program's manager has a transaction, as far as it was told. */
+    boolean isBegunThere() {
+        return isBeginSent;
+    }
+
+    /** Sends what waits. */
+    void send() {
+        if (!queue.isEmpty()) {
+            ask(queue.count());
+        }
+    }
+
+    /** A push of this context's changes. */
+    Push push() {
+        return factory.pushing().apply(this);
+    }
+
+    /** The program was told of a change of it, since its row was read or written. */
+    void hasTouched(Entry entry) {
+        touched.add(entry);
+    }
+
+    /** All that was told is written. */
+    void cleanTouched() {
+        touched.forEach(Entry::clean);
+        touched.clear();
+    }
+
+    /**
+     * What was removed, and whose row a flush has not dropped, is managed again: a relation that cascades PERSIST led
+     * to it still (chapter 3.2.4).
+     */
+    void revive() {
+        if (!hasRemoved) {
+            return;
+        }
+        for (Entry entry : identities.numbered()) {
+            if (entry.state() == Entry.State.REMOVED && entry.isStored()) {
+                entry.state(Entry.State.MANAGED);
+            }
+        }
+    }
+
+    boolean hasStale() {
+        return hasStale;
+    }
+
+    void setStale(Entry entry) {
+        entry.stale(true);
+        hasStale = true;
+    }
+
+    /** Whether the program was told of a change since the last flush. */
+    boolean isTouched() {
+        return isTouched;
+    }
+
+    void touched(boolean is) {
+        isTouched = is;
+    }
+
+    /** The transaction has ended at the program, by a commit that was done. */
+    void committed() {
+        isActive = false;
+        isMarked = false;
+        hasBegun = false;
+        isBeginSent = false;
+        for (Entry entry : identities.numbered()) {
+            if (entry.state() == Entry.State.REMOVED) {
+                forget(entry);
+            }
+            entry.lock(LockModeType.NONE);
+        }
+        heard.clear();
+        if (isClosing) {
+            letAllGo();
+        }
+        leave();
+    }
+
+    /** The transaction ends without a commit: all is detached (chapter 3.3.3). */
+    void rolledBack(boolean isOverThere) {
+        boolean isOpenThere = isBeginSent && !isOverThere;
+        isActive = false;
+        isMarked = false;
+        hasBegun = false;
+        isBeginSent = false;
+        queue.clear();
+        letAllGo();
+        if (session == null) {
+            return;
+        }
+        try {
+            if (isOpenThere && session.engine().isRunning()) {
+                session.engine().ask(queue.rollback(session.manager()));
+            }
+        } finally {
+            queue.clear();
+            factory.pool().giveBack(session, true);
+            session = null;
+        }
+    }
+
+    // ---- asking ----------------------------------------------------------------------------------------------------
+
+    /** Sends what waits; the replies from this place on. The first refusal is thrown. */
+    Reply[] ask(int from) {
+        return ask(from, null);
+    }
+
+    /** As {@link #ask(int)}; what the tail adds may be refused, and stands at the end of what is answered. */
+    Reply[] ask(int from, Engine.Tail tail) {
+        int main = queue.count();
+        Reply[] replies;
+        try {
+            isBeginSent = hasBegun;
+            replies = session.engine().ask(queue, tail);
+        } catch (ProgramEnded e) {
+            mark();
+            throw e;
+        } finally {
+            queue.clear();
+        }
+        for (int i = 0; i < main; i++) {
+            if (replies[i].isRefused()) {
+                if (i < from || Refusals.marks(replies[i])) {
+                    mark();         // what waited, and was refused, must not be missing from a commit
+                }
+                throw Refusals.of(replies[i]);
+            }
+        }
+        return from == 0 ? replies : Arrays.copyOfRange(replies, from, replies.length);
+    }
+
+    // ---- callbacks -------------------------------------------------------------------------------------------------
+
+    /** Runs the callbacks of an event; what one throws marks the transaction. */
+    void run(Callbacks.Event event, Entry entry) {
+        if (entry.model().callbacks().hears(event)) {
+            try {
+                entry.model().callbacks().run(event, entry.instance());
+            } catch (RuntimeException | Error e) {
+                mark();
+                throw e;
+            }
+        }
+    }
+
+    /** Runs them before the program tells the event; they don't run again when it does. */
+    void runAhead(Callbacks.Event event, Entry entry) {
+        if (heard.computeIfAbsent(entry, e -> EnumSet.noneOf(Callbacks.Event.class)).add(event)) {
+            run(event, entry);
+        }
+    }
+
+    /** They ran in an earlier run, and don't run again. */
+    void hush(Callbacks.Event event, Entry entry) {
+        heard.computeIfAbsent(entry, e -> EnumSet.noneOf(Callbacks.Event.class)).add(event);
+    }
+
+    /**
+     * Takes what an event tells of an entry's state and version.
+     *
+     * @return whether it is managed by that
+     */
+    boolean told(Event event, Entry entry) {
+        switch (event.kind()) {
+            case PrePersist:
+                if (entry.key() == null && entry.model().key().generation() != KeyModel.Generation.COUNTER) {
+                    entry.key(Targets.keyOf(entry.model(), entry.instance()));
+                }
+                entry.state(Entry.State.MANAGED);
+                identities.put(entry);
+                return true;
+            case PreRemove:
+                entry.state(Entry.State.REMOVED);
+                hasRemoved = true;
+                return false;
+            case PostPersist:
+                entry.state(Entry.State.MANAGED);
+                entry.stored(true);
+                entry.version(0);
+                return false;
+            case PostUpdate:
+                entry.raiseVersion();
+                return false;
+            case PostRemove:
+                entry.stored(false);
+                return false;
+            default:
+                return false;
+        }
+    }
+
+    /** Whether they ran already; asked once for each time that they did. */
+    boolean wasRunAhead(Callbacks.Event event, Entry entry) {
+        Set<Callbacks.Event> events = heard.get(entry);
+        return events != null && events.remove(event);
+    }
+
+    void forgetRunAhead() {
+        heard.clear();
+    }
+
+    // ---- instances -------------------------------------------------------------------------------------------------
+
+    /**
+     * The entity of an instance.
+     *
+     * @throws IllegalArgumentException where it is none of the unit's
+     */
+    EntityModel modelOf(Object instance) {
+        if (instance == null) {
+            throw marked(new IllegalArgumentException("null is no entity"));
+        }
+        Object known = Proxies.known(instance);
+        if (known instanceof Entry entry && entry.model().root() != null && unit.entities().contains(entry.model())) {
+            return entry.model();
+        }
+        try {
+            return unit.of(known instanceof Plain.Key key ? key.entity() : instance.getClass());
+        } catch (IllegalArgumentException e) {
+            throw marked(e);
+        }
+    }
+
+    /** What is known of an instance here, or null. */
+    Entry entryOf(Object instance) {
+        return identities.of(instance);
+    }
+
+    /** Lets an entry go, as it is: it is detached. */
+    void forget(Entry entry) {
+        heard.remove(entry);
+        identities.remove(entry);
+        if (entry.number() != 0) {
+            detached.set((int) entry.number());
+            lost.put(entry.number(), new WeakReference<>(entry.instance()));
+        }
+        entry.letGo();
+    }
+
+    boolean isDetached(long number) {
+        return detached.get((int) number);
+    }
+
+    /** The instance that was detached and had this number, or null where it is gone. */
+    Object lost(long number) {
+        WeakReference<Object> instance = lost.get(number);
+        return instance == null ? null : instance.get();
+    }
+
+    void lose(long number, WeakReference<Object> instance) {
+        lost.put(number, instance);
+    }
+
+    /** The program's object is a detached one of this instance. */
+    void setDetached(long number, WeakReference<Object> instance) {
+        detached.set((int) number);
+        lost.put(number, instance);
+    }
+
+    /** The number of a new object of this entity. */
+    long newNumber(EntityModel model) {
+        return factory.pool().numbers().take(session.engine(), model.mappedName());
+    }
+
+    /** A proxy of this key, which this context manages from now on. */
+    Entry proxyOf(EntityModel model, List<Object> key) {
+        Entry entry = new Entry(model, this, Entry.State.MANAGED);
+        entry.key(key);
+        entry.hollow(true);
+        entry.stored(true);
+        entry.instance(Proxies.make(entry));
+        identities.put(entry);
+        return entry;
+    }
+
+    private void letAllGo() {
+        identities.all().forEach(Entry::letGo);
+        identities.clear();
+        detached.clear();
+        lost.clear();
+        heard.clear();
+        touched.clear();
+        isTouched = false;
+        hasStale = false;
+        hasRemoved = false;
+    }
+
+    /** Detaches all (chapter 3.2.7); an open transaction goes on. */
+    void clear() {
+        letAllGo();
+        if (session == null) {
+            return;
+        }
+        if (hasBegun || depth > 0) {
+            queue.clearAll(session.manager());
+        } else {
+            factory.pool().giveBack(session, true);
+            session = null;
+        }
+    }
+
+    /** Its entity manager is closed: what it has is let go now, or once its transaction ends. */
+    void close() {
+        isClosing = true;
+        if (!isActive) {
+            clear();
+        }
+    }
+
+    /** Reads the members of a collection that is looked at. */
+    List<Object> readMembers(Entry owner, Relation relation) {
+        return within(() -> new Fill(this).members(owner, relation));
+    }
+
+    /** Reads the values of a proxy that is looked at. */
+    void fillProxy(Entry entry) {
+        within(() -> {
+            new Fill(this).proxy(entry);
+            return null;
+        });
+    }
+}

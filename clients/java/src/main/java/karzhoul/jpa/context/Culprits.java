@@ -1,0 +1,135 @@
+package karzhoul.jpa.context;
+
+import jakarta.persistence.EntityExistsException;
+import jakarta.persistence.LockModeType;
+import jakarta.persistence.OptimisticLockException;
+import jakarta.persistence.PersistenceException;
+import jakarta.persistence.RollbackException;
+import java.util.ArrayList;
+import java.util.List;
+import java.util.Optional;
+import java.util.function.BiPredicate;
+import karzhoul.jpa.engine.Ref;
+import karzhoul.jpa.engine.Refusals;
+import karzhoul.jpa.engine.Reply;
+import karzhoul.jpa.engine.Shown;
+import karzhoul.jpa.model.Attribute;
+import karzhoul.jpa.model.Relation;
+
+/**
+ * For which entity a flush or a commit was refused: the program tells why, and not whom. What was to be written is
+ * noted before the rollback, and compared with the rows after it. One for each refusal.
+ */
+final class Culprits {
+    private static final int MOST = 2_000;
+
+    private final Context probe;
+    private final List<Entry> suspects = new ArrayList<>();
+
+    Culprits(Context context) {
+        probe = new Context(context.factory(), 0);
+        for (Entry entry : context.identities().numbered()) {
+            boolean isWritten = entry.isTouched() || !entry.isStored() || entry.state() == Entry.State.REMOVED
+                || entry.lock() != LockModeType.NONE;
+            if (isWritten && entry.state() != Entry.State.DETACHED && suspects.size() < MOST) {
+                suspects.add(entry);
+            }
+        }
+    }
+
+    /** The refusal with its entity, where that is found. */
+    RuntimeException named(RuntimeException refusal) {
+        try {
+            if (suspects.isEmpty()) {
+                return refusal;
+            }
+            if (refusal instanceof RollbackException && refusal.getCause() instanceof RuntimeException cause) {
+                RuntimeException named = cause(cause);
+                return named == cause ? refusal : Refusals.rolledBack(named);
+            }
+            return cause(refusal);
+        } catch (RuntimeException e) {
+            refusal.addSuppressed(e);
+            return refusal;
+        }
+    }
+
+    private RuntimeException cause(RuntimeException refusal) {
+        if (refusal instanceof OptimisticLockException stale && stale.getEntity() == null) {
+            return first(Culprits::isStale).<RuntimeException>map(entry -> new OptimisticLockException(
+                about(refusal, entry.toString()), refusal, entry.instance())).orElse(refusal);
+        } else if (refusal instanceof EntityExistsException) {
+            return first((entry, shown) -> !entry.isStored() && shown != null)
+                .<RuntimeException>map(entry -> new EntityExistsException(about(refusal, entry.toString()), refusal))
+                .orElse(refusal);
+        } else if (refusal.getClass() == PersistenceException.class
+                && String.valueOf(refusal.getMessage()).startsWith("Persistence(null)")) {
+            return suspects.stream().map(Culprits::missing).flatMap(Optional::stream).findFirst()
+                .<RuntimeException>map(what -> new PersistenceException(about(refusal, what), refusal)).orElse(refusal);
+        }
+        return refusal;
+    }
+
+    private static String about(RuntimeException refusal, String what) {
+        String words = refusal.getMessage();
+        int end = words.indexOf(':');
+        return words.substring(0, end) + ", " + what + words.substring(end);
+    }
+
+    private static boolean isStale(Entry entry, Shown shown) {
+        if (shown == null || entry.model().version().isEmpty()) {
+            return shown == null && entry.isStored();
+        }
+        Attribute version = entry.model().version().get();
+        return !Values.isKept(version, shown.values()[version.place()], entry.values[version.place()]);
+    }
+
+    private static Optional<String> missing(Entry entry) {
+        if (entry.isHollow() || entry.state() == Entry.State.REMOVED) {
+            return Optional.empty();
+        }
+        for (Attribute attribute : entry.model().attributes()) {
+            if (attribute.isRequired() && attribute.role() == Attribute.Role.PLAIN
+                    && attribute.get(entry.instance()) == null) {
+                return Optional.of(entry + "." + attribute.path());
+            }
+        }
+        for (Relation relation : entry.model().relations()) {
+            if (relation.isRequired() && !relation.isMany() && relation.get(entry.instance()) == null) {
+                return Optional.of(entry + "." + relation.path());
+            }
+        }
+        return Optional.empty();
+    }
+
+    private Optional<Entry> first(BiPredicate<Entry, Shown> isCulprit) {
+        List<Entry> keyed = suspects.stream().filter(entry -> entry.key() != null).toList();
+        List<Shown> rows = probe.within(() -> rows(keyed));
+        for (int i = 0; i < rows.size(); i++) {
+            if (isCulprit.test(keyed.get(i), rows.get(i))) {
+                return Optional.of(keyed.get(i));
+            }
+        }
+        return Optional.empty();
+    }
+
+    private List<Shown> rows(List<Entry> entries) {
+        int from = probe.queue().count();
+        for (Entry entry : entries) {
+            probe.queue().find(probe.manager(), entry.model().root().mappedName(), entry.key());
+        }
+        List<Object> refs = new ArrayList<>();
+        for (Reply reply : probe.ask(from)) {
+            refs.add(reply.ok());
+        }
+        long[] numbers = refs.stream().filter(ref -> ref != null).mapToLong(ref -> ((Ref) ref).number()).toArray();
+        probe.queue().values(numbers, 0, numbers.length);
+        List<Object> shown = probe.ask(0)[0].list();
+        List<Shown> rows = new ArrayList<>();
+        int place = 0;
+        for (Object ref : refs) {
+            rows.add(ref == null ? null : (Shown) shown.get(place++));
+        }
+        return rows;
+    }
+}

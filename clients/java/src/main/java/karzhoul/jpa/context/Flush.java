@@ -1,0 +1,182 @@
+package karzhoul.jpa.context;
+
+import jakarta.persistence.LockModeType;
+import jakarta.persistence.OptimisticLockException;
+import jakarta.persistence.PersistenceException;
+import java.util.ArrayList;
+import java.util.HashSet;
+import java.util.List;
+import java.util.Set;
+import karzhoul.jpa.engine.Event;
+import karzhoul.jpa.engine.Lines;
+import karzhoul.jpa.engine.Ref;
+import karzhoul.jpa.model.Callbacks;
+
+/**
+ * The flush (chapters 3.2.4 and 3.6). What changed is told, the program is asked which callbacks are due, and these
+ * run, until nothing new is due; only then does it write. One for each flush or commit.
+ */
+final class Flush {
+    private static final int MOST_ROUNDS = 100;
+
+    private final Context context;
+    private final Lines queue;
+
+    Flush(Context context) {
+        this.context = context;
+        queue = context.queue();
+    }
+
+    /** Flushes, where anything changed. */
+    void flush() {
+        prepare();
+        if (context.isTouched()) {
+            write();
+        }
+    }
+
+    /** Flushes and commits; nothing is asked where nothing changed since the begin. */
+    void commit() {
+        prepare();
+        if (context.isTouched() && context.factory().hearsWrites(context.identities().models())) {
+            write();
+        }
+        if (!context.isTouched() && !context.isBegunThere()) {
+            context.committed();
+            return;
+        }
+        context.send();                 // a change that were refused must not be behind a commit that is done
+        queue.commit(context.manager());
+        take(context.ask(0)[0].events(), false);
+        context.committed();
+        context.forgetRunAhead();
+    }
+
+    /** Tells what changed, and runs what is due before the writes. */
+    private void prepare() {
+        push();
+        if (context.isTouched() && context.factory().hearsBefore(context.identities().models())) {
+            Set<Event> due = new HashSet<>();
+            for (int round = 0; runDue(due); round++) {
+                if (round == MOST_ROUNDS) {
+                    throw new PersistenceException("callbacks before the writes set each other off: after "
+                        + MOST_ROUNDS + " rounds each still changed something");
+                }
+                int before = queue.count();
+                push();
+                if (queue.count() == before) {
+                    break;
+                }
+            }
+        }
+        if (context.hasStale()) {
+            checkStale();
+        }
+    }
+
+    private void push() {
+        Push push = context.push();
+        push.all();
+        for (Entry orphan : push.orphans()) {
+            if (orphan.isManaged()) {
+                new Operations(context).remove(orphan);
+            }
+        }
+    }
+
+    /** Asks which callbacks are due, and runs those that didn't; answers whether there were any. */
+    private boolean runDue(Set<Event> before) {
+        int from = queue.count();
+        queue.pending(context.manager());
+        List<Event> due = events(context.ask(from)[0].list());
+        boolean isNew = false;
+        List<Object> unknown = new ArrayList<>();
+        due.stream().filter(event -> context.identities().of(event.number()) == null)
+            .forEach(event -> unknown.add(new Ref(event.number())));
+        if (!unknown.isEmpty()) {
+            new Fill(context).entries(unknown);
+        }
+        for (Event event : due) {
+            Entry entry = context.identities().of(event.number());
+            if (entry != null && before.add(event)) {
+                isNew = true;
+                if (entry.isHollow()) {
+                    new Fill(context).proxy(entry);
+                }
+                context.runAhead(event.kind(), entry);
+            }
+        }
+        return isNew;
+    }
+
+    private static List<Event> events(List<Object> told) {
+        List<Event> events = new ArrayList<>(told.size());
+        for (Object one : told) {
+            List<?> pair = (List<?>) one;
+            events.add(new Event(Callbacks.Event.valueOf((String) pair.get(0)), (Long) pair.get(1)));
+        }
+        return events;
+    }
+
+    /** What is to be written over a row that another commit changed while this manager lived over the end of a run. */
+    private void checkStale() {
+        for (Entry entry : context.identities().numbered()) {
+            boolean isWritten = entry.isTouched() || entry.state() == Entry.State.REMOVED
+                || entry.lock() != LockModeType.NONE;
+            if (entry.isStale() && isWritten) {
+                throw context.marked(new OptimisticLockException("OptimisticLock, " + entry
+                    + ": another commit changed or removed the row meanwhile; find it again, apply the change, commit",
+                    null, entry.instance()));
+            }
+        }
+    }
+
+    private void write() {
+        context.send();
+        queue.flush(context.manager());
+        List<Event> events = context.ask(0)[0].events();
+        take(events, true);
+        after(events);
+    }
+
+    /** Takes what the flush tells: states, keys, versions. What it loaded and removed is read where that is possible. */
+    private void take(List<Event> events, boolean isOpen) {
+        context.touched(false);
+        if (isOpen) {
+            readRemoved(events);
+        }
+        List<Entry> persisted = new ArrayList<>();
+        for (Event event : events) {
+            Entry entry = context.identities().of(event.number());
+            if (entry != null && context.told(event, entry) && Persist.isKeyless(entry)) {
+                persisted.add(entry);
+            }
+        }
+        context.revive();
+        Persist.manage(context, persisted);
+        context.cleanTouched();
+    }
+
+    private void readRemoved(List<Event> events) {
+        List<Object> unknown = new ArrayList<>();
+        for (Event event : events) {
+            if (event.kind() == Callbacks.Event.PreRemove && context.identities().of(event.number()) == null) {
+                unknown.add(new Ref(event.number()));
+            }
+        }
+        if (!unknown.isEmpty()) {
+            new Fill(context).entries(unknown);
+        }
+    }
+
+    /** Runs the callbacks that the flush told, and that didn't run before it. */
+    private void after(List<Event> events) {
+        for (Event event : events) {
+            Entry entry = context.identities().of(event.number());
+            if (entry != null && event.kind() != Callbacks.Event.PostLoad && !context.wasRunAhead(event.kind(), entry)) {
+                context.run(event.kind(), entry);
+            }
+        }
+        context.forgetRunAhead();
+    }
+}

@@ -1,0 +1,40 @@
+package karzhoul.jpa.context;
+
+import java.util.Collection;
+import java.util.List;
+import karzhoul.jpa.model.Relation;
+
+/** A collection of the door's: it reads its members when it is first looked at (chapter 11.1.6: LAZY). */
+interface Lazy {
+    /** Whose relation it is; null once it was serialized. */
+    Entry owner();
+
+    boolean isRead();
+
+    /** Whether its members were changed since {@link #clean}. */
+    boolean isChanged();
+
+    void clean();
+
+    /** Gives it its members. */
+    void fill(Collection<?> members);
+
+    /** Lets it read its members anew when it is next looked at. */
+    void forget();
+
+    /** A collection of a relation, not read yet. */
+    static Lazy of(Entry owner, Relation relation) {
+        return relation.container() == Relation.Container.SET
+            ? new LazySet(owner, relation) : new LazyList(owner, relation);
+    }
+
+    /** Reads the members of a relation. */
+    static List<Object> read(Entry owner, Relation relation) {
+        if (owner == null || owner.context() == null) {
+            throw new jakarta.persistence.PersistenceException((owner == null ? "" : owner + ".") + relation.path()
+                + " wasn't read before its owner was detached: read it, or fetch it by JOIN FETCH, while its entity"
+                + " manager has it");
+        }
+        return owner.context().readMembers(owner, relation);
+    }
+}

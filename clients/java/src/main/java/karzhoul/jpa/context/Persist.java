@@ -1,0 +1,171 @@
+package karzhoul.jpa.context;
+
+import jakarta.persistence.CascadeType;
+import jakarta.persistence.EntityExistsException;
+import jakarta.persistence.PersistenceException;
+import java.util.ArrayDeque;
+import java.util.ArrayList;
+import java.util.Deque;
+import java.util.List;
+import karzhoul.jpa.engine.Lines;
+import karzhoul.jpa.engine.Reply;
+import karzhoul.jpa.model.Attribute;
+import karzhoul.jpa.model.Callbacks;
+import karzhoul.jpa.model.EntityModel;
+import karzhoul.jpa.model.KeyModel;
+import karzhoul.jpa.model.Relation;
+
+/**
+ * persist (chapter 3.2.2). New instances that the cascade reaches become objects of the program first; their
+ * PrePersist runs before that, so it may give the key and add members. The cascade itself is the program's.
+ */
+final class Persist {
+    private final Context context;
+    private final Graph graph;
+    private final List<Object> fresh = new ArrayList<>();
+    private final List<Entry> made = new ArrayList<>();
+
+    Persist(Context context) {
+        this.context = context;
+        graph = new Graph(context);
+    }
+
+    /** Persists an instance, and what persist goes on to. */
+    void of(Object root) {
+        Entry known = context.entryOf(root);
+        if (known != null && known.isHollow()) {
+            return;
+        }
+        try {
+            List<Entry> reached = reach(root);
+            Push push = context.push();
+            for (Object instance : fresh) {
+                made.add(push.known(instance));
+            }
+            push.relationsOf(reached);
+            push.these(made);
+            made.forEach(this::checkKey);
+            send(context.entryOf(root));
+        } catch (RuntimeException e) {
+            giveUp();
+            throw context.marked(e);
+        }
+    }
+
+    /** What was refused is new as before, and may be persisted another time. */
+    private void giveUp() {
+        for (Object instance : fresh) {
+            Entry entry = context.entryOf(instance);
+            if (entry != null && entry.state() == Entry.State.NEW) {
+                context.forget(entry);
+            }
+        }
+    }
+
+    /** Prepares all that is new along the cascade; answers what is managed already. */
+    private List<Entry> reach(Object root) {
+        List<Entry> managed = new ArrayList<>();
+        Deque<Object> work = new ArrayDeque<>(List.of(root));
+        graph.add(root);
+        for (Object instance; (instance = work.poll()) != null; ) {
+            Entry entry = context.entryOf(instance);
+            if (entry != null && entry.isManaged()) {
+                managed.add(entry);
+            } else {
+                prepare(instance, entry);
+            }
+            for (Relation relation : context.modelOf(instance).relations()) {
+                if (relation.cascades().contains(CascadeType.PERSIST)) {
+                    graph.along(instance, relation, work);
+                }
+            }
+        }
+        return managed;
+    }
+
+    private void prepare(Object instance, Entry entry) {
+        EntityModel model = context.modelOf(instance);
+        if (entry != null && entry.state() == Entry.State.DETACHED || entry == null && isKnownDetached(model, instance)) {
+            throw context.marked(new EntityExistsException("EntityExists: a detached " + model.name()
+                + " can't be persisted, nor be reached by persist: merge it"));
+        }
+        fresh.add(instance);
+        if (entry == null || entry.state() == Entry.State.NEW || !entry.isStored()) {
+            Keys.giveUuid(model, instance);
+            Entry ahead = entry == null ? aheadOf(model, instance) : entry;
+            context.runAhead(Callbacks.Event.PrePersist, ahead);
+        }
+        new Keys(context).derive(model, instance);
+    }
+
+    /** A generated key that is set, or a proxy that isn't this context's, is of what was stored before. */
+    private static boolean isKnownDetached(EntityModel model, Object instance) {
+        return instance instanceof Proxied
+            || model.key().generation() == KeyModel.Generation.COUNTER && Targets.keyOf(model, instance) != null;
+    }
+
+    private Entry aheadOf(EntityModel model, Object instance) {
+        Entry entry = new Entry(model, context, Entry.State.NEW);
+        entry.instance(instance);
+        entry.number(context.newNumber(model));
+        context.identities().put(entry);
+        return entry;
+    }
+
+    private void checkKey(Entry entry) {
+        EntityModel model = entry.model();
+        if (model.key().generation() == KeyModel.Generation.COUNTER) {
+            return;
+        }
+        List<Object> key = Targets.keyOf(model, entry.instance());
+        if (key == null) {
+            throw new PersistenceException("Persistence(key): part of the key of a new " + model.name()
+                + " is null; set it before persist, or in a PrePersist callback");
+        }
+        Entry other = context.identities().of(model, key);
+        if (other != null && other != entry) {
+            throw new EntityExistsException("EntityExists, " + other + ": another instance of this key is "
+                + (other.isManaged() ? "managed" : "removed in this transaction"));
+        }
+        entry.key(key);
+    }
+
+    private void send(Entry root) {
+        context.queue().persist(context.manager(), root.number()).about(root);
+        context.touched(true);
+        manage(context, made);
+    }
+
+    /** These are managed, once the calls that wait are done; keys that the program gives are asked for. */
+    static void manage(Context context, List<Entry> persisted) {
+        Lines queue = context.queue();
+        int from = queue.count();
+        List<Entry> keyed = persisted.stream().filter(Persist::isKeyless).toList();
+        for (Entry entry : keyed) {
+            queue.get(entry.number(), entry.model().key().parts().get(0).member());
+        }
+        if (!keyed.isEmpty()) {
+            Reply[] replies = context.ask(from);
+            for (int i = 0; i < replies.length; i++) {
+                giveKey(keyed.get(i), replies[i].ok());
+            }
+        }
+        for (Entry entry : persisted) {
+            entry.state(Entry.State.MANAGED);
+            context.identities().put(entry);
+        }
+    }
+
+    static boolean isKeyless(Entry entry) {
+        return entry.key() == null && entry.model().key().generation() == KeyModel.Generation.COUNTER;
+    }
+
+    /** Gives an instance the key that the program gave. */
+    static void giveKey(Entry entry, Object column) {
+        Attribute part = entry.model().key().parts().get(0);
+        Object value = part.codec().toAttribute(column);
+        part.set(entry.instance(), value);
+        entry.values[part.place()] = value;
+        entry.key(List.of(column));
+    }
+}

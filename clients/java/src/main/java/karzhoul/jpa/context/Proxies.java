@@ -1,0 +1,130 @@
+package karzhoul.jpa.context;
+
+import static net.bytebuddy.matcher.ElementMatchers.isFinalizer;
+import static net.bytebuddy.matcher.ElementMatchers.isVirtual;
+import static net.bytebuddy.matcher.ElementMatchers.named;
+import static net.bytebuddy.matcher.ElementMatchers.not;
+import static net.bytebuddy.matcher.ElementMatchers.takesArguments;
+
+import jakarta.persistence.PersistenceException;
+import java.io.Serializable;
+import java.lang.invoke.MethodHandle;
+import java.lang.invoke.MethodHandles;
+import java.lang.invoke.MethodType;
+import java.lang.reflect.Method;
+import java.lang.reflect.Modifier;
+import java.util.Optional;
+import karzhoul.jpa.model.EntityModel;
+import net.bytebuddy.ByteBuddy;
+import net.bytebuddy.description.modifier.FieldManifestation;
+import net.bytebuddy.description.modifier.Visibility;
+import net.bytebuddy.dynamic.DynamicType;
+import net.bytebuddy.dynamic.loading.ClassLoadingStrategy;
+import net.bytebuddy.implementation.FieldAccessor;
+import net.bytebuddy.implementation.MethodCall;
+import net.bytebuddy.implementation.SuperMethodCall;
+
+/**
+ * Instances whose values are read at their first call. Each is the entity itself, an instance of a class below it that
+ * is made once: so there is never a second instance of an identity, and {@code ==} holds. An entity that can't have
+ * such a class, as a final one, is read at once. Safe for all threads.
+ */
+public final class Proxies {
+    private static final String SUFFIX = "$Karzhoul";
+    private static final String ENTRY = "karzhoul$entry";
+
+    /** Makes instances of an entity's proxy class; empty where it can't have one. One for each class and its loader. */
+    private static final ClassValue<Optional<MethodHandle>> MAKERS = new ClassValue<>() {
+        @Override
+        protected Optional<MethodHandle> computeValue(Class<?> entity) {
+            return maker(entity);
+        }
+    };
+
+    private Proxies() {}
+
+    /** Whether this entity is one whose instances may be proxies: its class can be known by its key alone. */
+    static boolean isPossible(EntityModel model) {
+        return model.subEntities().isEmpty() && !model.isAbstract() && MAKERS.get(model.javaClass()).isPresent();
+    }
+
+    /** A proxy of this entry. */
+    static Object make(Entry entry) {
+        return make(entry.model().javaClass(), entry);
+    }
+
+    /** A detached proxy of what has this key. */
+    static Object ofKey(Plain.Key key) {
+        return make(key.entity(), key);
+    }
+
+    /** What the door knows of a proxy: an {@link Entry} or a {@link Plain.Key}; null of any other instance. */
+    static Object known(Object instance) {
+        return instance instanceof Proxied proxied ? proxied.karzhoul$entry() : null;
+    }
+
+    private static Object make(Class<?> entity, Object known) {
+        MethodHandle maker = MAKERS.get(entity).orElseThrow();
+        try {
+            Object made = maker.invoke();
+            ((Proxied) made).karzhoul$entry(known);
+            return made;
+        } catch (RuntimeException | Error e) {
+            throw e;
+        } catch (Throwable e) {
+            throw new IllegalStateException(e);
+        }
+    }
+
+    /** What is called before each method of a proxy. */
+    public static void fill(Object known) {
+        if (known instanceof Entry entry) {
+            if (entry.isHollow()) {
+                entry.fill();
+            }
+        } else if (known instanceof Plain.Key key) {
+            throw new PersistenceException(key.entity().getSimpleName() + " " + key.parts()
+                + " wasn't read before it was serialized: merge it, or find it again");
+        }
+    }
+
+    /** What is serialized in a proxy's place. */
+    public static Object replacement(Object proxy, Object known) {
+        return Plain.of(proxy, known);
+    }
+
+    private static Optional<MethodHandle> maker(Class<?> entity) {
+        if (Modifier.isFinal(entity.getModifiers()) || Modifier.isAbstract(entity.getModifiers())) {
+            return Optional.empty();
+        }
+        try {
+            MethodHandles.Lookup lookup = MethodHandles.privateLookupIn(entity, MethodHandles.lookup());
+            DynamicType.Builder<?> builder = described(entity);
+            Class<?> made = builder.make()
+                .load(entity.getClassLoader(), ClassLoadingStrategy.UsingLookup.of(lookup)).getLoaded();
+            MethodHandles.Lookup inside = MethodHandles.privateLookupIn(made, MethodHandles.lookup());
+            return Optional.of(inside.findConstructor(made, MethodType.methodType(void.class)));
+        } catch (ReflectiveOperationException | IllegalArgumentException | IllegalStateException | LinkageError e) {
+            System.getLogger("karzhoul").log(System.Logger.Level.INFO,
+                entity.getName() + " can't have a class of proxies below it: what leads to it is read at once", e);
+            return Optional.empty();
+        }
+    }
+
+    private static DynamicType.Builder<?> described(Class<?> entity) throws NoSuchMethodException {
+        Method fill = Proxies.class.getMethod("fill", Object.class);
+        DynamicType.Builder<?> builder = new ByteBuddy().subclass(entity)
+            .name(entity.getName() + SUFFIX)
+            .defineField(ENTRY, Object.class, Visibility.PRIVATE,
+                net.bytebuddy.description.modifier.FieldPersistence.TRANSIENT, FieldManifestation.PLAIN)
+            .method(isVirtual().and(not(isFinalizer())).and(not(named("writeReplace").and(takesArguments(0)))))
+            .intercept(MethodCall.invoke(fill).withField(ENTRY).andThen(SuperMethodCall.INSTANCE))
+            .implement(Proxied.class).intercept(FieldAccessor.ofField(ENTRY));
+        if (!Serializable.class.isAssignableFrom(entity)) {
+            return builder;
+        }
+        Method replacement = Proxies.class.getMethod("replacement", Object.class, Object.class);
+        return builder.defineMethod("writeReplace", Object.class, Visibility.PRIVATE)
+            .intercept(MethodCall.invoke(replacement).withThis().withField(ENTRY));
+    }
+}

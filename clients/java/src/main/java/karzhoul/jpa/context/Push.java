@@ -1,0 +1,286 @@
+package karzhoul.jpa.context;
+
+import jakarta.persistence.CascadeType;
+import jakarta.persistence.PersistenceException;
+import java.util.ArrayDeque;
+import java.util.ArrayList;
+import java.util.Collection;
+import java.util.Deque;
+import java.util.IdentityHashMap;
+import java.util.List;
+import java.util.Map;
+import karzhoul.jpa.engine.Lines;
+import karzhoul.jpa.model.Attribute;
+import karzhoul.jpa.model.EntityModel;
+import karzhoul.jpa.model.KeyModel;
+import karzhoul.jpa.model.Relation;
+
+/**
+ * Tells the program what instances have that it doesn't: a line for each value, link and member that changed. A value
+ * is judged by its codec before any line; what is refused there leaves nothing half told. One for each operation.
+ */
+class Push {
+    private final Context context;
+    private final Identities identities;
+    private final Lines queue;
+    private final Targets targets;
+    private final Deque<Entry> work = new ArrayDeque<>();
+    private final List<Entry> orphans = new ArrayList<>();
+    private boolean isMerging;
+
+    Push(Context context) {
+        this.context = context;
+        identities = context.identities();
+        queue = context.queue();
+        targets = new Targets(context);
+    }
+
+    /** From now on this is for a merge: what wasn't read isn't told, and nothing is left out. */
+    final void merging() {
+        isMerging = true;
+    }
+
+    /** All that the context has, and what it leads to. */
+    final void all() {
+        for (Entry entry : identities.numbered()) {
+            tell(entry);
+        }
+        rest();
+    }
+
+    /** These, and what they lead to. */
+    final void these(Collection<Entry> entries) {
+        entries.forEach(this::tell);
+        rest();
+    }
+
+    /** The relations of these, along which the program is to go on, and what they lead to. */
+    final void relationsOf(Collection<Entry> entries) {
+        entries.forEach(this::tellRelations);
+        rest();
+    }
+
+    /** What left a joined relation that removes orphans, which the program doesn't know as such. */
+    final List<Entry> orphans() {
+        return orphans;
+    }
+
+    /** The entry of an instance, for which the program gets an object where it has none: its values are told too. */
+    final Entry known(Object instance) {
+        Entry entry = made(instance, true);
+        rest();
+        return entry;
+    }
+
+    private void rest() {
+        for (Entry entry; (entry = work.poll()) != null; ) {
+            tell(entry);
+        }
+    }
+
+    private void tell(Entry entry) {
+        if (entry.isHollow() || entry.state() == Entry.State.DETACHED) {
+            return;
+        }
+        for (Attribute attribute : entry.model().attributes()) {
+            value(entry, attribute);
+        }
+        tellRelations(entry);
+    }
+
+    private void tellRelations(Entry entry) {
+        if (entry.isHollow() || entry.state() == Entry.State.DETACHED) {
+            return;
+        }
+        for (Relation relation : entry.model().relations()) {
+            if (relation.isMany()) {
+                collection(entry, relation);
+            } else {
+                link(entry, relation);
+            }
+        }
+    }
+
+    private void value(Entry entry, Attribute attribute) {
+        Object now = attribute.get(entry.instance());
+        int place = attribute.place();
+        if (Values.isSame(attribute, now, entry.values[place]) && !isNullThatIsKept(entry, attribute, now)) {
+            return;
+        }
+        if (entry.state() != Entry.State.NEW && attribute.role() == Attribute.Role.KEY) {
+            throw new PersistenceException("the key of " + entry + " was changed: " + attribute.path() + " is " + now);
+        } else if (attribute.role() == Attribute.Role.VERSION || isUngiven(entry, attribute, now)) {
+            return;
+        }
+        Object column = Values.column(attribute, now);
+        touch(entry);
+        set(entry, attribute, column);
+        entry.values[place] = Values.kept(attribute, now);
+    }
+
+    /** Whether a converter makes something of the null of a new instance. */
+    private static boolean isNullThatIsKept(Entry entry, Attribute attribute, Object now) {
+        return now == null && entry.state() == Entry.State.NEW && Values.column(attribute, null) != null;
+    }
+
+    /** Whether this is the zero of a primitive key that the program is to give. */
+    private static boolean isUngiven(Entry entry, Attribute attribute, Object now) {
+        return attribute.role() == Attribute.Role.KEY
+            && entry.model().key().generation() == KeyModel.Generation.COUNTER
+            && Long.valueOf(0).equals(attribute.codec().toColumn(now));
+    }
+
+    private void touch(Entry entry) {
+        context.touched(true);
+        if (!entry.isTouched()) {
+            entry.touch();
+            context.hasTouched(entry);
+        }
+    }
+
+    /** Sends one value. */
+    void set(Entry entry, Attribute attribute, Object column) {
+        queue.set(entry.number(), attribute.member(), column).about(entry);
+    }
+
+    private void link(Entry entry, Relation relation) {
+        Object now = relation.get(entry.instance());
+        Entry before = (Entry) entry.relations[relation.place()];
+        if (now == (before == null ? null : before.instance())) {
+            return;
+        }
+        Entry target = now == null || isLeftOut(relation, now) ? null : target(relation, now);
+        if (target == before) {
+            return;
+        }
+        touch(entry);
+        queue.link(entry.number(), relation.member(), target == null ? 0 : target.number()).about(entry);
+        entry.relations[relation.place()] = target;
+    }
+
+    /**
+     * Whether an inverse relation that doesn't cascade PERSIST leads to what isn't stored: nobody asks that of it, so
+     * the program isn't told.
+     */
+    private boolean isLeftOut(Relation relation, Object member) {
+        if (isMerging || relation.isOwner() || relation.cascades().contains(CascadeType.PERSIST)) {
+            return false;
+        }
+        Entry entry = context.entryOf(member);
+        return entry == null ? !(member instanceof Proxied)
+            : entry.state() == Entry.State.NEW || entry.state() == Entry.State.REMOVED;
+    }
+
+    private void collection(Entry entry, Relation relation) {
+        Object value = relation.get(entry.instance());
+        if (value instanceof Lazy lazy && lazy.owner() == entry && (!lazy.isRead() || isAsBefore(entry, relation, lazy))) {
+            return;
+        }
+        if (isMerging && Unread.is(value)) {
+            return;
+        }
+        if (value instanceof Unread) {
+            throw new PersistenceException(entry + "." + relation.path() + " wasn't read before it was serialized");
+        }
+        if (entry.relations[relation.place()] == Entry.UNREAD) {
+            targets.read(entry, relation);
+        }
+        List<Entry> now = members(entry, relation, value);
+        @SuppressWarnings("unchecked")
+        List<Entry> before = (List<Entry>) entry.relations[relation.place()];
+        if (!isSame(before, now)) {
+            touch(entry);
+            changes(entry, relation, before, now);
+            entry.relations[relation.place()] = now;
+        }
+        if (value instanceof Lazy lazy && lazy.owner() == entry) {
+            lazy.clean();
+        }
+    }
+
+    private static boolean isAsBefore(Entry entry, Relation relation, Lazy lazy) {
+        return !lazy.isChanged() && relation.isOwner() && entry.relations[relation.place()] != Entry.UNREAD;
+    }
+
+    private List<Entry> members(Entry entry, Relation relation, Object value) {
+        List<Entry> members = new ArrayList<>();
+        if (value == null) {
+            return members;
+        }
+        for (Object member : (Collection<?>) value) {
+            if (member == null) {
+                throw new PersistenceException(entry + "." + relation.path() + " has a member that is null");
+            } else if (!isLeftOut(relation, member)) {
+                members.add(target(relation, member));
+            }
+        }
+        return members;
+    }
+
+    private static boolean isSame(List<Entry> before, List<Entry> now) {
+        if (before.size() != now.size()) {
+            return false;
+        }
+        for (int i = 0; i < now.size(); i++) {
+            if (before.get(i) != now.get(i)) {
+                return false;
+            }
+        }
+        return true;
+    }
+
+    private void changes(Entry entry, Relation relation, List<Entry> before, List<Entry> now) {
+        Map<Entry, Integer> more = new IdentityHashMap<>();
+        now.forEach(member -> more.merge(member, 1, Integer::sum));
+        before.forEach(member -> more.merge(member, -1, Integer::sum));
+        for (Entry member : before) {
+            if (more.get(member) < 0) {
+                more.merge(member, 1, Integer::sum);
+                queue.takeOut(entry.number(), relation.member(), numbered(member).number()).about(entry);
+                if (relation.isJoined() && relation.removesOrphans() && !now.contains(member)) {
+                    orphans.add(member);
+                }
+            }
+        }
+        for (Entry member : now) {
+            if (more.get(member) > 0) {
+                more.merge(member, -1, Integer::sum);
+                queue.add(entry.number(), relation.member(), member.number()).about(entry);
+            }
+        }
+    }
+
+    private Entry target(Relation relation, Object instance) {
+        return numbered(made(instance, !isMerging && relation.cascades().contains(CascadeType.PERSIST)));
+    }
+
+    private Entry numbered(Entry entry) {
+        if (entry.number() == 0) {
+            targets.number(entry);
+        }
+        return entry;
+    }
+
+    private Entry made(Object instance, boolean isPersisted) {
+        Entry entry = context.entryOf(instance);
+        if (entry != null) {
+            return entry;
+        }
+        EntityModel model = context.modelOf(instance);
+        Entry there = targets.foreign(model, instance, isPersisted);
+        if (there != null) {
+            return there;
+        } else if (Graph.isForeignProxy(instance)) {
+            throw context.marked(Targets.isGone(model.name() + " " + Targets.keyOf(model, instance)));
+        }
+        entry = new Entry(model, context, Entry.State.NEW);
+        entry.instance(instance);
+        entry.number(context.newNumber(model));
+        identities.put(entry);
+        if (isPersisted) {
+            new Keys(context).prepare(entry);
+        }
+        work.add(entry);
+        return entry;
+    }
+}

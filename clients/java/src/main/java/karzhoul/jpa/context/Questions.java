@@ -1,0 +1,159 @@
+package karzhoul.jpa.context;
+
+import jakarta.persistence.FlushModeType;
+import jakarta.persistence.LockModeType;
+import java.util.ArrayList;
+import java.util.HashMap;
+import java.util.LinkedHashSet;
+import java.util.List;
+import java.util.Map;
+import java.util.Set;
+import karzhoul.jpa.engine.Reply;
+import karzhoul.jpa.model.Relation;
+import karzhoul.jpa.model.UnitModel;
+import karzhoul.jpa.query.Asking;
+
+/** What queries need of an entity manager (chapter 3.10). */
+final class Questions implements Asking {
+    private final Manager manager;
+    private final Context context;
+
+    Questions(Manager manager, Context context) {
+        this.manager = manager;
+        this.context = context;
+    }
+
+    @Override
+    public UnitModel unit() {
+        return context.unit();
+    }
+
+    @Override
+    public void needOpen() {
+        manager.needOpen();
+    }
+
+    @Override
+    public void needTransaction() {
+        context.needTransaction();
+    }
+
+    @Override
+    public FlushModeType flushMode() {
+        return manager.getFlushMode();
+    }
+
+    @Override
+    public void lock(Object instance, LockModeType mode) {
+        manager.lock(instance, mode);
+    }
+
+    @Override
+    public void flushBefore(FlushModeType mode) {
+        if (context.isActive() && mode == FlushModeType.AUTO) {
+            manager.flushNow();
+        }
+    }
+
+    @Override
+    public List<Object[]> rows(String text, List<Parameter> parameters, Integer first, Integer max) {
+        return context.within(() -> {
+            List<Object> told = ask("query", text, parameters, first, max).list();
+            List<Object> refs = new ArrayList<>();
+            for (Object row : told) {
+                if (row instanceof List<?> items) {
+                    items.stream().filter(karzhoul.jpa.engine.Ref.class::isInstance).forEach(refs::add);
+                } else if (row instanceof karzhoul.jpa.engine.Ref) {
+                    refs.add(row);
+                }
+            }
+            Map<Object, Entry> entries = entries(refs);
+            List<Object[]> rows = new ArrayList<>(told.size());
+            for (Object row : told) {
+                rows.add(row(row instanceof List<?> items ? items.toArray() : new Object[] {row}, entries));
+            }
+            return rows;
+        });
+    }
+
+    private Map<Object, Entry> entries(List<Object> refs) {
+        Map<Object, Entry> entries = new HashMap<>();
+        List<Entry> found = new Fill(context).entries(refs);
+        for (int i = 0; i < refs.size(); i++) {
+            entries.put(refs.get(i), found.get(i));
+        }
+        return entries;
+    }
+
+    private static Object[] row(Object[] items, Map<Object, Entry> entries) {
+        for (int i = 0; i < items.length; i++) {
+            if (items[i] instanceof karzhoul.jpa.engine.Ref ref) {
+                items[i] = new Asking.Ref(ref.number(), entries.get(ref));
+            }
+        }
+        return items;
+    }
+
+    @Override
+    public int update(String text, List<Parameter> parameters) {
+        context.needTransaction();
+        context.touched(true);
+        return context.within(() -> ((Long) ask("executeUpdate", text, parameters, null, null).ok()).intValue());
+    }
+
+    private Reply ask(String call, String text, List<Parameter> parameters, Integer first, Integer max) {
+        List<Object> pairs = new ArrayList<>();
+        for (Parameter parameter : parameters) {
+            pairs.add(parameter.name());
+            pairs.add(parameter.value() instanceof Asking.Ref ref
+                ? new karzhoul.jpa.engine.Ref(number((Entry) ref.held())) : parameter.value());
+        }
+        int from = context.queue().count();
+        context.queue().statement(call, context.manager(), text, pairs, first, max).about("\"" + text + "\"");
+        return context.ask(from)[0];
+    }
+
+    private long number(Entry entry) {
+        if (entry.number() == 0) {
+            new Targets(context).number(entry);
+        }
+        return entry.number();
+    }
+
+    @Override
+    public List<Object> instances(List<Asking.Ref> refs) {
+        List<Object> instances = new ArrayList<>(refs.size());
+        for (Asking.Ref ref : refs) {
+            instances.add(ref == null ? null : ((Entry) ref.held()).instance());
+        }
+        return instances;
+    }
+
+    @Override
+    public Asking.Ref refOf(Object instance) {
+        var model = context.modelOf(instance);
+        Entry known = context.entryOf(instance);
+        Entry entry = known != null ? known
+            : context.within(() -> new Targets(context).foreign(model, instance, false));
+        if (entry == null || entry.state() == Entry.State.NEW) {
+            throw context.marked(new IllegalArgumentException("a new " + model.name()
+                + ", which isn't stored, can't be a parameter: persist it first"));
+        }
+        return new Asking.Ref(entry.number(), entry);
+    }
+
+    @Override
+    public void fetch(List<Object> instances, Relation relation) {
+        context.within(() -> {
+            Set<Entry> owners = new LinkedHashSet<>();
+            for (Object instance : instances) {
+                Entry entry = instance == null ? null : context.entryOf(instance);
+                if (entry != null) {
+                    owners.add(entry);
+                }
+            }
+            new Fill(context).fetch(owners, relation);
+            return null;
+        });
+    }
+}

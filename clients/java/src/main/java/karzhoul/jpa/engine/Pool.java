@@ -1,0 +1,273 @@
+package karzhoul.jpa.engine;
+
+import jakarta.persistence.PersistenceException;
+import java.util.ArrayDeque;
+import java.util.Deque;
+import java.util.Iterator;
+import java.util.LinkedHashSet;
+import java.util.Set;
+import java.util.concurrent.TimeUnit;
+import java.util.concurrent.locks.Condition;
+import java.util.concurrent.locks.ReentrantLock;
+import java.util.function.Supplier;
+
+/**
+ * The program's managers, given to the entity managers that need one, and the program's runs. Safe for all threads.
+ *
+ * <p>An entity manager is busy from {@link #enter} to {@link #leave}: for one operation, or for a whole transaction.
+ * While one is busy its numbers stay names. A run ends, by {@code restart}, while none is busy, once it has made half
+ * of the objects that it may; who wants to begin then waits, but not longer than {@link #PATIENCE}, since a thread
+ * may wait for itself; then nobody waits until so many more objects are made. Where all managers of the program are held, one that isn't busy is taken from its holder, who
+ * finds its objects again at its next use.
+ */
+public final class Pool implements AutoCloseable {
+    /** How many managers the program opens at a time. */
+    public static final int MANAGERS = 16;
+
+    /** How many objects a run may make before it is ended, and how many the program makes at most. */
+    static final int HIGH = 500_000;
+    static final int MOST = 990_000;
+    private static final int STEP = 50_000;
+    private static final long PATIENCE = TimeUnit.MILLISECONDS.toNanos(200);
+
+    private final Supplier<Engine> starting;
+    private final ReentrantLock lock = new ReentrantLock();
+    private final Condition changed = lock.newCondition();
+    private final Deque<Session> free = new ArrayDeque<>();
+    private final Set<Session> idle = new LinkedHashSet<>();
+    private final Numbers numbers = new Numbers();
+    private Engine engine;
+    private int run = 1;
+    private int opened;
+    private int busy;
+    private long high = HIGH;
+    private long gate = HIGH;
+    private boolean isClosed;
+
+    Pool(Supplier<Engine> starting) {
+        this.starting = starting;
+        engine = starting.get();
+    }
+
+    /** The numbers of new objects, of the present run. */
+    public Numbers numbers() {
+        return numbers;
+    }
+
+    /** The present run. */
+    public int run() {
+        lock.lock();
+        try {
+            return run;
+        } finally {
+            lock.unlock();
+        }
+    }
+
+    /** The running program. */
+    public Engine engine() {
+        lock.lock();
+        try {
+            return engine;
+        } finally {
+            lock.unlock();
+        }
+    }
+
+    /**
+     * Makes an entity manager busy.
+     *
+     * @param held what it holds, or null
+     * @param waitMillis how long it waits for one of the program's managers
+     * @return what it holds now: the same, or another one where it had none or lost it
+     * @throws PersistenceException where none was given back in this time, or the program can't be started
+     */
+    public Session enter(Session held, long waitMillis) {
+        lock.lock();
+        try {
+            long start = System.nanoTime();
+            for (;;) {
+                long passed = System.nanoTime() - start;
+                Session session = isAdmitted(passed) ? sessionFor(held) : null;
+                if (session != null) {
+                    session.isBusy = true;
+                    idle.remove(session);
+                    busy++;
+                    return session;
+                }
+                await(passed, TimeUnit.MILLISECONDS.toNanos(waitMillis));
+            }
+        } finally {
+            lock.unlock();
+        }
+    }
+
+    /** Ends what {@link #enter} began; the manager keeps its objects. */
+    public void leave(Session session) {
+        lock.lock();
+        try {
+            if (session.isBusy) {
+                session.isBusy = false;
+                busy--;
+                if (isThere(session)) {
+                    idle.add(session);
+                }
+            }
+            if (busy == 0 && engine.made() >= high && engine.isRunning()) {
+                restart();
+            }
+            changed.signalAll();
+        } finally {
+            lock.unlock();
+        }
+    }
+
+    /**
+     * Takes back what isn't needed any more, from a busy one or an idle one.
+     *
+     * @param needsClear whether the program's manager may still hold objects; it has no transaction
+     */
+    public void giveBack(Session session, boolean needsClear) {
+        lock.lock();
+        try {
+            if (session.isBusy) {
+                session.isBusy = false;
+                busy--;
+            }
+            idle.remove(session);
+            if (isThere(session)) {
+                session.isLost = true;
+                free.push(new Session(session.engine(), session.manager(), session.run(), needsClear));
+            }
+        } finally {
+            changed.signalAll();
+            lock.unlock();
+        }
+        leave(session);
+    }
+
+    /** So many objects were made again for a manager that lived over the end of a run: they count for no end of this one. */
+    public void carried(int objects) {
+        lock.lock();
+        try {
+            high = Math.min(MOST, high + objects);
+            gate = Math.max(gate, high);
+        } finally {
+            lock.unlock();
+        }
+    }
+
+    /** Ends the run now, where no entity manager is busy; else not at all. Answers whether it did. */
+    public boolean restartIfIdle() {
+        lock.lock();
+        try {
+            if (busy > 0 || !engine.isRunning()) {
+                return false;
+            }
+            restart();
+            return true;
+        } finally {
+            lock.unlock();
+        }
+    }
+
+    /** Ends the program. */
+    @Override
+    public void close() {
+        lock.lock();
+        try {
+            isClosed = true;
+            changed.signalAll();
+        } finally {
+            lock.unlock();
+        }
+        engine.close();
+    }
+
+    private boolean isAdmitted(long passed) {
+        if (isClosed) {
+            throw new IllegalStateException("the entity manager factory is closed");
+        }
+        if (!engine.isRunning()) {
+            engine.close();
+            engine = starting.get();
+            forgetRun();
+        }
+        if (engine.made() >= high && busy == 0) {
+            restart();
+        }
+        if (engine.made() >= gate && passed > PATIENCE && engine.made() < MOST) {
+            gate = Math.min(MOST, engine.made() + STEP);
+        }
+        return engine.made() < gate;
+    }
+
+    private Session sessionFor(Session held) {
+        if (held != null && isThere(held)) {
+            return held;
+        }
+        if (!free.isEmpty()) {
+            return free.pop();
+        }
+        return opened < MANAGERS ? open() : takeIdle();
+    }
+
+    private boolean isThere(Session session) {
+        return !session.isLost && session.run() == run;
+    }
+
+    private Session open() {
+        Lines lines = new Lines().createEntityManager();
+        Reply reply = engine.ask(lines)[0];
+        if (reply.isRefused()) {
+            throw Refusals.of(reply);
+        }
+        long manager = (Long) reply.ok();
+        engine.ask(new Lines().flushAtCommit(manager));
+        opened++;
+        return new Session(engine, manager, run, false);
+    }
+
+    /** The manager of who was idle for the longest time; null where all are busy. */
+    private Session takeIdle() {
+        Iterator<Session> idles = idle.iterator();
+        if (!idles.hasNext()) {
+            return null;
+        }
+        Session taken = idles.next();
+        idles.remove();
+        taken.isLost = true;
+        return new Session(engine, taken.manager(), run, true);
+    }
+
+    private void restart() {
+        engine.restart();
+        forgetRun();
+    }
+
+    private void forgetRun() {
+        run++;
+        numbers.forget();
+        free.clear();
+        idle.clear();
+        opened = 0;
+        high = HIGH;
+        gate = HIGH;
+    }
+
+    private void await(long passed, long wait) {
+        if (passed > wait) {
+            throw new PersistenceException((busy >= MANAGERS
+                ? "all " + MANAGERS + " managers of the program have a transaction"
+                : "the program has made " + engine.made() + " objects and can't begin anew while a transaction is open")
+                + ", and none of them ended in " + TimeUnit.NANOSECONDS.toMillis(wait)
+                + " ms (karzhoul.pool.wait): close or commit sooner, or wait longer");
+        }
+        try {
+            changed.awaitNanos(Math.min(wait - passed + 1, PATIENCE));
+        } catch (InterruptedException e) {
+            Thread.currentThread().interrupt();
+            throw new PersistenceException("interrupted while it waited for a manager of the program", e);
+        }
+    }
+}

@@ -1,0 +1,152 @@
+package karzhoul.jpa.engine;
+
+import jakarta.persistence.PersistenceException;
+import java.io.IOException;
+import java.nio.file.Files;
+import java.nio.file.Path;
+import java.util.HashMap;
+import java.util.List;
+import java.util.Map;
+import java.util.function.Consumer;
+
+/**
+ * The program of a store: the factories of one JVM that name the same store share it, as others share a database.
+ * Safe for all threads.
+ */
+public final class Program {
+    private static final String SCHEME = "karzhoul:";
+    private static final String MEMORY = "memory";
+    private static final List<String> SUFFIXES = List.of("", "-wal", "-shm", "-journal");
+    private static final Map<String, Program> OPEN = new HashMap<>();
+
+    private final String store;
+    private final String mapping;
+    private final String description;
+    private final Path mappingFile;
+    private final Path memory;
+    private final Pool pool;
+    private int users;
+
+    private Program(String store, String program, String mapping, String description, Consumer<String> log) throws IOException {
+        this.store = store;
+        this.mapping = mapping;
+        this.description = description;
+        mappingFile = Files.createTempFile("karzhoul", ".json");
+        Files.writeString(mappingFile, mapping);
+        memory = store.equals(MEMORY) ? memoryFile() : null;
+        String file = memory == null ? store : memory.toString();
+        List<String> command = List.of(program, "--mapping", mappingFile.toString(), "--db", file);
+        Journal journal = log == null ? null : new Journal(log);
+        StoreDescription described = memory == null ? new StoreDescription(Path.of(store), description) : null;
+        pool = new Pool(() -> started(command, journal, described));
+    }
+
+    private static Engine started(List<String> command, Journal journal, StoreDescription described) {
+        if (described == null) {
+            return new Engine(command, journal);
+        }
+        described.prepare();
+        Engine engine = new Engine(command, journal);
+        try {
+            engine.check(described);
+        } catch (ProgramEnded refused) {
+            throw described.explained(command.get(0), refused);
+        }
+        return engine;
+    }
+
+    /**
+     * The program of a store, started where it isn't running yet.
+     *
+     * @param url {@code karzhoul:FILE} or {@code karzhoul:memory}
+     * @param program the executable
+     * @param mapping the mapping, as JSON
+     * @param description what the rows of the store mean
+     * @param log takes each call with its answer, or null
+     * @throws PersistenceException where the url is none, the program can't be started, it refuses the mapping or the
+     *     store, or another unit of this JVM has the store open with another mapping
+     */
+    public static Program open(String url, String program, String mapping, String description, Consumer<String> log) {
+        String store = storeOf(url);
+        synchronized (OPEN) {
+            Program shared = OPEN.get(store);
+            if (shared == null) {
+                shared = start(store, program, mapping, description, log);
+                OPEN.put(store, shared);
+            } else if (!shared.mapping.equals(mapping) || !shared.description.equals(description)) {
+                throw new PersistenceException(url + " is open in this JVM with another mapping: units that share a"
+                    + " store must have the same entities" + StoreDescription.differences(shared.description, description));
+            }
+            shared.users++;
+            return shared;
+        }
+    }
+
+    private static Program start(
+            String store, String executable, String mapping, String description, Consumer<String> log) {
+        Program program;
+        try {
+            program = new Program(store, executable, mapping, description, log);
+        } catch (IOException e) {
+            throw new PersistenceException("no file could be made for the mapping or the store: " + e.getMessage(), e);
+        }
+        try {
+            program.pool.giveBack(program.pool.enter(null, 0), false);
+        } catch (RuntimeException e) {
+            program.end();
+            throw e;
+        }
+        return program;
+    }
+
+    private static String storeOf(String url) {
+        if (url == null || !url.startsWith(SCHEME) || url.length() == SCHEME.length()) {
+            throw new PersistenceException("jakarta.persistence.jdbc.url is " + url
+                + ": write karzhoul:FILE or karzhoul:memory");
+        }
+        String store = url.substring(SCHEME.length());
+        return store.equals(MEMORY) ? store : Path.of(store).toAbsolutePath().normalize().toString();
+    }
+
+    private static Path memoryFile() throws IOException {
+        Path shared = Path.of("/dev/shm");
+        Path folder = Files.isWritable(shared)
+            ? Files.createTempDirectory(shared, "karzhoul") : Files.createTempDirectory("karzhoul");
+        Path file = folder.resolve("memory.db");
+        folder.toFile().deleteOnExit();         // where the factory isn't closed; deleted last
+        for (String suffix : SUFFIXES) {
+            file.resolveSibling(file.getFileName() + suffix).toFile().deleteOnExit();
+        }
+        return file;
+    }
+
+    public Pool pool() {
+        return pool;
+    }
+
+    /** Lets the program go: it ends with its last factory, and a store in memory with it. */
+    public void close() {
+        synchronized (OPEN) {
+            if (--users > 0) {
+                return;
+            }
+            OPEN.remove(store);
+            end();
+        }
+    }
+
+    private void end() {
+        pool.close();
+        try {
+            Files.deleteIfExists(mappingFile);
+            if (memory != null) {
+                for (String suffix : SUFFIXES) {
+                    Files.deleteIfExists(memory.resolveSibling(memory.getFileName() + suffix));
+                }
+                Files.deleteIfExists(memory.getParent());
+            }
+        } catch (IOException e) {
+            System.getLogger("karzhoul").log(System.Logger.Level.DEBUG, "files in memory stay", e);
+        }
+    }
+}

@@ -1,0 +1,29 @@
+package karzhoul.jpa.model;
+
+/** A value of an entity: a part of its key, its version, or a plain attribute (chapters 2.2, 2.4, 3.4). */
+public interface Attribute {
+    /** What a value is for its entity. */
+    enum Role { KEY, VERSION, PLAIN }
+
+    /** Its path in Java and in queries, through embeddables: {@code name}, {@code address.city}, {@code id.row}. */
+    String path();
+
+    /** Its name in the program's mapping: {@code name}, {@code address__city}. */
+    String member();
+
+    Role role();
+
+    Codec codec();
+
+    /** Whether null is refused at a flush. */
+    boolean isRequired();
+
+    /** Its place in {@link EntityModel#attributes()} of the entity that declares it and of each below. */
+    int place();
+
+    /** The value in an instance, of the attribute's Java type; null also where an embeddable on the way is null. */
+    Object get(Object instance);
+
+    /** Sets it, and makes embeddables on the way; a null of a primitive is its zero. */
+    void set(Object instance, Object value);
+}

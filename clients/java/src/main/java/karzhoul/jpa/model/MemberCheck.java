@@ -1,0 +1,98 @@
+package karzhoul.jpa.model;
+
+import jakarta.persistence.AttributeOverride;
+import jakarta.persistence.Column;
+import jakarta.persistence.Convert;
+import jakarta.persistence.ElementCollection;
+import jakarta.persistence.Embedded;
+import jakarta.persistence.EmbeddedId;
+import jakarta.persistence.Enumerated;
+import jakarta.persistence.GeneratedValue;
+import jakarta.persistence.Id;
+import jakarta.persistence.JoinColumn;
+import jakarta.persistence.ManyToMany;
+import jakarta.persistence.ManyToOne;
+import jakarta.persistence.OneToMany;
+import jakarta.persistence.OneToOne;
+import jakarta.persistence.PrimaryKeyJoinColumn;
+import jakarta.persistence.Temporal;
+import jakarta.persistence.Version;
+import java.lang.annotation.Annotation;
+import java.util.Calendar;
+import java.util.Date;
+import java.util.List;
+import java.util.Set;
+import java.util.function.Predicate;
+
+/** Tells annotations that can't be kept, or that don't go together: none is passed over. */
+final class MemberCheck {
+    /** A member is one of these, or a plain value. */
+    private static final List<Class<? extends Annotation>> SORTS = List.of(
+            EmbeddedId.class, Version.class, ManyToOne.class, OneToOne.class, OneToMany.class, ManyToMany.class,
+            ElementCollection.class, Embedded.class);
+    private static final String WRITTEN = "Leave insertable and updatable out, or add @Transient";
+
+    private final Faults faults;
+
+    MemberCheck(Faults faults) {
+        this.faults = faults;
+    }
+
+    void check(Member member) {
+        List<String> sorts = SORTS.stream().filter(member::has).map(it -> "@" + it.getSimpleName()).toList();
+        if (sorts.size() > 1) {
+            faults.add(member, "it has " + String.join(" and ", sorts), "Leave one of them");
+        }
+        if (member.has(Enumerated.class) && !member.javaType().isEnum() && sorts.isEmpty()) {
+            faults.add(member, "it has @Enumerated, and is no enum", "Leave @Enumerated out");
+        }
+        boolean isDated = Date.class.isAssignableFrom(member.javaType()) || Calendar.class.isAssignableFrom(member.javaType());
+        if (member.has(Temporal.class) && !isDated && sorts.isEmpty()) {
+            faults.add(member, "it has @Temporal, and is no Date or Calendar", "Leave @Temporal out");
+        }
+        if (member.has(GeneratedValue.class) && !member.has(Id.class) && !member.has(EmbeddedId.class)) {
+            faults.add(member, "it is generated, and is no key", "Leave @GeneratedValue out, and give it in @PrePersist");
+        }
+        if (member.has(PrimaryKeyJoinColumn.class)) {
+            faults.add(member, "@PrimaryKeyJoinColumn isn't kept", "Use @MapsId, with the relation set");
+        }
+        checkJoinColumns(member);
+    }
+
+    private void checkJoinColumns(Member member) {
+        for (JoinColumn column : member.annotated().getAnnotationsByType(JoinColumn.class)) {
+            if (!column.insertable() || !column.updatable()) {
+                faults.add(member, "a column that isn't written isn't kept", WRITTEN);
+            }
+            if (column.unique() && !member.has(OneToOne.class)) {
+                faults.add(member, "unique isn't kept", "Leave it out, or use @OneToOne");
+            }
+        }
+    }
+
+    void check(Member member, Column column) {
+        if (column.unique()) {
+            faults.add(member, "unique isn't kept", "Leave it out, or make it the key");
+        }
+        if (!column.insertable() || !column.updatable()) {
+            faults.add(member, "a column that isn't written isn't kept", WRITTEN);
+        }
+    }
+
+    /** Tells what an embedded member overrides or converts, and doesn't have. */
+    void checkOverrides(Member member, Set<String> paths) {
+        tellUnknown(member, "@AttributeOverride", member.annotated().getAnnotationsByType(AttributeOverride.class),
+                AttributeOverride::name, paths::contains);
+        tellUnknown(member, "@Convert", member.annotated().getAnnotationsByType(Convert.class), Convert::attributeName, paths::contains);
+    }
+
+    private <A> void tellUnknown(
+            Member member, String annotation, A[] all, java.util.function.Function<A, String> name, Predicate<String> isThere) {
+        for (A one : all) {
+            if (!isThere.test(name.apply(one))) {
+                faults.add(member, annotation + " names \"" + name.apply(one) + "\", which " + member.javaType().getName()
+                        + " doesn't have", "Name one of its attributes");
+            }
+        }
+    }
+}

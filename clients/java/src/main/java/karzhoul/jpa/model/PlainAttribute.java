@@ -1,0 +1,81 @@
+package karzhoul.jpa.model;
+
+/** An attribute as it was read. */
+final class PlainAttribute implements Attribute {
+    private final String path;
+    private final String member;
+    private final Role role;
+    private final Codec codec;
+    private final boolean isRequired;
+    private final Place where;
+    private final String columnName;
+    private int place = -1;
+
+    /** @param columnName the column's name, of which its number is made; in a key, whose parts have none, for relations alone */
+    PlainAttribute(String path, String member, Role role, Codec codec, boolean isRequired, Place where, String columnName) {
+        this.path = path;
+        this.member = member;
+        this.role = role;
+        this.codec = codec;
+        this.isRequired = isRequired;
+        this.where = where;
+        this.columnName = columnName;
+    }
+
+    String columnName() {
+        return columnName;
+    }
+
+    int column() {
+        return Names.number(columnName);
+    }
+
+    void stands(int place) {
+        this.place = place;
+    }
+
+    @Override
+    public String path() {
+        return path;
+    }
+
+    @Override
+    public String member() {
+        return member;
+    }
+
+    @Override
+    public Role role() {
+        return role;
+    }
+
+    @Override
+    public Codec codec() {
+        return codec;
+    }
+
+    @Override
+    public boolean isRequired() {
+        return isRequired;
+    }
+
+    @Override
+    public int place() {
+        return place;
+    }
+
+    @Override
+    public Object get(Object instance) {
+        return where.get(instance);
+    }
+
+    @Override
+    public void set(Object instance, Object value) {
+        where.set(instance, value);
+    }
+
+    @Override
+    public String toString() {
+        return path;
+    }
+}

@@ -1,0 +1,220 @@
+package karzhoul.jpa.model;
+
+import java.lang.invoke.MethodHandle;
+import java.util.ArrayList;
+import java.util.HashSet;
+import java.util.List;
+import java.util.Optional;
+import java.util.Set;
+import java.util.stream.Stream;
+
+/** An entity as it was read. It is joined to others by the {@link Reader}, and doesn't change afterwards. */
+final class PlainEntity implements EntityModel {
+    private final String name;
+    private final String mappedName;
+    private final Class<?> javaClass;
+    private final PlainEntity above;
+    private final String table;
+    private final String discriminator;
+    private final boolean isAbstract;
+    private List<EntityModel> below = List.of();
+    private final Set<String> names = new HashSet<>();
+    private final List<PlainAttribute> ownAttributes = new ArrayList<>();
+    private final List<PlainRelation> ownRelations = new ArrayList<>();
+    private List<Attribute> attributes = List.of();
+    private List<Relation> relations = List.of();
+    private PlainKey key;
+    private String keyName;
+    private PlainAttribute version;
+    private Callbacks callbacks;
+    private MethodHandle constructor;
+
+    PlainEntity(Class<?> javaClass, String name, String mappedName, PlainEntity above, String table, String discriminator) {
+        this.javaClass = javaClass;
+        this.name = name;
+        this.mappedName = mappedName;
+        this.above = above;
+        this.table = table;
+        this.discriminator = discriminator;
+        this.isAbstract = java.lang.reflect.Modifier.isAbstract(javaClass.getModifiers());
+        if (above != null) {
+            above.below = Stream.concat(above.below.stream(), Stream.of(this)).toList();
+        }
+    }
+
+    /** Takes the name of a member, of whatever sort. */
+    void declares(String name) {
+        names.add(name);
+    }
+
+    /** Whether this class or one above has a member of this name. */
+    boolean hasMember(String name) {
+        return names.contains(name) || above != null && above.hasMember(name);
+    }
+
+    /** @param keyName the name in the mapping under which the parts stand, or null */
+    void isKnownBy(PlainKey key, String keyName) {
+        this.key = key;
+        this.keyName = keyName;
+    }
+
+    void isVersionedBy(PlainAttribute version) {
+        this.version = version;
+    }
+
+    void has(PlainAttribute attribute) {
+        ownAttributes.add(attribute);
+    }
+
+    void has(PlainRelation relation) {
+        ownRelations.add(relation);
+    }
+
+    void tells(Callbacks callbacks) {
+        this.callbacks = callbacks;
+    }
+
+    void isMadeBy(MethodHandle constructor) {
+        this.constructor = constructor;
+    }
+
+    /** Gives each attribute and relation its place: the key, the version, and then those of the classes from above. */
+    void order() {
+        List<Attribute> all = new ArrayList<>();
+        List<Relation> leading = new ArrayList<>();
+        if (above == null) {
+            all.addAll(key.parts());
+            version().ifPresent(all::add);
+        } else {
+            all.addAll(above.attributes);
+            leading.addAll(above.relations);
+        }
+        all.addAll(ownAttributes);
+        leading.addAll(ownRelations);
+        for (int i = 0; i < all.size(); i++) {
+            ((PlainAttribute) all.get(i)).stands(i);
+        }
+        for (int i = 0; i < leading.size(); i++) {
+            ((PlainRelation) leading.get(i)).stands(i);
+        }
+        attributes = List.copyOf(all);
+        relations = List.copyOf(leading);
+    }
+
+    PlainEntity above() {
+        return above;
+    }
+
+    String table() {
+        return table;
+    }
+
+    String discriminator() {
+        return discriminator;
+    }
+
+    String keyName() {
+        return keyName;
+    }
+
+    PlainKey plainKey() {
+        return above == null ? key : above.plainKey();
+    }
+
+    List<PlainAttribute> ownAttributes() {
+        return ownAttributes;
+    }
+
+    List<PlainRelation> ownRelations() {
+        return ownRelations;
+    }
+
+    /** The relation of this path that this entity or one above declares. */
+    Optional<PlainRelation> relation(String path) {
+        for (PlainEntity at = this; at != null; at = at.above) {
+            for (PlainRelation relation : at.ownRelations) {
+                if (relation.path().equals(path)) {
+                    return Optional.of(relation);
+                }
+            }
+        }
+        return Optional.empty();
+    }
+
+    /** The part of the key, the version or the attribute of this path, also before places were given. */
+    Optional<Attribute> find(String path) {
+        Stream<Attribute> top = above != null ? above.find(path).stream()
+                : Stream.concat(version().stream(), key == null ? Stream.empty() : key.parts().stream());
+        return Stream.concat(top, ownAttributes.stream()).filter(attribute -> attribute.path().equals(path)).findFirst();
+    }
+
+    @Override
+    public String name() {
+        return name;
+    }
+
+    @Override
+    public String mappedName() {
+        return mappedName;
+    }
+
+    @Override
+    public Class<?> javaClass() {
+        return javaClass;
+    }
+
+    @Override
+    public boolean isAbstract() {
+        return isAbstract;
+    }
+
+    @Override
+    public Optional<EntityModel> superEntity() {
+        return Optional.ofNullable(above);
+    }
+
+    @Override
+    public PlainEntity root() {
+        return above == null ? this : above.root();
+    }
+
+    @Override
+    public List<EntityModel> subEntities() {
+        return below;
+    }
+
+    @Override
+    public KeyModel key() {
+        return plainKey();
+    }
+
+    @Override
+    public Optional<Attribute> version() {
+        return above == null ? Optional.ofNullable(version) : above.version();
+    }
+
+    @Override
+    public List<Attribute> attributes() {
+        return attributes;
+    }
+
+    @Override
+    public List<Relation> relations() {
+        return relations;
+    }
+
+    @Override
+    public Callbacks callbacks() {
+        return callbacks;
+    }
+
+    @Override
+    public Object newInstance() {
+        return Accessor.make(constructor);
+    }
+
+    @Override
+    public String toString() {
+        return name;
+    }
+}

@@ -1,0 +1,33 @@
+package karzhoul.jpa.model;
+
+import java.util.List;
+import java.util.Map;
+
+/** The entities of a persistence unit, with the mapping that the program is given. */
+public interface UnitModel {
+    /** A query that is named by an annotation or an orm file. */
+    record Named(String name, String text, Map<String, Object> hints) {}
+
+    List<EntityModel> entities();
+
+    /**
+     * The entity of a class, also of a proxy's.
+     *
+     * @throws IllegalArgumentException where it is none of the unit's
+     */
+    EntityModel of(Class<?> javaClass);
+
+    /** The entity of a name in queries, or null. */
+    EntityModel named(String name);
+
+    /** The mapping of the program, as JSON. */
+    String mapping();
+
+    /**
+     * What the rows of a store mean, by the names of tables and columns: a line for each, its name before a tab. Two units
+     * may share a store where this is the same.
+     */
+    String description();
+
+    Map<String, Named> namedQueries();
+}

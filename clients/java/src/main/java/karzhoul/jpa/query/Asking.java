@@ -1,0 +1,59 @@
+package karzhoul.jpa.query;
+
+import jakarta.persistence.FlushModeType;
+import jakarta.persistence.LockModeType;
+import java.util.List;
+import karzhoul.jpa.model.UnitModel;
+
+/** What queries need of the entity manager that they belong to. The context implements it. */
+public interface Asking {
+    /**
+     * An object of the program, as a row or a parameter names it. Only the context makes one: its number is of one
+     * run of the program, and what it holds finds the object again where that run has ended meanwhile.
+     */
+    record Ref(long number, Object held) {}
+
+    UnitModel unit();
+
+    /** Refuses a manager that is closed: IllegalStateException. */
+    void needOpen();
+
+    /** Refuses where no transaction is open: TransactionRequiredException. */
+    void needTransaction();
+
+    /** The manager's own flush mode. */
+    FlushModeType flushMode();
+
+    /** Locks an instance of a result, as {@code EntityManager.lock} does (chapter 3.4.4). */
+    void lock(Object instance, LockModeType mode);
+
+    /** Flushes first, where this mode and an open transaction ask for it (chapter 3.10.8); runs callbacks. */
+    void flushBefore(FlushModeType mode);
+
+    /**
+     * The rows of a statement of the program's language. An item is null, a Long, a String, a byte[] or a {@link Ref}.
+     * A parameter is one of these, by its name or its number in the text.
+     *
+     * @throws jakarta.persistence.PersistenceException or IllegalArgumentException, as the program's refusal says
+     */
+    List<Object[]> rows(String text, List<Parameter> parameters, Integer first, Integer max);
+
+    /** How many objects an UPDATE or a DELETE concerned. */
+    int update(String text, List<Parameter> parameters);
+
+    /** A parameter: a name (a text) or a number, and its value. */
+    record Parameter(Object name, Object value) {}
+
+    /** The instances of these objects, each filled, in this order; of many at a time in one trip. */
+    List<Object> instances(List<Ref> refs);
+
+    /**
+     * The object of an instance as a parameter.
+     *
+     * @throws IllegalArgumentException where it is no entity's, or new and not managed
+     */
+    Ref refOf(Object instance);
+
+    /** Reads a relation of these instances in one trip, as JOIN FETCH asks. */
+    void fetch(List<Object> instances, karzhoul.jpa.model.Relation relation);
+}

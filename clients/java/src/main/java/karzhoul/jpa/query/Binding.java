@@ -1,0 +1,141 @@
+package karzhoul.jpa.query;
+
+import jakarta.persistence.PersistenceException;
+import java.time.LocalDateTime;
+import java.util.ArrayList;
+import java.util.HashMap;
+import java.util.List;
+import java.util.Map;
+import karzhoul.jpa.model.Codec;
+import karzhoul.jpa.query.Tree.Asked;
+import karzhoul.jpa.query.Tree.Literal;
+import karzhoul.jpa.query.Tree.Now;
+import karzhoul.jpa.query.Tree.Parameter;
+import karzhoul.jpa.query.Tree.PartOf;
+import karzhoul.jpa.query.Tree.Value;
+
+/** The values of one execution, and the program's parameters that are made of them. */
+final class Binding {
+    /** The most bytes that stand as a literal in a text. */
+    private static final int LONGEST_LITERAL = 200;
+
+    final Asking asking;
+    final Clock clock;
+    private final Map<Object, Object> given;
+    private final Map<Integer, Object> asked = new HashMap<>();
+    private final List<Asking.Parameter> bound = new ArrayList<>();
+    private final Map<Object, String> names = new HashMap<>();
+
+    Binding(Asking asking, Map<Object, Object> given) {
+        this.asking = asking;
+        this.given = given;
+        this.clock = new Clock(LocalDateTime.now());
+    }
+
+    /** The same execution, of a block that is asked before. */
+    Binding(Binding outer) {
+        this.asking = outer.asking;
+        this.given = outer.given;
+        this.clock = outer.clock;
+    }
+
+    /** The parameters of the text that was written last. */
+    List<Asking.Parameter> parameters() {
+        return List.copyOf(bound);
+    }
+
+    /** Begins another text. */
+    void clear() {
+        bound.clear();
+        names.clear();
+    }
+
+    /** Refuses a text that is too long for the program, in words. */
+    void checkLength(String text) {
+        if (text.length() > SelectPlan.LONGEST) {
+            throw new IllegalArgumentException("the statement has " + text.length() + " letters with the values of its lists,"
+                    + " and at most " + SelectPlan.LONGEST + " are served; give it fewer values at a time");
+        }
+    }
+
+    /** Keeps what a block of its own has answered. */
+    void answer(int number, Object value) {
+        asked.put(number, value);
+    }
+
+    /** Whether a value is known before any row is read. */
+    static boolean isConstant(Value value) {
+        return value instanceof Literal || value instanceof Parameter || value instanceof Now || value instanceof Asked
+                || value instanceof PartOf;
+    }
+
+    /** What a literal, a parameter or the like is. */
+    Object constant(Value value) {
+        if (value instanceof Literal literal) {
+            return literal.value();
+        }
+        if (value instanceof Now now) {
+            return clock.local(now.kind());
+        }
+        if (value instanceof Asked block) {
+            return asked.get(block.number());
+        }
+        if (value instanceof PartOf part) {
+            Object key = constant(part.parameter());
+            return key == null ? null : part.entity().key().parts().get(part.place()).codec()
+                    .toAttribute(part.entity().key().columnsOf(key).get(part.place()));
+        }
+        return given.get(((Parameter) value).key());
+    }
+
+    /** A literal of what the program keeps, or a parameter. */
+    String written(Object column) {
+        if (column instanceof Long number && number != Long.MIN_VALUE) {
+            return number.toString();
+        }
+        if (column instanceof String text && isPlain(text)) {
+            return "'" + text.replace("'", "''") + "'";
+        }
+        return parameter(column);
+    }
+
+    private static boolean isPlain(String text) {
+        return text.length() <= LONGEST_LITERAL && text.chars().allMatch(c -> c >= ' ' && c < 127);
+    }
+
+    /** A parameter of the program; one for each value. */
+    String parameter(Object column) {
+        Object key = column instanceof byte[] bytes ? java.nio.ByteBuffer.wrap(bytes) : column;
+        return names.computeIfAbsent(key == null ? "null" : List.of(key), k -> {
+            String name = "p" + names.size();
+            bound.add(new Asking.Parameter(name, column));
+            return ":" + name;
+        });
+    }
+
+    /** What a codec keeps of a value that stands beside its attribute. */
+    Object kept(Codec codec, Value source, Object value) {
+        try {
+            return codec.toColumn(Conversions.to(codec.javaType(), value));
+        } catch (IllegalArgumentException e) {
+            throw new IllegalArgumentException(told(source) + ": " + e.getMessage(), e);
+        } catch (PersistenceException e) {
+            throw e;
+        } catch (RuntimeException e) {
+            throw new PersistenceException(told(source) + ": " + e.getMessage(), e);
+        }
+    }
+
+    /** An object as a parameter, or null. */
+    Asking.Ref thing(Value source, Object value) {
+        try {
+            return value == null || value instanceof Asking.Ref ? (Asking.Ref) value : asking.refOf(value);
+        } catch (IllegalArgumentException e) {
+            throw new IllegalArgumentException(told(source) + ": " + e.getMessage(), e);
+        }
+    }
+
+    private static String told(Value source) {
+        return source instanceof Parameter parameter ? "the parameter " + parameter : "a value of the query";
+    }
+}

@@ -1,0 +1,52 @@
+package karzhoul.jpa.query;
+
+import java.math.BigDecimal;
+import java.math.RoundingMode;
+
+/** Numbers beside those that the program keeps as whole ones of some decimal places. */
+final class Decimals {
+    private Decimals() {}
+
+    /**
+     * The number as a whole one of so many places.
+     *
+     * @throws IllegalArgumentException where it is no number, has more places, or is beyond 64 bits
+     */
+    static Long exact(Object value, int scale) {
+        try {
+            return decimal(value).setScale(scale, RoundingMode.UNNECESSARY).unscaledValue().longValueExact();
+        } catch (ArithmeticException e) {
+            throw new IllegalArgumentException(value + " isn't among the numbers beside it, of " + scale
+                    + " decimal places and 64 bits", e);
+        }
+    }
+
+    /** The number itself. */
+    static BigDecimal decimal(Object value) {
+        if (value instanceof Number number) {
+            return Conversions.decimal(number);
+        }
+        throw new IllegalArgumentException("a number is expected, and " + value + " is of " + value.getClass().getName());
+    }
+
+    /** Whether it is among the whole numbers of so many places, of 64 bits. */
+    static boolean isExact(BigDecimal value, int scale) {
+        return value.stripTrailingZeros().scale() <= scale && isWithin(value, scale);
+    }
+
+    private static boolean isWithin(BigDecimal value, int scale) {
+        BigDecimal shifted = value.movePointRight(scale);
+        return shifted.compareTo(BigDecimal.valueOf(Long.MAX_VALUE)) <= 0
+                && shifted.compareTo(BigDecimal.valueOf(Long.MIN_VALUE)) >= 0;
+    }
+
+    /**
+     * The whole number that an order comparison has the same answers with: {@code x < 2.5} is {@code x < 3}, and
+     * {@code x > 2.5} is {@code x > 2}. Null where the number is beyond 64 bits.
+     */
+    static Long bound(BigDecimal value, int scale, String sign) {
+        boolean isUp = sign.equals("<") || sign.equals(">=");
+        BigDecimal bound = value.setScale(scale, isUp ? RoundingMode.CEILING : RoundingMode.FLOOR);
+        return isWithin(bound, scale) ? bound.unscaledValue().longValueExact() : null;
+    }
+}

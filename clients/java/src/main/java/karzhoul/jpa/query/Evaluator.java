@@ -1,0 +1,190 @@
+package karzhoul.jpa.query;
+
+import jakarta.persistence.PersistenceException;
+import java.math.BigDecimal;
+import java.math.BigInteger;
+import java.util.ArrayList;
+import java.util.HashSet;
+import java.util.List;
+import java.util.Set;
+import karzhoul.jpa.query.Tree.Aggregate;
+import karzhoul.jpa.query.Tree.Arithmetic;
+import karzhoul.jpa.query.Tree.Average;
+import karzhoul.jpa.query.Tree.Call;
+import karzhoul.jpa.query.Tree.Case;
+import karzhoul.jpa.query.Tree.Condition;
+import karzhoul.jpa.query.Tree.EntityName;
+import karzhoul.jpa.query.Tree.Now;
+import karzhoul.jpa.query.Tree.Signed;
+import karzhoul.jpa.query.Tree.TypeOf;
+import karzhoul.jpa.query.Tree.Value;
+import karzhoul.jpa.query.Tree.When;
+
+/** Computes over the program's rows what the program doesn't: values (chapter 4.7) and aggregates (chapter 4.8.5). */
+final class Evaluator {
+    /** A row of the program, or a group of them with its first; a group of nothing has no row. */
+    record Frame(Object[] row, List<Object[]> group) {}
+
+    private final Leaves leaves;
+    private final Binding binding;
+    private final Truths truths = new Truths(this);
+
+    Evaluator(Leaves leaves, Binding binding) {
+        this.leaves = leaves;
+        this.binding = binding;
+    }
+
+    Binding binding() {
+        return binding;
+    }
+
+    /** Whether a condition is true. */
+    boolean isTrue(Condition condition, Frame frame) {
+        return Boolean.TRUE.equals(truths.of(condition, frame));
+    }
+
+    /** What a row has in the column of a value; null without a row. */
+    Object raw(int place, Frame frame) {
+        return frame.row() == null ? null : frame.row()[place];
+    }
+
+    /** The unit of a value that is a column; else null. */
+    Unit unit(Value value) {
+        Integer place = leaves.place(value);
+        return place == null ? null : leaves.columns().get(place).unit();
+    }
+
+    Object value(Value value, Frame frame) {
+        Integer place = leaves.place(value);
+        if (place != null) {
+            Leaves.Column column = leaves.columns().get(place);
+            return frame.row() == null ? null : decoded(column, frame.row()[place]);
+        }
+        List<Value> key = leaves.key(value);
+        if (key != null) {
+            List<Object> columns = key.stream().map(part -> raw(leaves.place(part), frame)).toList();
+            return columns.contains(null) ? null
+                    : ((Tree.Reference) value).entity().key().fromColumns(columns);
+        }
+        if (value instanceof Now now) {
+            return binding.clock.value(now.kind());
+        }
+        return Binding.isConstant(value) ? binding.constant(value) : computed(value, frame);
+    }
+
+    private static Object decoded(Leaves.Column column, Object raw) {
+        try {
+            return column.unit().decoded(raw, column.type());
+        } catch (ArithmeticException e) {
+            throw new PersistenceException("Overflow: " + raw + " is no " + column.type().java().getSimpleName(), e);
+        }
+    }
+
+    private Object computed(Value value, Frame frame) {
+        if (value instanceof Signed of) {
+            Number number = (Number) value(of.value(), frame);
+            return number == null ? null : Numbers.signed(of.isMinus(), number);
+        } else if (value instanceof Arithmetic of) {
+            Number left = (Number) value(of.left(), frame);
+            Number right = (Number) value(of.right(), frame);
+            return left == null || right == null ? null : Numbers.arithmetic(of.sign(), left, right);
+        } else if (value instanceof Call of) {
+            List<Object> given = new ArrayList<>();
+            of.arguments().forEach(argument -> given.add(value(argument, frame)));
+            return Functions.call(of.function(), given);
+        } else if (value instanceof Case of) {
+            return choice(of, frame);
+        } else if (value instanceof Average of) {
+            Number count = (Number) value(of.count(), frame);
+            return count == null || count.longValue() == 0 ? null
+                    : Numbers.average((Number) value(of.sum(), frame), count.longValue());
+        } else if (value instanceof Aggregate of) {
+            return aggregate(of, frame);
+        } else if (value instanceof TypeOf of) {
+            return typeOf(value(of.operand(), frame));
+        } else if (value instanceof EntityName of) {
+            return of.entity().javaClass();
+        }
+        throw new IllegalStateException("no way to compute " + value);
+    }
+
+    private Object choice(Case of, Frame frame) {
+        Object operand = of.operand() == null ? null : value(of.operand(), frame);
+        for (When when : of.whens()) {
+            boolean isChosen;
+            if (when.test() instanceof Condition condition) {
+                isChosen = isTrue(condition, frame);
+            } else {
+                isChosen = Boolean.TRUE.equals(truths.compared("=", operand, value((Value) when.test(), frame)));
+            }
+            if (isChosen) {
+                return value(when.then(), frame);
+            }
+        }
+        return value(of.otherwise(), frame);
+    }
+
+    private Class<?> typeOf(Object entity) {
+        if (entity == null) {
+            return null;
+        }
+        Object instance = entity instanceof Asking.Ref ref ? binding.asking.instances(List.of(ref)).get(0) : entity;
+        return binding.asking.unit().of(instance.getClass()).javaClass();
+    }
+
+    // ---- aggregates
+
+    private Object aggregate(Aggregate of, Frame frame) {
+        List<Object> values = new ArrayList<>();
+        Set<Object> seen = new HashSet<>();
+        for (Object[] row : frame.group()) {
+            Frame one = new Frame(row, List.of());
+            Object value = value(of.operand(), one);
+            if (value != null && (!of.isDistinct() || seen.add(key(of.operand(), value, one)))) {
+                values.add(value);
+            }
+        }
+        if (of.kind() == Aggregate.Kind.COUNT) {
+            return (long) values.size();
+        }
+        if (values.isEmpty()) {
+            return null;
+        }
+        return of.kind() == Aggregate.Kind.SUM ? sum(values, Types.of(of))
+                : values.stream().reduce((a, b) -> Comparing.compare(a, b) < 0 == (of.kind() == Aggregate.Kind.MIN)
+                        && Comparing.compare(a, b) != 0 ? a : b).get();
+    }
+
+    /** What equal values have in common: where it is a column, what the program has. */
+    Object key(Value value, Object computed, Frame frame) {
+        Integer place = leaves.place(value);
+        Object key = place == null ? computed : raw(place, frame);
+        return key instanceof Asking.Ref ref ? (Object) ref.number() : Comparing.key(key);
+    }
+
+    private static Object sum(List<Object> values, Type type) {
+        if (type.java() == Double.class) {
+            double sum = 0;
+            for (Object value : values) {
+                sum += ((Number) value).doubleValue();
+            }
+            return sum;
+        }
+        BigDecimal sum = BigDecimal.ZERO;
+        for (Object value : values) {
+            sum = sum.add(Conversions.decimal((Number) value));
+        }
+        if (type.java() == BigDecimal.class) {
+            return sum;
+        }
+        BigInteger whole = sum.toBigIntegerExact();
+        if (type.java() == BigInteger.class) {
+            return whole;
+        }
+        try {
+            return whole.longValueExact();
+        } catch (ArithmeticException e) {
+            throw new PersistenceException("Overflow: the sum " + whole + " is no Long", e);
+        }
+    }
+}

@@ -1,0 +1,253 @@
+package karzhoul.jpa.query;
+
+import java.util.ArrayList;
+import java.util.HashSet;
+import java.util.IdentityHashMap;
+import java.util.LinkedHashMap;
+import java.util.List;
+import java.util.Map;
+import java.util.Set;
+import karzhoul.jpa.query.Evaluator.Frame;
+import karzhoul.jpa.query.Tree.Condition;
+import karzhoul.jpa.query.Tree.Construct;
+import karzhoul.jpa.query.Tree.Item;
+import karzhoul.jpa.query.Tree.Value;
+
+/**
+ * How a SELECT is answered: the program's text, and what the door does with its rows behind it, in this order: it leaves
+ * rows out, groups them, leaves groups out, computes the items, keeps the first of equal rows, sorts and cuts.
+ *
+ * @param text the program's text
+ * @param leaves its columns
+ * @param items the query's items
+ * @param filters what of WHERE the door decides
+ * @param groups by what the door groups; null where it doesn't
+ * @param having what it decides of groups; may be null
+ * @param isDistinct whether it keeps the first of equal rows
+ * @param order by what it sorts; empty where it doesn't
+ * @param asked the blocks that are asked before, by their numbers
+ * @param fetches what is read of the results' instances
+ * @param withoutLists how it is answered where its lists make the text too long; null where no list stands in WHERE
+ */
+record SelectPlan(Text text, Leaves leaves, List<Item> items, List<Condition> filters, List<Value> groups,
+        Condition having, boolean isDistinct, List<Sorted> order, List<SelectPlan> asked,
+        List<Fetches.Fetch> fetches, SelectPlan withoutLists) implements Plan {
+    /** The most bytes of a text; a parameter's name has one for each letter. */
+    static final int LONGEST = 16_384;
+
+    /** A key by which the door sorts. */
+    record Sorted(Value value, boolean isDescending) {}
+
+    /** A row with what it is sorted by. */
+    private record Row(Object[] items, List<Object> key, List<Object> order) {}
+
+    /** Whether the program cuts. */
+    boolean isCutByProgram() {
+        return filters.isEmpty() && groups == null && having == null && !isDistinct && order.isEmpty();
+    }
+
+    /** The rows: a value for each item, an object of NEW for each argument of it in its place. */
+    List<Object[]> rows(Binding binding, Integer first, Integer max) {
+        for (int number = 0; number < asked.size(); number++) {
+            binding.answer(number, asked.get(number).single(binding));
+        }
+        return answered(binding, first, max);
+    }
+
+    private List<Object[]> answered(Binding binding, Integer first, Integer max) {
+        binding.clear();
+        String written = text.written(binding);
+        if (written.length() > LONGEST && withoutLists != null) {
+            return withoutLists.answered(binding, first, max);
+        }
+        binding.checkLength(written);
+        boolean isCut = isCutByProgram();
+        List<Object[]> found = binding.asking.rows(written, binding.parameters(), isCut ? first : null, isCut ? max : null);
+        Evaluator evaluator = new Evaluator(leaves, binding);
+        List<Row> rows = new ArrayList<>();
+        for (Frame frame : frames(evaluator, found)) {
+            rows.add(row(evaluator, frame));
+        }
+        rows = isDistinct ? distinct(rows) : rows;
+        if (!order.isEmpty()) {
+            rows.sort(this::compare);
+        }
+        return instances(binding, isCut ? rows : cut(rows, first, max));
+    }
+
+    /** The one value of a block of its own; null of no row. */
+    Object single(Binding binding) {
+        Binding own = new Binding(binding);
+        List<Object[]> rows = rows(own, null, 2);
+        if (rows.size() > 1) {
+            throw new jakarta.persistence.PersistenceException("a subquery that is compared as one value has several rows");
+        }
+        return rows.isEmpty() ? null : rows.get(0)[0];
+    }
+
+    private List<Frame> frames(Evaluator evaluator, List<Object[]> found) {
+        List<Frame> frames = new ArrayList<>(found.size());
+        for (Object[] row : found) {
+            Frame frame = new Frame(row, List.of());
+            if (filters.stream().allMatch(filter -> evaluator.isTrue(filter, frame))) {
+                frames.add(frame);
+            }
+        }
+        if (groups != null) {
+            frames = grouped(evaluator, frames);
+        }
+        if (having != null) {
+            frames.removeIf(frame -> !evaluator.isTrue(having, frame));
+        }
+        return frames;
+    }
+
+    /** Groups in the order of their first rows; without GROUP BY one, also of nothing. */
+    private List<Frame> grouped(Evaluator evaluator, List<Frame> frames) {
+        Map<List<Object>, List<Object[]>> byKey = new LinkedHashMap<>();
+        if (groups.isEmpty()) {
+            byKey.put(List.of(), new ArrayList<>());
+        }
+        for (Frame frame : frames) {
+            List<Object> key = new ArrayList<>();
+            groups.forEach(group -> key.add(evaluator.key(group, null, frame)));
+            byKey.computeIfAbsent(key, k -> new ArrayList<>()).add(frame.row());
+        }
+        List<Frame> grouped = new ArrayList<>();
+        byKey.values().forEach(group -> grouped.add(new Frame(group.isEmpty() ? null : group.get(0), group)));
+        return grouped;
+    }
+
+    private Row row(Evaluator evaluator, Frame frame) {
+        Object[] values = new Object[items.size()];
+        List<Object> key = new ArrayList<>();
+        for (int place = 0; place < values.length; place++) {
+            Value value = items.get(place).value();
+            if (value instanceof Construct construct) {
+                Object[] arguments = new Object[construct.arguments().size()];
+                for (int argument = 0; argument < arguments.length; argument++) {
+                    arguments[argument] = evaluator.value(construct.arguments().get(argument).value(), frame);
+                }
+                values[place] = arguments;
+                key.add(java.util.Arrays.asList(arguments));
+            } else {
+                values[place] = evaluator.value(value, frame);
+                if (isDistinct) {
+                    key.add(evaluator.key(value, values[place], frame));
+                }
+            }
+        }
+        List<Object> keys = new ArrayList<>();
+        order.forEach(sorted -> keys.add(evaluator.value(sorted.value(), frame)));
+        return new Row(values, key, keys);
+    }
+
+    private static List<Row> distinct(List<Row> rows) {
+        Set<Object> seen = new HashSet<>();
+        List<Row> kept = new ArrayList<>();
+        for (Row row : rows) {
+            if (seen.add(row.key())) {
+                kept.add(row);
+            }
+        }
+        return kept;
+    }
+
+    private int compare(Row a, Row b) {
+        for (int place = 0; place < order.size(); place++) {
+            int found = Comparing.compareNulls(a.order().get(place), b.order().get(place));
+            if (found != 0) {
+                return order.get(place).isDescending() ? -found : found;
+            }
+        }
+        return 0;
+    }
+
+    private static List<Row> cut(List<Row> rows, Integer first, Integer max) {
+        int from = Math.min(first == null ? 0 : first, rows.size());
+        int to = max == null ? rows.size() : (int) Math.min((long) from + max, rows.size());
+        return rows.subList(from, to);
+    }
+
+    /** The rows with instances in the place of objects, all of them filled in one trip. */
+    private List<Object[]> instances(Binding binding, List<Row> rows) {
+        List<Asking.Ref> refs = new ArrayList<>();
+        for (Row row : rows) {
+            collect(row.items(), refs);
+        }
+        List<Object> instances = refs.isEmpty() ? List.of() : binding.asking.instances(refs);
+        int[] next = {0};
+        List<Object[]> filled = new ArrayList<>(rows.size());
+        for (Row row : rows) {
+            replace(row.items(), instances, next);
+            filled.add(row.items());
+        }
+        fetch(binding, filled);
+        return filled;
+    }
+
+    private static void collect(Object[] values, List<Asking.Ref> refs) {
+        for (Object value : values) {
+            if (value instanceof Asking.Ref ref) {
+                refs.add(ref);
+            } else if (value instanceof Object[] arguments && arguments.getClass() == Object[].class) {
+                collect(arguments, refs);
+            }
+        }
+    }
+
+    private static void replace(Object[] values, List<Object> instances, int[] next) {
+        for (int place = 0; place < values.length; place++) {
+            if (values[place] instanceof Asking.Ref) {
+                values[place] = instances.get(next[0]++);
+            } else if (values[place] instanceof Object[] arguments && arguments.getClass() == Object[].class) {
+                replace(arguments, instances, next);
+            }
+        }
+    }
+
+    // ---- JOIN FETCH
+
+    private void fetch(Binding binding, List<Object[]> rows) {
+        Map<Tree.Variable, List<Object>> known = new IdentityHashMap<>();
+        for (Fetches.Fetch fetch : fetches) {
+            List<Object> owners = known.computeIfAbsent(fetch.owner(), owner -> owners(owner, rows));
+            for (karzhoul.jpa.model.Relation relation : fetch.relations()) {
+                binding.asking.fetch(owners, relation);
+                owners = members(owners, relation);
+            }
+            known.put(fetch.target(), owners);
+        }
+    }
+
+    private List<Object> owners(Tree.Variable variable, List<Object[]> rows) {
+        Set<Object> owners = java.util.Collections.newSetFromMap(new IdentityHashMap<>());
+        List<Object> inOrder = new ArrayList<>();
+        for (int place = 0; place < items.size(); place++) {
+            if (Fetches.isVariable(items.get(place).value(), variable)) {
+                for (Object[] row : rows) {
+                    if (row[place] != null && owners.add(row[place])) {
+                        inOrder.add(row[place]);
+                    }
+                }
+            }
+        }
+        return inOrder;
+    }
+
+    private static List<Object> members(List<Object> owners, karzhoul.jpa.model.Relation relation) {
+        Set<Object> seen = java.util.Collections.newSetFromMap(new IdentityHashMap<>());
+        List<Object> members = new ArrayList<>();
+        for (Object owner : owners) {
+            Object held = relation.get(owner);
+            Iterable<?> all = held instanceof Map<?, ?> map ? map.values() : held instanceof Iterable<?> many ? many
+                    : java.util.Collections.singletonList(held);
+            for (Object member : all) {
+                if (member != null && seen.add(member)) {
+                    members.add(member);
+                }
+            }
+        }
+        return members;
+    }
+}

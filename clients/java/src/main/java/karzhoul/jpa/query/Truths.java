@@ -1,0 +1,187 @@
+package karzhoul.jpa.query;
+
+import java.util.Collection;
+import java.util.HashSet;
+import java.util.IdentityHashMap;
+import java.util.List;
+import java.util.Map;
+import java.util.Set;
+import java.util.regex.Pattern;
+import karzhoul.jpa.query.Evaluator.Frame;
+import karzhoul.jpa.query.Tree.Always;
+import karzhoul.jpa.query.Tree.And;
+import karzhoul.jpa.query.Tree.Compare;
+import karzhoul.jpa.query.Tree.Condition;
+import karzhoul.jpa.query.Tree.EntityName;
+import karzhoul.jpa.query.Tree.In;
+import karzhoul.jpa.query.Tree.InParameter;
+import karzhoul.jpa.query.Tree.IsNull;
+import karzhoul.jpa.query.Tree.Like;
+import karzhoul.jpa.query.Tree.Or;
+import karzhoul.jpa.query.Tree.Parameter;
+import karzhoul.jpa.query.Tree.TypeIs;
+import karzhoul.jpa.query.Tree.TypeOf;
+import karzhoul.jpa.query.Tree.Value;
+
+/** Decides conditions over the program's rows, in three truths; null is unknown (chapter 4.11, tables of truth). */
+final class Truths {
+    private final Evaluator evaluator;
+    private final Map<InParameter, Set<Object>> lists = new IdentityHashMap<>();
+
+    Truths(Evaluator evaluator) {
+        this.evaluator = evaluator;
+    }
+
+    Boolean of(Condition condition, Frame frame) {
+        if (condition instanceof And and) {
+            return joined(and.parts(), false, frame);
+        } else if (condition instanceof Or or) {
+            return joined(or.parts(), true, frame);
+        } else if (condition instanceof Compare of) {
+            return compared(of.sign(), evaluator.value(of.left(), frame), evaluator.value(of.right(), frame));
+        } else if (condition instanceof In of) {
+            List<Object> all = new java.util.ArrayList<>();
+            of.values().forEach(value -> all.add(evaluator.value(value, frame)));
+            return turned(of.isNot(), among(evaluator.value(of.value(), frame), all));
+        } else if (condition instanceof InParameter of) {
+            return turned(of.isNot(), amongAll(of, frame));
+        } else if (condition instanceof Like of) {
+            return turned(of.isNot(), like(of, frame));
+        } else if (condition instanceof IsNull of) {
+            return (evaluator.value(of.value(), frame) == null) != of.isNot();
+        } else if (condition instanceof TypeIs of) {
+            return typeIs(of, frame);
+        } else if (condition instanceof Always of) {
+            return of.isTrue();
+        }
+        throw new IllegalStateException("no way to decide " + condition);
+    }
+
+    private static Boolean turned(boolean isNot, Boolean truth) {
+        return truth == null ? null : (Boolean) (truth != isNot);
+    }
+
+    /** OR is true where one is, AND false where one is; else unknown where one is. */
+    private Boolean joined(List<Condition> parts, boolean isOr, Frame frame) {
+        Boolean found = !isOr;
+        for (Condition part : parts) {
+            Boolean truth = of(part, frame);
+            if (truth == null) {
+                found = null;
+            } else if (truth == isOr) {
+                return isOr;
+            }
+        }
+        return found;
+    }
+
+    Boolean compared(String sign, Object left, Object right) {
+        if (left == null || right == null) {
+            return null;
+        }
+        int order = order(left, right);
+        return switch (sign) {
+            case "=" -> order == 0;
+            case "<>" -> order != 0;
+            case "<" -> order < 0;
+            case "<=" -> order <= 0;
+            case ">" -> order > 0;
+            default -> order >= 0;
+        };
+    }
+
+    private int order(Object left, Object right) {
+        if (left instanceof Asking.Ref || right instanceof Asking.Ref) {
+            Binding binding = evaluator.binding();
+            Value unnamed = new EntityName(0, null);
+            return Long.compare(binding.thing(unnamed, left).number(), binding.thing(unnamed, right).number());
+        }
+        return Comparing.compare(left, right);
+    }
+
+    private Boolean among(Object value, Collection<?> all) {
+        if (all.isEmpty()) {
+            return false;
+        }
+        Boolean found = false;
+        for (Object one : all) {
+            Boolean truth = compared("=", value, one);
+            if (truth == null) {
+                found = null;
+            } else if (truth) {
+                return true;
+            }
+        }
+        return found;
+    }
+
+    /** IN of a list: its elements are looked up as the program has them, where the value is a column. */
+    private Boolean amongAll(InParameter of, Frame frame) {
+        Collection<?> all = ConditionWriter.list(evaluator.binding(), of.list());
+        Unit unit = evaluator.unit(of.value());
+        if (unit == null || all.isEmpty()) {
+            return among(evaluator.value(of.value(), frame), all);
+        }
+        Set<Object> columns = lists.computeIfAbsent(of, list -> columns(list, all, unit));
+        Object value = evaluator.key(of.value(), null, frame);
+        if (value == null) {
+            return null;
+        }
+        return columns.contains(value) ? Boolean.TRUE : all.contains(null) ? null : Boolean.FALSE;
+    }
+
+    private Set<Object> columns(InParameter of, Collection<?> all, Unit unit) {
+        Set<Object> columns = new HashSet<>();
+        for (Object one : all) {
+            if (one != null) {
+                columns.add(Comparing.key(ConditionWriter.column(evaluator.binding(), of.list(), one, unit)));
+            }
+        }
+        return columns;
+    }
+
+    private Boolean like(Like of, Frame frame) {
+        Object value = evaluator.value(of.value(), frame);
+        Object pattern = evaluator.value(of.pattern(), frame);
+        Object escape = of.escape() == null ? "" : evaluator.value(of.escape(), frame);
+        if (value == null || pattern == null || escape == null) {
+            return null;
+        }
+        return Pattern.compile(regex(pattern.toString(), escape.toString()), Pattern.DOTALL).matcher(value.toString())
+                .matches();
+    }
+
+    private static String regex(String pattern, String escape) {
+        StringBuilder regex = new StringBuilder();
+        int[] points = pattern.codePoints().toArray();
+        int mark = escape.isEmpty() ? -1 : escape.codePointAt(0);
+        for (int place = 0; place < points.length; place++) {
+            int point = points[place];
+            if (point == mark && place + 1 < points.length) {
+                point = points[++place];
+                regex.append(Pattern.quote(Character.toString(point)));
+            } else if (point == '%') {
+                regex.append(".*");
+            } else {
+                regex.append(point == '_' ? "." : Pattern.quote(Character.toString(point)));
+            }
+        }
+        return regex.toString();
+    }
+
+    private Boolean typeIs(TypeIs of, Frame frame) {
+        Object type = evaluator.value(new TypeOf(of.at(), of.of()), frame);
+        if (type == null) {
+            return null;
+        }
+        boolean isAmong = false;
+        for (Value one : of.classes()) {
+            if (one instanceof Parameter list) {
+                isAmong |= ConditionWriter.list(evaluator.binding(), list).contains(type);
+            } else {
+                isAmong |= type.equals(((EntityName) one).entity().javaClass());
+            }
+        }
+        return isAmong != of.isNot();
+    }
+}

@@ -1,0 +1,105 @@
+package karzhoul.jpa.spi;
+
+import java.time.Duration;
+import java.util.List;
+import java.util.Map;
+import java.util.Optional;
+import java.util.function.Consumer;
+import karzhoul.jpa.model.Fault;
+
+/** Reads the properties of a unit (chapters 8.2.1.9 and 9.6), and collects what is wrong with them. */
+final class Settings {
+    static final String URL = "jakarta.persistence.jdbc.url";
+    static final String PROGRAM = "karzhoul.program";
+    static final String POOL_WAIT = "karzhoul.pool.wait";
+    static final String LOG = "karzhoul.log";
+    private static final String SCHEMA_ACTION = "jakarta.persistence.schema-generation.database.action";
+    private static final String SCHEME = "karzhoul:";
+    private static final Duration USUAL_WAIT = Duration.ofSeconds(10);
+
+    private final String place;
+    private final Map<String, Object> properties;
+    private final List<Fault> faults;
+
+    /** @param place of what the properties are, for words */
+    Settings(String place, Map<String, Object> properties, List<Fault> faults) {
+        this.place = place;
+        this.properties = properties;
+        this.faults = faults;
+    }
+
+    static boolean isOurs(Map<String, Object> properties) {
+        return String.valueOf(properties.get(URL)).startsWith(SCHEME);
+    }
+
+    /** The address of the store; null where it is none, which is told then. */
+    String url() {
+        Object url = properties.get(URL);
+        if (url == null) {
+            tell("it has no " + URL, "Write karzhoul:FILE, as karzhoul:shop.db, or karzhoul:memory");
+            return null;
+        }
+        if (!url.toString().startsWith(SCHEME) || url.toString().length() == SCHEME.length()) {
+            tell(URL + " is " + url, "Write karzhoul:FILE, as karzhoul:shop.db, or karzhoul:memory");
+            return null;
+        }
+        return url.toString();
+    }
+
+    /** The program that the properties name; those of the JVM count where the unit says nothing. */
+    Optional<String> program() {
+        Object program = properties.getOrDefault(PROGRAM, System.getProperty(PROGRAM));
+        return Optional.ofNullable(program).map(Object::toString);
+    }
+
+    Duration poolWait() {
+        Object wait = properties.get(POOL_WAIT);
+        try {
+            long millis = wait == null ? USUAL_WAIT.toMillis() : Long.parseLong(wait.toString().trim());
+            if (millis >= 0) {
+                return Duration.ofMillis(millis);
+            }
+        } catch (NumberFormatException odd) {
+            // Told below.
+        }
+        tell(POOL_WAIT + " is " + wait, "Write milliseconds, as 10000");
+        return USUAL_WAIT;
+    }
+
+    /** Where calls and answers go: the logger karzhoul.jpa, or what the property holds. */
+    @SuppressWarnings("unchecked")
+    Optional<Consumer<String>> log() {
+        Object log = properties.get(LOG);
+        if (log instanceof Consumer<?> taker) {
+            return Optional.of((Consumer<String>) taker);
+        }
+        String word = log == null ? "false" : log.toString().trim();
+        switch (word) {
+            case "false" -> {
+                return Optional.empty();
+            }
+            case "true" -> {
+                System.Logger logger = System.getLogger("karzhoul.jpa");
+                return Optional.of(line -> logger.log(System.Logger.Level.INFO, line));
+            }
+            case "stderr" -> {
+                return Optional.of(System.err::println);
+            }
+            default -> tell(LOG + " is " + word, "Write true for the logger karzhoul.jpa, stderr, or false");
+        }
+        return Optional.empty();
+    }
+
+    /** A store has no schema to make; but to drop what it has is not for a word in a file. */
+    void checkSchema() {
+        Object action = properties.get(SCHEMA_ACTION);
+        if (action != null && action.toString().contains("drop")) {
+            tell(SCHEMA_ACTION + " is " + action + ", and nothing is dropped",
+                    "Delete the store's file, or use karzhoul:memory");
+        }
+    }
+
+    private void tell(String what, String remedy) {
+        faults.add(new Fault(place, what, remedy));
+    }
+}

@@ -1,0 +1,117 @@
+package karzhoul.jpa.spi;
+
+import jakarta.persistence.PersistenceException;
+import java.net.URI;
+import java.util.ArrayList;
+import java.util.Collection;
+import java.util.LinkedHashMap;
+import java.util.LinkedHashSet;
+import java.util.List;
+import java.util.Map;
+import java.util.Objects;
+import java.util.Set;
+import karzhoul.jpa.model.Fault;
+import karzhoul.jpa.model.Reader;
+import karzhoul.jpa.model.RefusedUnit;
+import karzhoul.jpa.model.UnitModel;
+
+/** Makes settings of what a unit declares; all that is wrong with it is told at once. */
+final class UnitReader {
+    private static final String ORM = "META-INF/orm.xml";
+
+    private final Declared declared;
+    private final ClassLoader loader;
+    private final Map<String, Object> properties;
+    private final List<Fault> faults = new ArrayList<>();
+    private final String place;
+
+    /** @param given the properties of the call, which count before those of the unit */
+    UnitReader(Declared declared, Map<?, ?> given, ClassLoader loader) {
+        this.declared = declared;
+        this.loader = loader;
+        this.properties = merged(declared, given);
+        this.place = declared.file();
+    }
+
+    static Map<String, Object> merged(Declared declared, Map<?, ?> given) {
+        Map<String, Object> all = new LinkedHashMap<>(declared.properties());
+        if (given != null) {
+            given.forEach((name, value) -> all.put(String.valueOf(name), value));
+        }
+        all.values().removeIf(Objects::isNull);
+        return all;
+    }
+
+    /** @throws RefusedUnit with all that is wrong with the unit */
+    UnitSettings read() {
+        Settings settings = new Settings(place, properties, faults);
+        String url = settings.url();
+        settings.checkSchema();
+        checkDeclared();
+        var wait = settings.poolWait();
+        var log = settings.log();
+        String program = new ProgramFile(place, faults).find(settings.program());
+        UnitModel unit = readClasses();
+        if (!faults.isEmpty()) {
+            throw new RefusedUnit(declared.name(), faults);
+        }
+        return new UnitSettings(declared.name(), unit, url, program, wait, log, properties);
+    }
+
+    private void checkDeclared() {
+        if (declared.isJta()) {
+            tell("its transactions are JTA's, which isn't there", "Write transaction-type=\"RESOURCE_LOCAL\"");
+        }
+        for (String file : declared.mappingFiles()) {
+            tell("<mapping-file>" + file + "</mapping-file> isn't read", "Annotate the classes, and leave it out");
+        }
+        boolean hasOrm = declared.mappingFiles().isEmpty() && declared.root().filter(it -> ClassScan.has(it, ORM)).isPresent();
+        if (hasOrm) {
+            tell(ORM + " stands beside it, and isn't read", "Annotate the classes, and take it away");
+        }
+        if (declared.needsValidation()) {
+            tell("its validation-mode is CALLBACK, and Bean Validation isn't asked", "Write NONE, and validate in a callback");
+        }
+    }
+
+    private UnitModel readClasses() {
+        Set<String> names = new LinkedHashSet<>(declared.classes());
+        if (!declared.excludesUnlisted()) {
+            declared.root().ifPresent(root -> scan(root, names));
+        }
+        declared.jars().forEach(jar -> scan(jar, names));
+        Set<Class<?>> classes = new LinkedHashSet<>();
+        names.forEach(name -> load(name, classes));
+        if (names.isEmpty()) {
+            tell("it has no classes", "List them as <class>, or leave out exclude-unlisted-classes");
+        }
+        try {
+            return Reader.read(declared.name(), classes);
+        } catch (RefusedUnit refused) {
+            faults.addAll(refused.faults());
+            return null;
+        }
+    }
+
+    private void scan(URI place, Collection<String> names) {
+        try {
+            names.addAll(ClassScan.names(place));
+        } catch (PersistenceException fault) {
+            tell(fault.getMessage(), "Name a JAR or a folder that is there");
+        }
+    }
+
+    private void load(String name, Set<Class<?>> classes) {
+        try {
+            classes.add(Class.forName(name, false, loader));
+        } catch (ClassNotFoundException missing) {
+            tell("the class " + name + " isn't found", "Write its whole name, as shop.Person or shop.Place$At");
+        } catch (LinkageError broken) {
+            tell("the class " + name + " can't be loaded: " + broken, "Put what it needs on the class path");
+        }
+    }
+
+    private void tell(String what, String remedy) {
+        faults.add(new Fault(place, what, remedy));
+    }
+}

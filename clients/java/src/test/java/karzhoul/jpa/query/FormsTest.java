@@ -1,0 +1,246 @@
+package karzhoul.jpa.query;
+
+import static org.junit.jupiter.api.Assertions.assertEquals;
+
+import java.util.List;
+import java.util.stream.Stream;
+import org.junit.jupiter.params.ParameterizedTest;
+import org.junit.jupiter.params.provider.MethodSource;
+
+/**
+ * Each form that the door rewrites: the query, the texts that the program is asked, and the rows, worked by hand from
+ * {@link Shopping}.
+ */
+class FormsTest extends OverShop {
+    @ParameterizedTest
+    @MethodSource("forms")
+    void isAskedAndAnswered(String form) {
+        String[] parts = form.strip().split("\\s*\n\\s*(?=[-=]> )");
+        String rows = rows(parts[0]);
+        List<String> asked = asked();
+        assertEquals(Stream.of(parts).filter(part -> part.startsWith("-> ")).map(part -> part.substring(3)).toList(), asked);
+        assertEquals(parts[parts.length - 1].substring(3), rows);
+    }
+
+    static Stream<String> forms() {
+        return Stream.of("""
+                SELECT p FROM Person p
+                -> SELECT p FROM Person p
+                => [Person 1, Person 2, Person 3, Person 4]
+
+                SELECT OBJECT(o) FROM Order AS o WHERE o.number = 10
+                -> SELECT o FROM Order o WHERE o.number = 10
+                => [Order 10]
+
+                SELECT p.address.city FROM Person p WHERE p.address.city <> 'Paris'
+                -> SELECT p.address__city FROM Person p WHERE p.address__city <> 'Paris'
+                => [London, London]
+
+                SELECT s.letter FROM Seat s WHERE s.row = 2
+                -> SELECT s.id_.letter FROM Seat s WHERE s.id_.row = 2
+                => [a]
+
+                SELECT l.at FROM Place l WHERE l.at.shelf = 'x'
+                -> SELECT l.at.row, l.at.shelf FROM Place l WHERE l.at.shelf = 'x'
+                => [1/x, 2/x]
+
+                SELECT p FROM Person p WHERE p.mood = karzhoul.jpa.query.Shop.Mood.CALM
+                -> SELECT p FROM Person p WHERE p.mood = 2
+                => [Person 4]
+
+                SELECT o FROM Order o WHERE o.status IN (karzhoul.jpa.query.Shop.Status.PAID, karzhoul.jpa.query.Shop$Status.SENT)
+                -> SELECT o FROM Order o WHERE o.status IN ('PAID', 'SENT')
+                => [Order 11, Order 13]
+
+                SELECT p FROM Person p WHERE p.active = TRUE AND NOT p.active = FALSE
+                -> SELECT p FROM Person p WHERE p.active = 1 AND p.active <> 0
+                => [Person 1, Person 3]
+
+                SELECT p FROM Person p WHERE p.born = {d '1900-01-01'}
+                -> SELECT p FROM Person p WHERE p.born = -25567
+                => [Person 3]
+
+                SELECT o FROM Order o WHERE o.price = 2.25 OR o.price = 10
+                -> SELECT o FROM Order o WHERE (o.price = 225 OR o.price = 1000)
+                => [Order 11, Order 13]
+
+                SELECT o FROM Order o WHERE o.price > 2.245 AND o.price < 10.001
+                -> SELECT o FROM Order o WHERE o.price > 224 AND o.price < 1001
+                => [Order 11, Order 13]
+
+                SELECT o FROM Order o WHERE o.amount >= 6.5 AND 7.5 >= o.amount
+                -> SELECT o FROM Order o WHERE o.amount >= 7 AND o.amount <= 7
+                => [Order 11, Order 13]
+
+                SELECT o FROM Order o WHERE o.amount <> 5.5 AND o.amount < 1e30
+                -> SELECT o FROM Order o WHERE o.amount IS NOT NULL AND o.amount IS NOT NULL
+                => [Order 10, Order 11, Order 13, Order 14]
+
+                SELECT o FROM Order o WHERE o.price + 1 < o.amount
+                -> SELECT o FROM Order o WHERE o.price + 100 < o.amount * 100
+                => [Order 10, Order 11]
+
+                SELECT o.price * o.amount - 0.5 FROM Order o WHERE o.number = 11
+                -> SELECT o.price * o.amount FROM Order o WHERE o.number = 11
+                => [Double 15.25]
+
+                SELECT o.number FROM Order o WHERE NOT (o.amount = 7 OR o.price > 5)
+                -> SELECT o.number FROM Order o WHERE o.amount <> 7 AND o.price <= 500
+                => [Long 10, Long 14]
+
+                SELECT p FROM Person p WHERE NOT (p.age BETWEEN 21 AND 40)
+                -> SELECT p FROM Person p WHERE (p.age < 21 OR p.age > 40)
+                => [Person 2, Person 4]
+
+                SELECT i.what FROM Person p, IN (p.orders) o JOIN o.items i WHERE p.boss IS NULL
+                -> SELECT i.what FROM Person p JOIN p.orders o JOIN o.items i WHERE p.boss IS NULL
+                => [ink, pen, pen]
+
+                SELECT o.number, t.code FROM Order o JOIN o.person.tags t
+                -> SELECT o.number, t.code FROM Order o JOIN o.person o_2 JOIN o_2.tags t
+                => [[Long 10, a], [Long 10, b], [Long 11, a], [Long 11, b], [Long 14, b]]
+
+                SELECT o.number, t.code FROM Order o LEFT JOIN o.person.tags t
+                -> SELECT o.number, t.code FROM Order o JOIN o.person o_2 LEFT JOIN o_2.tags t
+                => [[Long 10, a], [Long 10, b], [Long 11, a], [Long 11, b], [Long 13, null], [Long 14, b]]
+
+                SELECT o.number FROM Order o JOIN o.person p ON p.team.name = 'Red'
+                -> SELECT o.number FROM Order o JOIN o.person p WHERE p.team.name = 'Red'
+                => [Long 10, Long 11, Long 14]
+
+                SELECT p FROM Person p JOIN FETCH p.orders
+                -> SELECT p FROM Person p JOIN p.orders fetched
+                => [Person 1, Person 1, Person 2, Person 3]
+
+                SELECT DISTINCT p FROM Person p LEFT JOIN FETCH p.orders LEFT JOIN FETCH p.tags
+                -> SELECT DISTINCT p FROM Person p
+                => [Person 1, Person 2, Person 3, Person 4]
+
+                SELECT o FROM Order o LEFT JOIN FETCH o.person
+                -> SELECT o FROM Order o
+                => [Order 10, Order 11, Order 12, Order 13, Order 14]
+
+                SELECT o FROM Order o JOIN FETCH o.person
+                -> SELECT o FROM Order o JOIN o.person fetched
+                => [Order 10, Order 11, Order 13, Order 14]
+
+                SELECT p, COUNT(o) FROM Person p LEFT JOIN p.orders o GROUP BY p ORDER BY p.name
+                -> SELECT p AS c0, COUNT(o) AS c1 FROM Person p LEFT JOIN p.orders o GROUP BY p, p.name ORDER BY p.name
+                => [[Person 2, Long 1], [Person 1, Long 2], [Person 3, Long 1], [Person 4, Long 0]]
+
+                SELECT AVG(o.amount), AVG(DISTINCT o.amount), AVG(o.price) FROM Order o
+                -> SELECT SUM(o.amount), COUNT(o.amount), SUM(DISTINCT o.amount), COUNT(DISTINCT o.amount), SUM(o.price), COUNT(o.price) FROM Order o
+                => [[Double 5, Double 4.33333333333, Double 3.4625]]
+
+                SELECT p.team.name, AVG(p.age) FROM Person p GROUP BY p.team.name HAVING AVG(p.age) > 40
+                -> SELECT p.team.name, SUM(p.age), COUNT(p.age) FROM Person p GROUP BY p.team.name
+                => [[Blue, Double 50]]
+
+                SELECT p.team.name, SUM(p.weight), MIN(p.weight) FROM Person p GROUP BY p.team.name ORDER BY SUM(p.weight) DESC
+                -> SELECT p.team.name AS c0, p.weight AS c1 FROM Person p
+                => [[Red, Double 3.75, Double 1.5], [Blue, Double -0.5, Double -0.5]]
+
+                SELECT COUNT(o), SUM(o.amount), SUM(o.price), MIN(o.placed), MAX(o.status), MAX(o.hour) FROM Order o
+                -> SELECT COUNT(o), SUM(o.amount), SUM(o.price), MIN(o.placed), MAX(o.status), MAX(o.hour) FROM Order o
+                => [[Long 5, Long 20, BigDecimal 13.85, 2026-01-01T08:00, SENT, 12:00]]
+
+                SELECT o.amount / 2, o.price / 4, o.amount / 2.0 FROM Order o WHERE o.number = 11
+                -> SELECT o.amount, o.price FROM Order o WHERE o.number = 11
+                => [[Integer 3, BigDecimal 0.5625, Double 3.5]]
+
+                SELECT p.name FROM Person p WHERE UPPER(p.name) LIKE 'A%' AND p.age > 30
+                -> SELECT p.name FROM Person p WHERE p.age > 30
+                => [Ada]
+
+                SELECT COUNT(p) FROM Person p WHERE LOWER(p.name) <> 'ada'
+                -> SELECT p.id, p.name FROM Person p
+                => [Long 2]
+
+                SELECT DISTINCT UPPER(p.address.city) AS c FROM Person p ORDER BY c DESC
+                -> SELECT p.address__city AS c0 FROM Person p
+                => [PARIS, LONDON, null]
+
+                SELECT CASE WHEN p.age > 40 THEN 'old' WHEN p.name IS NULL THEN 'none' ELSE p.name END FROM Person p
+                -> SELECT p.age, p.name FROM Person p
+                => [Ada, Bob, none, old]
+
+                SELECT o.number FROM Order o WHERE o.amount > ALL (SELECT x.amount FROM Order x WHERE x.number < o.number)
+                -> SELECT o.number FROM Order o WHERE NOT EXISTS (SELECT x FROM Order x WHERE x.number < o.number AND (o.amount <= x.amount OR x.amount IS NULL OR o.amount IS NULL))
+                => [Long 10, Long 11]
+
+                SELECT o.number FROM Order o WHERE NOT (o.amount > ANY (SELECT x.amount FROM Order x WHERE x.number > 12))
+                -> SELECT o.number FROM Order o WHERE NOT EXISTS (SELECT x FROM Order x WHERE x.number > 12 AND (o.amount > x.amount OR x.amount IS NULL OR o.amount IS NULL))
+                => [Long 14]
+
+                SELECT p.name FROM Person p WHERE p.name NOT IN (SELECT t.name FROM Team t)
+                -> SELECT p.name FROM Person p WHERE NOT EXISTS (SELECT t FROM Team t WHERE (p.name = t.name OR t.name IS NULL OR p.name IS NULL))
+                => [Ada, Bob, Cy]
+
+                SELECT p FROM Person p WHERE p NOT IN (SELECT o.person FROM Order o)
+                -> SELECT p FROM Person p WHERE NOT EXISTS (SELECT o FROM Order o WHERE (p = o.person OR o.person IS NULL))
+                => []
+
+                SELECT o.number FROM Order o WHERE o.person.name NOT IN (SELECT q.name FROM Person q WHERE q.age > 40) OR o.number = 12
+                -> SELECT o.number FROM Order o WHERE (NOT EXISTS (SELECT q FROM Person q WHERE q.age > 40 AND (o.person.name = q.name OR q.name IS NULL OR o.person.name IS NULL)) OR o.number = 12) AND (o.person.name IS NULL OR o.person.name IS NOT NULL)
+                => [Long 10, Long 11, Long 14]
+
+                SELECT o.number FROM Order o WHERE o.number = (SELECT MAX(x.number) FROM Order x WHERE x.person = o.person)
+                -> SELECT o.number FROM Order o WHERE EXISTS (SELECT x FROM Order x WHERE x.person = o.person AND x.number = o.number) AND NOT EXISTS (SELECT x_2 FROM Order x_2 WHERE x_2.person = o.person AND x_2.number > o.number)
+                => [Long 11, Long 13, Long 14]
+
+                SELECT o.number FROM Order o WHERE o.amount > (SELECT AVG(x.amount) FROM Order x)
+                -> SELECT SUM(x.amount), COUNT(x.amount) FROM Order x
+                -> SELECT o.number FROM Order o WHERE o.amount > 5
+                => [Long 11, Long 13]
+
+                SELECT p FROM Person p WHERE (SELECT COUNT(o) FROM p.orders o) >= 2
+                -> SELECT p FROM Person p WHERE SIZE(p.orders) >= 2
+                => [Person 1]
+
+                SELECT p FROM Person p WHERE (SELECT COUNT(o) FROM Order o WHERE o.person = p) = 0
+                -> SELECT p FROM Person p WHERE NOT EXISTS (SELECT o FROM Order o WHERE o.person = p AND 1 = 1)
+                => [Person 4]
+
+                SELECT p FROM Person p WHERE p.age = (SELECT q.age FROM Person q WHERE q.id = p.boss.id)
+                -> SELECT p FROM Person p WHERE EXISTS (SELECT q FROM Person q WHERE q.id = p.boss.id AND p.age = q.age)
+                => [Person 3]
+
+                SELECT p FROM Person p WHERE p.team = (SELECT t FROM Team t WHERE t.name = 'Red')
+                -> SELECT t FROM Team t WHERE t.name = 'Red'
+                -> SELECT p FROM Person p WHERE p.team = :p0
+                => [Person 1, Person 3]
+
+                SELECT o FROM Order o WHERE TYPE(o.person) = Person
+                -> SELECT o FROM Order o WHERE EXISTS (SELECT one FROM o.person one WHERE TYPE(one) IN (Person))
+                => [Order 10, Order 11, Order 13, Order 14]
+
+                SELECT TYPE(p), p.id FROM Person p WHERE TYPE(p) <> Person
+                -> SELECT p, p.id FROM Person p WHERE TYPE(p) NOT IN (Person)
+                => [[Vip, Long 4]]
+
+                SELECT p FROM Person p WHERE EXISTS (SELECT COUNT(o) FROM Order o WHERE o.person = p)
+                -> SELECT p FROM Person p WHERE 1 = 1
+                => [Person 1, Person 2, Person 3, Person 4]
+
+                SELECT DISTINCT p.team FROM Person p WHERE p.team IS NOT NULL ORDER BY p.team.name
+                -> SELECT p.team AS c0, p.team.name AS c1 FROM Person p WHERE p.team IS NOT NULL
+                => [Team 2, Team 1]
+
+                SELECT NEW karzhoul.jpa.query.Shop.PlaceKey(p.age, p.name) FROM Person p WHERE p.id = 3
+                -> SELECT p.age, p.name FROM Person p WHERE p.id = 3
+                => [36/Bob]
+
+                SELECT 'x', 1, 2.5, TRUE FROM Team t
+                -> SELECT 1 FROM Team t
+                => [[x, Integer 1, Double 2.5, true], [x, Integer 1, Double 2.5, true]]
+
+                SELECT o.person, COUNT(o) FROM Order o GROUP BY o.person
+                -> SELECT o.person, COUNT(o) FROM Order o GROUP BY o.person
+                => [[Person 1, Long 2], [Person 2, Long 1], [Person 3, Long 1], [null, Long 1]]
+
+                SELECT p.name FROM Person p WHERE p.id IN (SELECT o.person.id FROM Order o) AND p.name IN (SELECT o.name FROM Person o)
+                -> SELECT p.name FROM Person p WHERE EXISTS (SELECT o.person.id FROM Order o WHERE p.id = o.person.id) AND EXISTS (SELECT o_2 FROM Person o_2 WHERE p.name = o_2.name)
+                => [Ada, Bob]
+                """.split("\n\n"));
+    }
+}

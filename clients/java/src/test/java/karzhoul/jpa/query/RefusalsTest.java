@@ -1,0 +1,98 @@
+package karzhoul.jpa.query;
+
+import static org.junit.jupiter.api.Assertions.assertEquals;
+import static org.junit.jupiter.api.Assertions.assertThrows;
+
+import java.util.stream.Stream;
+import karzhoul.jpa.model.Reader;
+import org.junit.jupiter.params.ParameterizedTest;
+import org.junit.jupiter.params.provider.MethodSource;
+
+/** What is no query of the unit, and what isn't served: each with its place and its words, as it is created. */
+class RefusalsTest {
+    private static final Statements STATEMENTS = new Statements(Reader.read("shop", Shop.classes()));
+
+    @ParameterizedTest
+    @MethodSource("refused")
+    void isRefused(String row) {
+        String[] parts = row.split(" ## ");
+        QueryFault fault = assertThrows(QueryFault.class, () -> STATEMENTS.prepare(parts[0]));
+        assertEquals(parts[1], fault.column() + " " + fault.reason());
+    }
+
+    static Stream<String> refused() {
+        return Stream.of("""
+                SELECT p FROM Persn p ## 15 there is no entity "Persn"; did you mean "Person"?
+                SELECT p.nam FROM Person p ## 8 Person has no "nam"; did you mean "name"?
+                SELECT p.address.ciy FROM Person p ## 8 Person has no "address.ciy"; did you mean "address.city"?
+                SELECT p.address FROM Person p ## 8 "address" of Person is an embedded object, which isn't served as a whole; name its attributes, as "address.street"
+                SELECT q FROM Person p ## 8 there is no variable "q"; did you mean "p"?
+                SELECT q.name FROM Person p ## 8 there is no variable "q" and no enum "q"; did you mean "p"?
+                SELECT p.name.first FROM Person p ## 8 "name" of Person is a value, and "first" stands behind it
+                SELECT p.orders.number FROM Person p ## 8 "orders" of Person is a collection: join it, and ask its variable for "number"
+                SELECT p.orders FROM Person p ## 8 "p.orders" is a collection, which is no value: join it, or ask for SIZE, IS EMPTY or MEMBER OF
+                SELECT p.discount FROM Person p ## 8 Person has no "discount", its subclass Vip has; let a variable range over Vip
+                SELECT p FROM Person p, Order p ## 25 the variable "p" is declared twice
+                SELECT p.name AS n, p.age AS n FROM Person p ## 21 two items are named "n"
+                SELECT p FROM Person p JOIN p.name n ## 29 expected a path to a relation
+                SELECT p FROM Person p, IN (p.boss) b ## 25 IN asks for a collection, and "p.boss" is none
+                SELECT p FROM Person p WHERE p.mood = karzhoul.jpa.query.Shop.Mood.GLED ## 39 karzhoul.jpa.query.Shop$Mood has no constant "GLED"; did you mean "GLAD"?
+                SELECT p FROM Person p WHERE p.age = 'x' ## 30 a number is compared with a text
+                SELECT p FROM Person p WHERE p.name > 1 ## 30 a text is compared with a number
+                SELECT p FROM Person p WHERE p.mood = 'GLAD' ## 30 karzhoul.jpa.query.Shop$Mood is compared with a text
+                SELECT p FROM Person p WHERE p.mood < karzhoul.jpa.query.Shop.Mood.SAD ## 30 "<" compares what has an order, and this is karzhoul.jpa.query.Shop$Mood; = and <> do
+                SELECT p FROM Person p WHERE p.boss = p.team ## 30 the entity Person is compared with the entity Team
+                SELECT p FROM Person p WHERE p.boss < p ## 30 "<" compares what has an order, and this is the entity Person; = and <> do
+                SELECT p FROM Person p WHERE p.active ## 38 expected a comparison, BETWEEN, IN, LIKE, IS or MEMBER OF, found the end
+                SELECT p FROM Person p WHERE p.cents = 100 ## 30 karzhoul.jpa.query.Shop$Cents is compared with a number
+                SELECT p FROM Person p WHERE p.age LIKE 'x' ## 30 LIKE takes texts, and this is a number
+                SELECT p FROM Person p WHERE p.name LIKE 'x' ESCAPE 'ab' ## 53 expected one character after ESCAPE
+                SELECT p FROM Person p WHERE p.age IN (1, 'x') ## 43 expected a number, and this is a text
+                SELECT p FROM Person p WHERE p.age BETWEEN 1 AND 'x' ## 50 expected a number, and this is a text
+                SELECT p FROM Person p WHERE p.name IS EMPTY ## 30 IS EMPTY takes a path to a collection
+                SELECT p FROM Person p WHERE p MEMBER OF p.orders ## 30 the members of "p.orders" are of the entity Order, and this is the entity Person
+                SELECT p FROM Person p WHERE COUNT(p) > 1 ## 30 COUNT stands in SELECT and HAVING alone
+                SELECT SUM(p.name) FROM Person p ## 12 SUM takes numbers, and this is a text
+                SELECT MAX(p) FROM Person p ## 12 MAX takes values that have an order, and this is the entity Person
+                SELECT p.name + 1 FROM Person p ## 8 expected a number, and this is a text
+                SELECT UPPER(p.age) FROM Person p ## 14 expected a text, and this is a number
+                SELECT SIZE(p.name) FROM Person p ## 13 SIZE takes a path to a collection
+                SELECT EXTRACT(EPOCH FROM p.born) FROM Person p ## 16 "EPOCH" is no field; there are YEAR, QUARTER, MONTH, WEEK, DAY, HOUR, MINUTE, SECOND, DATE and TIME
+                SELECT TYPE(p.name) FROM Person p ## 13 TYPE takes an entity, and this is a text
+                SELECT COALESCE(p.name, p.age) FROM Person p ## 25 expected a text, and this is a number
+                SELECT p.age FROM Person p GROUP BY p.name ## 8 "p.age" stands outside of aggregates, and isn't one of GROUP BY
+                SELECT p.age, COUNT(p) FROM Person p ## 8 "p.age" stands outside of aggregates, and isn't one of GROUP BY
+                SELECT p.name FROM Person p GROUP BY p.name HAVING p.age > 1 ## 52 "p.age" stands outside of aggregates, and isn't one of GROUP BY
+                SELECT p.name FROM Person p GROUP BY UPPER(p.name) ## 38 GROUP BY takes paths and variables
+                SELECT p FROM Person p ORDER BY p ## 33 ORDER BY takes values that have an order, and this is the entity Person
+                SELECT DISTINCT p.name FROM Person p ORDER BY p.age ## 47 with DISTINCT, ORDER BY takes what is selected, and "p.age" isn't
+                SELECT DISTINCT p.name FROM Person p ORDER BY UPPER(p.address.city) ## 53 with DISTINCT, ORDER BY takes what is selected, and "p.address.city" isn't
+                SELECT o.number FROM Person p JOIN FETCH p.orders o ## 31 JOIN FETCH reads a relation of what is selected, and "p" isn't
+                SELECT NEW a.b.C(p.name) FROM Person p ## 8 there is no class a.b.C
+                SELECT NEW karzhoul.jpa.query.Shop.PlaceKey(p.name, p.age) FROM Person p ## 8 karzhoul.jpa.query.Shop$PlaceKey has no constructor of (String, Integer)
+                SELECT p FROM Person p WHERE p.age = :a AND p.name = ?1 ## 54 named and positional parameters stand in one query
+                SELECT p FROM Person p WHERE TREAT(p AS Vip).discount = 1 ## 30 TREAT isn't served; let a variable range over Vip and compare it, as FROM .., Vip t WHERE t = ..
+                SELECT KEY(t) FROM Person p JOIN p.tags t ## 8 KEY isn't served; make the key of the map an attribute of the members, and ask for that
+                SELECT p FROM Person p LEFT JOIN p.team t ON t.leader.name = 'x' ## 46 in the ON of a LEFT JOIN a path has one step at most; join what it goes along before, and name that variable
+                SELECT p FROM Person p WHERE 2 < (SELECT COUNT(o) FROM Order o WHERE o.person = p) ## 30 COUNT of a subquery that uses a variable from outside is compared with 0 alone; SIZE counts a collection, and GROUP BY with HAVING the rows of a join
+                SELECT p FROM Person p WHERE 2 < (SELECT SUM(o.amount) FROM Order o WHERE o.person = p) ## 30 a subquery that uses a variable from outside is served behind EXISTS, IN, ALL and ANY, and compared where it is MAX or MIN; ask it by a query of its own, or group by what it is joined with
+                SELECT p FROM Person p WHERE p.age = (SELECT q.age FROM Person q WHERE q.team = p.team) ## 30 a subquery that uses a variable from outside is served behind EXISTS, IN, ALL and ANY, and compared where it is MAX or MIN; write = ANY (..), which is the same where it has one row
+                SELECT (SELECT MAX(o.number) FROM Order o WHERE o.person = p) FROM Person p ## 8 a subquery that uses a variable from outside is served behind EXISTS, IN, ALL and ANY, and compared where it is MAX or MIN; ask it by a query of its own, or group by what it is joined with
+                SELECT p FROM Person p WHERE p.age IN (SELECT q.age FROM Person q GROUP BY q.age) ## 40 GROUP BY and HAVING in a subquery aren't served; ask it by a query of its own, and give its rows to IN as a parameter
+                SELECT p.name FROM Person p GROUP BY p.name HAVING EXISTS (SELECT t FROM Team t) ## 52 a subquery in HAVING is served where it uses no variable from outside and is compared as one value
+                SELECT p FROM Person p WHERE UPPER(p.name) = 'X' OR EXISTS (SELECT o FROM p.orders o) ## 30 UPPER isn't among what the program computes; where no subquery stands beside it but by AND, the door decides it
+                SELECT p FROM Person p WHERE EXISTS (SELECT o FROM p.orders o WHERE o.amount / 2 > 1) ## 69 "/" isn't among what the program computes; where no subquery stands beside it but by AND, the door decides it
+                SELECT o FROM Order o WHERE o.hour < CURRENT_TIMESTAMP ## 29 a time of day is compared with a date
+                SELECT a FROM Tag a, Tag b, Tag c, Tag d, Tag e, Tag f, Tag g, Tag h, Tag i ## 1 the statement takes 9 variables, those of its subqueries and of its joins over several steps too, and there are at most 8
+                UPDATE Person p SET p.id = 1 ## 21 "p.id" is part of the key, which SET doesn't change
+                UPDATE Person p SET p.orders = NULL ## 21 SET takes attributes and links to one entity, and "p.orders" is neither
+                UPDATE Person p SET p.boss.name = 'x' ## 21 SET takes attributes and links to one entity, and "p.boss.name" is neither
+                UPDATE Person p SET p.age = 'x' ## 29 "p.age" is a number, and is set to a text
+                UPDATE Person p SET p.boss = p.boss.boss ## 30 SET gives a link a parameter or NULL
+                UPDATE Person p SET p.credit = p.credit * 1.1 ## 43 1.1 isn't among the numbers beside it, of 0 decimal places and 64 bits
+                UPDATE Person SET name = UPPER(name) ## 26 UPPER isn't among what the program computes
+                UPDATE Person SET nam = 1 ## 19 there is no variable "nam"; did you mean "name"?
+                DELETE FROM Person p WHERE UPPER(p.name) = 'X' ## 28 UPPER isn't among what the program computes; in UPDATE and DELETE the door decides no condition: select the objects, and change or remove them
+                """.split("\n"));
+    }
+}

@@ -1,0 +1,74 @@
+#!/usr/bin/env bash
+# The JAR of the Java door, as tools/jar writes it: with the program inside, which is unpacked once and
+# checked by its sum; on the class path, and on the module path with an application's module that opens
+# its package and with one that doesn't; with its sources and a documentation without a warning.
+set -u
+cd "$(dirname "$0")/.." || exit 1
+. tests/shared.bash
+needs javac "the Java door's JAR isn't tried"
+make_folder
+program=${KARZHOUL_PROGRAM-}
+if [ -z "$program" ]; then
+    find_programs
+    program=${programs%%$'\n'*}
+fi
+jars=$(bash tools/jar --program "$program" --sources --javadoc) || exit $?
+jar=${jars%%$'\n'*}
+path=$(bash tools/jar --path) || exit $?
+modules=clients/java/build/modules
+export XDG_CACHE_HOME=$folder/cache
+
+failed=0
+fail() {
+    echo "failed: $*"
+    failed=1
+}
+
+# Whether what a command prints, in one line, is these words: prints WORDS COMMAND..
+prints() {
+    local wanted=$1 said
+    shift
+    said=$("$@" 2>&1 | tr '\n' ' ')
+    [ "$said" = "$wanted " ] || fail "'$*' printed '$said', and not '$wanted'"
+}
+
+[ "$(wc -l <<<"$jars")" = 3 ] || fail "not three jars were written: $jars"
+for each in $jars; do
+    [ -s "$each" ] || fail "$each isn't there"
+done
+unzip -l "$jar" >"$folder/list" 2>/dev/null || jar tf "$jar" >"$folder/list"
+for each in META-INF/services/jakarta.persistence.spi.PersistenceProvider META-INF/NOTICES module-info.class \
+    karzhoul/jpa/program/jpa karzhoul/jpa/program/jpa.sha256; do
+    grep -q "$each" "$folder/list" || fail "$each isn't in the JAR"
+done
+
+# An application on the class path, in a JAR of its own.
+mkdir -p "$folder/app"
+javac -d "$folder/app" -cp "$path" tests/java-jar/shop/*.java || exit 1
+cp -r tests/java-jar/META-INF "$folder/app"
+run=(java -cp "$folder/app:$jar:$path" shop.Main)
+prints "Bob knows Ada" "${run[@]}" "$folder/first.db"
+
+# The program in the cache is that of the JAR, and is written again where it isn't.
+cached=$(echo "$folder"/cache/karzhoul/jpa-*)
+cmp "$program" "$cached" || fail "the program in the cache is another one"
+stamp=$(stat -c %Y%i "$cached")
+prints "Bob knows Ada" "${run[@]}" "$folder/second.db"
+[ "$(stat -c %Y%i "$cached")" = "$stamp" ] || fail "the program was unpacked twice"
+echo "not a program" >"$cached"
+prints "Bob knows Ada" "${run[@]}" "$folder/third.db"
+cmp "$program" "$cached" || fail "a damaged program in the cache was left"
+: >"$folder/file"
+said=$(XDG_CACHE_HOME=$folder/file "${run[@]}" "$folder/fourth.db" 2>&1)
+grep -q "the program in the JAR can't be unpacked" <<<"$said" || fail "without a cache: $said"
+
+# Applications in modules of their own.
+javac -d "$folder/open" --module-path "$modules:$jar" tests/java-jar/open/*.java tests/java-jar/shop/*.java || exit 1
+javac -d "$folder/closed" --module-path "$modules:$jar" tests/java-jar/closed/*.java tests/java-jar/shop/*.java || exit 1
+cp -r tests/java-jar/META-INF "$folder/open"
+cp -r tests/java-jar/META-INF "$folder/closed"
+prints "Bob knows Ada" java -p "$modules:$jar:$folder/open" -m shop/shop.Main "$folder/fifth.db"
+said=$(java -p "$modules:$jar:$folder/closed" --add-modules karzhoul.jpa -m shop/shop.Main "$folder/sixth.db" 2>&1)
+grep -q 'shop.Person: its module doesn.t open its package. Open the package shop to karzhoul.jpa' <<<"$said" ||
+    fail "a module that doesn't open its package: $said"
+exit "$failed"

@@ -1,0 +1,6 @@
+module shop {
+    requires jakarta.persistence;
+    requires karzhoul.jpa;
+
+    opens shop;
+}
