@@ -27,7 +27,7 @@ from .refusals import (
 from .tally import Statistics
 from .transactions import Attempt, EntityTransaction
 
-__version__ = "0.1.0"
+__version__ = "0.2.0"
 
 # Written out, since type checkers read it. `from karzhoul import *` gives no name that Python has
 # too, as `open`, or that its `typing` has, as `Mapping`.

@@ -10,13 +10,13 @@ use Rattle.jpa_flush.specs.Flush.{flush}
 use Rattle.jpa_protocol.specs.declared.call.Call.{Call}
 use Rattle.jpa_protocol.specs.declared.reply.Answer.{Answer}
 use Rattle.jpa_protocol.specs.declared.reply.Reply.{Reply}
-use Rattle.jpa_open.specs.Moves.{Scene, Snapshot, Move, Creates, Begins, Works, Ends, Commits, Restarts, Rests, IsAllowed}
-use Rattle.jpa_open.specs.Moves.{moved, is_apart}
+use Rattle.jpa_open.specs.Moves.{Scene, Snapshot, Move, Creates, Begins, Works, Ends, Commits, Restarts, Rests}
+use Rattle.jpa_open.specs.Moves.{IsAllowed, moved, is_apart}
 use Rattle.jpa_machine.specs.Machine.{Machine, Manager, Transaction, work_of}
 use Rattle.jpa_machine.specs.Transactions.{locked_ids}
 use Rattle.jpa_machine.specs.Routes.{Route, OfManager, ToQuery, ToUpdate, InTransaction, OfObject, ToCreate, ToMake}
-use Rattle.jpa_machine.specs.Routes.{ToBegin, ToCommit, ToRollBack, ToMark, ToAsk, ToClear, ToSetMode, ToClose, ToRead, ToRestart, route}
-use Rattle.jpa_machine.specs.Routes.{commits}
+use Rattle.jpa_machine.specs.Routes.{ToBegin, ToCommit, ToRollBack, ToMark, ToAsk, ToClear, ToSetMode, ToClose}
+use Rattle.jpa_machine.specs.Routes.{ToRead, ToRestart, route, commits}
 
 -- ---- of a machine
 

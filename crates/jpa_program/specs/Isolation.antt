@@ -14,13 +14,15 @@ use Rattle.jpa_machine.specs.Isolated.{scene_of, IsMove}
 use Rattle.jpa_provider.specs.Provided.{Provided, Steps, world_in}
 
 -- the move of a line: that of its call's step; a line that is no call is refused, and moves nothing
-abbrev pub MovesBy : {R L C : Type 0} → Meaning L C → Provided R L C → Result Call Cause → Reply → Provided R L C → Move → Type 0
+abbrev pub MovesBy : {R L C : Type 0} → Meaning L C → Provided R L C → Result Call Cause → Reply → Provided R L C →
+    Move → Type 0
 MovesBy meaning_of old (Ok call) reply new move =
     IsMove (world_in meaning_of old) old.machine call reply new.machine move
 MovesBy meaning_of old (Err cause) reply new move = (reply ≡ refused cause) × (new ≡ old) × (move ≡ Rests)
 
 -- each line of the run is such a move
-abbrev pub RunsBy : {R L C : Type 0} → Meaning L C → Provided R L C → List (List ℕ) → List Reply → List Move → Provided R L C → Type 0
+abbrev pub RunsBy : {R L C : Type 0} → Meaning L C → Provided R L C → List (List ℕ) → List Reply → List Move →
+    Provided R L C → Type 0
 RunsBy meaning_of old [] [] [] new = new ≡ old
 RunsBy {R} {L} {C} meaning_of old (line ∷ lines) (reply ∷ replies) (move ∷ moves) new =
     (mid : Provided R L C) × MovesBy meaning_of old (meaning line) reply mid move

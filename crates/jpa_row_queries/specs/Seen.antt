@@ -23,7 +23,8 @@ pub record SeesSet {S : Type 0} (store : Ghosts S) (world : World) (changes : Ch
   pub of : AreOf world (rows_under changes rows) set numbers
 
 -- the store's rows are under the changes rows of the metamodel's tables, of a set or of none
-pub record SeesRows {S : Type 0} (store : Ghosts S) (m : PersistenceUnit) (changes : Changes) (source : S) : Type 0 where
+pub record SeesRows {S : Type 0} (store : Ghosts S) (m : PersistenceUnit) (changes : Changes)
+    (source : S) : Type 0 where
   pub rows : Rows
   pub rising : AreRising rows
   pub held : store.holds source rows
