@@ -71,4 +71,16 @@ prints "Bob knows Ada" java -p "$modules:$jar:$folder/open" -m shop/shop.Main "$
 said=$(java -p "$modules:$jar:$folder/closed" --add-modules karzhoul.jpa -m shop/shop.Main "$folder/sixth.db" 2>&1)
 grep -q 'shop.Person: its module doesn.t open its package. Open the package shop to karzhoul.jpa' <<<"$said" ||
     fail "a module that doesn't open its package: $said"
+
+# The front page's example: its lines are those of examples/first-java, and it prints what stands behind them.
+first=examples/first-java
+awk '/^```java$/ { inside = 1; next } /^```$/ { inside = 0 } inside && NF' README.md >"$folder/lines"
+[ -s "$folder/lines" ] || fail "the front page has no lines of Java"
+while IFS= read -r line; do
+    grep -qxF -- "$line" $first/shop/*.java || fail "the front page has '$line', and $first hasn't"
+done <"$folder/lines"
+mkdir -p "$folder/first"
+javac -d "$folder/first" -cp "$path" $first/shop/*.java || exit 1
+cp -r $first/META-INF "$folder/first"
+prints "$(grep -m 1 '^Ada ordered' README.md)" java -cp "$folder/first:$jar:$path" shop.Main
 exit "$failed"
