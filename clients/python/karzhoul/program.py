@@ -104,7 +104,7 @@ class Exchange:
 
 def of_before(line: bytes) -> str:
     """What is said of a line that was made in a run which is over."""
-    found = re.search(rb'"(em|object)":([0-9]+)', line)
+    found = re.search(rb'"(em|object|objects)":\[?([0-9]+)', line)
     if found is None:
         return "the call is of before a restart"
     number = int(found[2])

@@ -303,6 +303,23 @@ class Together(RunsTest):
         with self.assertRaises(Restarted):
             len(orders)
 
+    def test_what_was_read_before(self) -> None:
+        """It isn't told from then on, since it may have changed."""
+        manager, ada, _ = self.swapped()
+        self.assertEqual((ada.name, ada.name, ada.id), ("Ada", "Ada", 1))
+        self.restart_as_bob()
+        reads: List[Callable[[], Any]] = [
+            lambda: ada.name,
+            lambda: self.app.get(ada, "name"),
+            lambda: self.app.get_members(ada, ["name", "id"]),
+            lambda: self.app.get_many([ada, ada], "name"),
+        ]
+        for read in reads:
+            with self.assertRaisesRegex(Restarted, "object 1 is of before a restart: make or find"):
+                read()
+        with self.assertRaisesRegex(Restarted, "manager 1 is of before a restart: create another"):
+            manager.find("Person", 1)
+
     def test_a_refusal_of_before_is_explained_by_no_object_of_now(self) -> None:
         manager, ada, _ = self.swapped()
         with self.assertRaises(karzhoul.Refused) as raised:
