@@ -346,6 +346,11 @@ class Calls:
                     objects = run.objects(numbers, kind)
                     self._calls = None
                     return objects
+                if kind is not None and len(replies) == 1 and not self._callbacks:
+                    found = run.loaded_one(calls.lines[0], replies[0], kind)
+                    if found is not None and not self._untold:
+                        self._calls = None
+                        return [found]
             if not self._callbacks and (replies == NULL or are_silent(replies)):
                 self._calls = None
                 return [None] * len(replies)
@@ -417,16 +422,25 @@ class Calls:
         """The objects of these numbers, which there are. Where a class isn't known, the program is
         asked for it."""
         with self._lock:
-            unknown = [number for number in numbers if run.kinds[number] is None]
+            unknown = list(dict.fromkeys(it for it in numbers if run.kinds[it] is None))
             if unknown:
                 self.show(run, unknown)
             return run.objects(numbers)
 
-    def show(self, run: Run, numbers: Iterable[int]) -> None:
-        """Reads the values of objects of a run anew, by their numbers."""
+    def values_of(self, entity: Entity) -> Sequence[Any]:
+        """The values of an object, which are read anew, with those of the objects that were told
+        together with it."""
+        run = entity._karzhoul_run
+        run.number(entity)
+        has_group = entity._karzhoul_shown.group
+        self.show(run, run.unread([entity]) if has_group else [entity._karzhoul_number])
+        return entity._karzhoul_shown.values
+
+    def show(self, run: Run, numbers: Sequence[int]) -> None:
+        """Reads the values of objects of a run anew, by their numbers, each once."""
         with self._lock:
-            self.tell_kept()
-            numbers = list(dict.fromkeys(numbers))
+            if self._calls:
+                self.tell_kept()
             calls = self._calls = _Calls(run, run.values_lines(numbers), "", NotServed, False)
             places, refused = self._shown(run, calls, numbers, calls)
             self._calls = None

@@ -50,6 +50,11 @@ class Classes:
             self.made = number
         return kind
 
+    def load(self, number: int, kind: Type[Entity]) -> None:
+        """An object was loaded, which is of this class where its own isn't known."""
+        self.settled(number, kind)
+        self._places[number] |= _LOADED
+
     def hear(self, events: Sequence[Sequence[Any]]) -> List[int]:
         """Takes note of the events of a call that was done, and answers what was loaded."""
         loaded: List[int] = []

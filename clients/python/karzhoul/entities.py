@@ -349,8 +349,8 @@ class Attribute(property):
         def read(it: Entity) -> Any:
             if place is not None:
                 shown = it._karzhoul_shown
-                if not shown.epoch.is_over:
-                    return shown.values[place]
+                is_over = shown.epoch.is_over
+                return (it._karzhoul_factory.values_of(it) if is_over else shown.values)[place]
             return it._karzhoul_factory.get(it, name) if view is None else view(it, name)
 
         def assign(it: Entity, value: Any) -> None:

@@ -16,6 +16,9 @@ _LOADED = b'["PostLoad",'
 # The replies to a line that answers null and tells no event.
 NULL = [b'{"events":[],"ok":null}']
 _OBJECT = re.compile(rb'\{"object":([0-9]+)\}')
+_LOADED_ONE = re.compile(
+    rb'\{"events":\[\["PostLoad",([0-9]+)\]\],"ok":\{"object":([0-9]+)\}\}'
+).fullmatch
 _decode = json.JSONDecoder().raw_decode
 # Where the code is that reads replies.
 _READERS = {os.path.dirname(__file__), os.path.dirname(json.__file__)}
@@ -48,6 +51,13 @@ def numbers_of(replies: List[bytes]) -> Optional[List[int]]:
     if len(pieces) != len(replies) or not b"".join(pieces).isdigit() or text.find(b":0") >= 0:
         return None
     return list(map(int, pieces))
+
+
+def loaded_in(reply: bytes) -> Optional[int]:
+    """The number of the one object that a reply is, and that was loaded for it; None where it is
+    anything else, or tells more."""
+    found = _LOADED_ONE(reply)
+    return int(found[1]) if found is not None and found[1] == found[2] else None
 
 
 def said_of(reply: bytes) -> Dict[str, Any]:

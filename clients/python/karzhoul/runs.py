@@ -16,7 +16,7 @@ from .lines import LifecycleEvent, spelled, text_spelled
 from .misfits import misfit
 from .refusals import BadLine, NotServed, Refused, Restarted
 from .refusing import note_written, refusal_told
-from .replies import objects_in, said_of
+from .replies import loaded_in, objects_in, said_of
 from .shown import OVER, Known, Owner, Shown
 
 if TYPE_CHECKING:
@@ -111,6 +111,8 @@ class Run:
     @staticmethod
     def values_lines(numbers: Sequence[int]) -> List[bytes]:
         """The lines that ask for the values of objects, in their order."""
+        if len(numbers) == 1:
+            return [b'{"call":"values","objects":[%d]}' % numbers[0]]
         return [
             b'{"call":"values","objects":[%b]}'
             % ",".join(map(str, numbers[start : start + _AT_ONCE])).encode()
@@ -147,6 +149,18 @@ class Run:
         held = self._objects.get(number)
         known = held() if held else None
         return self._made(number, kind) if known is None else known
+
+    def loaded_one(self, line: bytes, reply: bytes, kind: Type[Entity]) -> Optional[Entity]:
+        """The object that a line has loaded, of this class where its own isn't known; None where
+        the reply is any other one."""
+        number = loaded_in(reply)
+        if number is None:
+            return None
+        self.kinds.load(number, kind)
+        self.loaded = {number: self.known.owner(line)}
+        found = self.object(number)
+        self.loaded = {}
+        return found
 
     def held(self) -> List[Entity]:
         """The objects that are held."""

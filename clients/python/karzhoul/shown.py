@@ -109,7 +109,10 @@ class Known:
         """Whose the objects are that a line loads."""
         found = _OF_MANAGER.match(line)
         if found is not None:
-            return self._owners.setdefault(found[1], Owner())
+            owner = self._owners.get(found[1])
+            if owner is None:
+                owner = self._owners[found[1]] = Owner()
+            return owner
         found = _OF_OBJECT.match(line)
         entity = self._held(int(found[1])) if found is not None else None
         return self.anyone if entity is None else entity._karzhoul_shown.owner
