@@ -58,6 +58,11 @@ class Begun(AbstractContextManager["EntityManager"]):
 
 
 def is_too_late(refused: Refused) -> bool:
-    """Whether a refusal says that another manager came first, so that work may be done again."""
+    """Whether a refusal says that another manager came first, so that work may be done again: it,
+    or what marked the transaction before."""
+    if is_of_callback(refused):
+        return False
     found = refused.cause if isinstance(refused, Rollback) else refused
-    return isinstance(found, (OptimisticLock, Busy)) and not is_of_callback(refused)
+    before, _ = refused._before or ("", "")
+    was_marked = isinstance(refused, Rollback) and found is None and before == "OptimisticLock"
+    return was_marked or isinstance(found, (OptimisticLock, Busy))

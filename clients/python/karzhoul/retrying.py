@@ -22,6 +22,7 @@ _LATE = (
     "ordinary function, and give a list"
 )
 
+
 class Retry:
     """One piece of work that is done until it is done, at most so many times in all."""
 
@@ -49,6 +50,7 @@ class Retry:
                     self._factory.reopen()
             self._factory._tally.note_retry()
             pause(self._refused)
+
 
 class _Attempt:
     """One time that work is done."""

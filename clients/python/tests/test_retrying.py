@@ -124,6 +124,23 @@ class Conflicts(StoreTest):
             told = "".join(traceback.format_exception_only(type(fault), fault))
             self.assertIn(words, told)
 
+    def test_a_conflict_that_the_work_keeps_for_itself(self) -> None:
+        """It marks the transaction, and its commit is refused for that."""
+        person = self.app.new("Person", name="Ada")
+        with self.app.begin() as manager:
+            manager.persist(person)
+        with self.app.begin() as manager:
+            manager.find("Person", 1).name = "Bob"  # type: ignore[union-attr]
+
+        def work(manager: EntityManager) -> None:
+            self.tries += 1
+            if self.tries == 1:
+                with self.assertRaises(karzhoul.OptimisticLock):
+                    manager.merge(person)  # Whose version is another one.
+
+        self.app.retry(work)
+        self.assertEqual(self.tries, 2)
+
     def test_what_else_is_raised_says_how_often_too(self) -> None:
         def work(manager: EntityManager) -> None:
             if self.tries == 1:
