@@ -4,6 +4,7 @@ import jakarta.persistence.EntityNotFoundException;
 import java.lang.ref.WeakReference;
 import java.util.ArrayList;
 import java.util.Arrays;
+import java.util.Collection;
 import java.util.HashMap;
 import java.util.HashSet;
 import java.util.LinkedHashSet;
@@ -154,7 +155,7 @@ final class Fill {
     }
 
     /** Reads a relation of several owners in one go: those that haven't read it. */
-    void fetch(List<Entry> owners, Relation relation) {
+    void fetch(Collection<Entry> owners, Relation relation) {
         for (Entry owner : owners) {
             Object value = relation.get(owner.instance());
             if (relation.isMany() ? Unread.is(value) : isHollow(value)) {

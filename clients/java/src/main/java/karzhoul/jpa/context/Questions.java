@@ -4,8 +4,10 @@ import jakarta.persistence.FlushModeType;
 import jakarta.persistence.LockModeType;
 import java.util.ArrayList;
 import java.util.HashMap;
+import java.util.LinkedHashSet;
 import java.util.List;
 import java.util.Map;
+import java.util.Set;
 import karzhoul.jpa.engine.Reply;
 import karzhoul.jpa.model.Relation;
 import karzhoul.jpa.model.UnitModel;
@@ -103,7 +105,8 @@ final class Questions implements Asking {
         List<Object> pairs = new ArrayList<>();
         for (Parameter parameter : parameters) {
             pairs.add(parameter.name());
-            pairs.add(parameter.value() instanceof Asking.Ref ref ? new karzhoul.jpa.engine.Ref(number((Entry) ref.held())) : parameter.value());
+            pairs.add(parameter.value() instanceof Asking.Ref ref
+                ? new karzhoul.jpa.engine.Ref(number((Entry) ref.held())) : parameter.value());
         }
         int from = context.queue().count();
         context.queue().statement(call, context.manager(), text, pairs, first, max).about("\"" + text + "\"");
@@ -142,10 +145,10 @@ final class Questions implements Asking {
     @Override
     public void fetch(List<Object> instances, Relation relation) {
         context.within(() -> {
-            List<Entry> owners = new ArrayList<>();
+            Set<Entry> owners = new LinkedHashSet<>();
             for (Object instance : instances) {
                 Entry entry = instance == null ? null : context.entryOf(instance);
-                if (entry != null && !owners.contains(entry)) {
+                if (entry != null) {
                     owners.add(entry);
                 }
             }

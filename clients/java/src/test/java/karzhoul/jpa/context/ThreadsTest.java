@@ -11,14 +11,17 @@ import jakarta.persistence.EntityManager;
 import jakarta.persistence.OptimisticLockException;
 import jakarta.persistence.PersistenceException;
 import jakarta.persistence.RollbackException;
+import java.nio.file.Path;
 import java.util.ArrayList;
 import java.util.List;
 import java.util.Queue;
 import java.util.concurrent.ConcurrentLinkedQueue;
+import java.util.concurrent.TimeUnit;
 import java.util.concurrent.atomic.AtomicInteger;
 import karzhoul.jpa.shop.Depot;
 import karzhoul.jpa.shop.Order;
 import karzhoul.jpa.shop.Person;
+import karzhoul.jpa.shop.Shop;
 import org.junit.jupiter.api.Test;
 import org.junit.jupiter.api.Timeout;
 
@@ -231,6 +234,36 @@ class ThreadsTest extends Tried {
         ProcessHandle program = ProcessHandle.of(factory.pool().engine().pid()).orElseThrow();
         program.destroyForcibly();
         program.onExit().join();
+    }
+
+    @Test
+    void aJvmThatIsKilledEndsItsProgram() throws Exception {
+        StringBuilder path = new StringBuilder();
+        for (Class<?> each : List.of(ThreadsTest.class, Factory.class, EntityManager.class, net.bytebuddy.ByteBuddy.class)) {
+            path.append(Path.of(each.getProtectionDomain().getCodeSource().getLocation().toURI())).append(':');
+        }
+        Process other = new ProcessBuilder(ProcessHandle.current().info().command().orElse("java"),
+            "-Dkarzhoul.program=" + Shop.program(), "-cp", path.toString(), Held.class.getName())
+            .redirectError(ProcessBuilder.Redirect.INHERIT).start();
+        long pid = Long.parseLong(other.inputReader().readLine());
+        ProcessHandle program = ProcessHandle.of(pid).orElseThrow();
+        assertTrue(program.isAlive());
+        other.destroyForcibly();
+        program.onExit().get(60, TimeUnit.SECONDS);
+        assertFalse(program.isAlive());
+    }
+
+    /** Holds a factory open in a JVM of its own, and tells the program's process. */
+    static final class Held {
+        public static void main(String[] words) throws InterruptedException {
+            Factory factory = Shop.open();
+            EntityManager manager = factory.createEntityManager();
+            manager.getTransaction().begin();
+            manager.persist(new Person("Ada"));
+            manager.flush();
+            System.out.println(factory.pool().engine().pid());
+            Thread.sleep(600_000);
+        }
     }
 
     @Test
