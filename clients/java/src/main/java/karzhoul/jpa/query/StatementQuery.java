@@ -36,6 +36,10 @@ final class StatementQuery<X> implements TypedQuery<X> {
         this.given = new Given(statement);
     }
 
+    Asking asking() {
+        return asking;
+    }
+
     String text() {
         return statement.text();
     }

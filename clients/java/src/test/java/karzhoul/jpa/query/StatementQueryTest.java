@@ -86,6 +86,9 @@ class StatementQueryTest extends OverShop {
         assertEquals("[Long 10, Long 14]", with(amount + "<= ?1", new BigDecimal("6.9")));
         assertEquals("[]", with(amount + "> ?1", new BigInteger("9".repeat(30))));
         assertEquals("[Long 10, Long 11, Long 13, Long 14]", with(amount + "< ?1", new BigInteger("9".repeat(30))));
+        assertEquals("[]", with(amount + "= ?1", new BigDecimal("1e-1000000000")));
+        assertEquals("[Long 10, Long 11, Long 13, Long 14]", with(amount + "> ?1", new BigDecimal("1e-1000000000")));
+        assertEquals("[]", with(amount + "> ?1", new BigDecimal("1e1000000000")));
         assertEquals("[Long 11]", with("SELECT o.number FROM Order o WHERE o.price = ?1", 2.25));
     }
 
