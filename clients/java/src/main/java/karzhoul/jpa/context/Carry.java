@@ -132,6 +132,9 @@ final class Carry {
             if (relation.isMany() && entry.relations[relation.place()] != Entry.UNREAD) {
                 reads.add(new Read(entry, relation));
             }
+            if (relation.get(entry.instance()) instanceof Lazy lazy) {
+                lazy.change();
+            }
         }
     }
 

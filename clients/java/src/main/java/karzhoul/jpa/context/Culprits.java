@@ -77,11 +77,15 @@ final class Culprits {
     }
 
     private static boolean isStale(Entry entry, Shown shown) {
-        if (shown == null || entry.model().version().isEmpty()) {
-            return shown == null && entry.isStored();
+        if (shown == null) {
+            return entry.isStored();
         }
-        Attribute version = entry.model().version().get();
-        return !Values.isKept(version, shown.values()[version.place()], entry.values[version.place()]);
+        if (entry.model().version().isPresent()) {
+            Attribute version = entry.model().version().get();
+            return !Values.isKept(version, shown.values()[version.place()], entry.values[version.place()]);
+        }
+        return entry.model().attributes().stream().anyMatch(attribute -> !Values.isKept(attribute,
+            shown.values()[attribute.place()], entry.rowValues()[attribute.place()]));
     }
 
     private static Optional<String> missing(Entry entry) {

@@ -150,7 +150,11 @@ public final class Factory implements EntityManagerFactory {
         return new Manager(this, map == null ? Map.of() : map);
     }
 
-    /** @throws IllegalStateException always: there is no JTA here (chapter 7.4) */
+    /**
+     * Refused: there is no JTA with which to synchronize (chapter 7.4).
+     *
+     * @throws IllegalStateException always
+     */
     @Override
     public EntityManager createEntityManager(SynchronizationType synchronizationType) {
         return createEntityManager(synchronizationType, Map.of());

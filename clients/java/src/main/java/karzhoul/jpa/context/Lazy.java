@@ -1,5 +1,6 @@
 package karzhoul.jpa.context;
 
+import jakarta.persistence.PersistenceException;
 import java.util.Collection;
 import java.util.List;
 import karzhoul.jpa.model.Relation;
@@ -16,6 +17,9 @@ interface Lazy {
 
     void clean();
 
+    /** What the program knows of its members may be another now. */
+    void change();
+
     /** Gives it its members. */
     void fill(Collection<?> members);
 
@@ -31,7 +35,7 @@ interface Lazy {
     /** Reads the members of a relation. */
     static List<Object> read(Entry owner, Relation relation) {
         if (owner == null || owner.context() == null) {
-            throw new jakarta.persistence.PersistenceException((owner == null ? "" : owner + ".") + relation.path()
+            throw new PersistenceException((owner == null ? "" : owner + ".") + relation.path()
                 + " wasn't read before its owner was detached: read it, or fetch it by JOIN FETCH, while its entity"
                 + " manager has it");
         }

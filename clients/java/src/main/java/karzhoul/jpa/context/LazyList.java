@@ -53,6 +53,11 @@ final class LazyList extends AbstractList<Object> implements Lazy, RandomAccess,
     }
 
     @Override
+    public void change() {
+        isChanged = true;
+    }
+
+    @Override
     public void fill(Collection<?> now) {
         if (members != null) {
             modCount++;
@@ -102,6 +107,13 @@ final class LazyList extends AbstractList<Object> implements Lazy, RandomAccess,
         modCount++;
         isChanged = true;
         return before;
+    }
+
+    @Override
+    protected void removeRange(int from, int to) {
+        members().subList(from, to).clear();
+        modCount++;
+        isChanged = true;
     }
 
     @Override

@@ -53,6 +53,11 @@ final class LazySet extends AbstractSet<Object> implements Lazy, Serializable {
     }
 
     @Override
+    public void change() {
+        isChanged = true;
+    }
+
+    @Override
     public void fill(Collection<?> now) {
         members = new LinkedHashSet<>(now);
         isChanged = false;

@@ -340,7 +340,11 @@ final class Manager implements EntityManager {
         throw refusal.get();
     }
 
-    /** @throws TransactionRequiredException always: there is no JTA transaction to join (chapter 7.9.1) */
+    /**
+     * Refused: there is no JTA transaction to join (chapter 7.9.1).
+     *
+     * @throws TransactionRequiredException always
+     */
     @Override
     public void joinTransaction() {
         needOpen();

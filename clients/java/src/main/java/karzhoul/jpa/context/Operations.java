@@ -5,6 +5,7 @@ import jakarta.persistence.EntityNotFoundException;
 import jakarta.persistence.LockModeType;
 import jakarta.persistence.PersistenceException;
 import java.util.ArrayList;
+import java.util.Collection;
 import java.util.LinkedHashSet;
 import java.util.List;
 import java.util.Set;
@@ -90,17 +91,15 @@ final class Operations {
         int from = queue.count();
         queue.remove(context.manager(), entry.number()).about(entry);
         context.touched(true);
-        removed(context.ask(from)[0].events());
-        for (Entry each : reached) {
-            removeJoined(each);
-        }
+        removed(context.ask(from)[0].events()).forEach(this::removeJoined);
     }
 
     /** A joined relation that removes orphans goes on with remove, of which the program doesn't know. */
     private void removeJoined(Entry owner) {
         for (Relation relation : owner.model().relations()) {
             if (relation.isJoined() && relation.removesOrphans()) {
-                for (Object member : List.copyOf((java.util.Collection<?>) relation.get(owner.instance()))) {
+                Collection<?> members = (Collection<?>) relation.get(owner.instance());
+                for (Object member : members == null ? List.of() : List.copyOf(members)) {
                     Entry entry = context.entryOf(member);
                     if (entry != null && entry.isManaged()) {
                         remove(entry);
@@ -110,7 +109,7 @@ final class Operations {
         }
     }
 
-    private void removed(List<Event> events) {
+    private List<Entry> removed(List<Event> events) {
         List<Object> unknown = new ArrayList<>();
         for (Event event : events) {
             if (event.kind() == Callbacks.Event.PreRemove && context.identities().of(event.number()) == null) {
@@ -133,6 +132,7 @@ final class Operations {
                 context.run(Callbacks.Event.PreRemove, entry);
             }
         }
+        return removed;
     }
 
     private void removeNew(Object instance) {

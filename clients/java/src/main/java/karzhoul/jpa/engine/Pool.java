@@ -28,6 +28,9 @@ public final class Pool implements AutoCloseable {
     static final int HIGH = 500_000;
     static final int MOST = 990_000;
     private static final int STEP = 50_000;
+
+    /** As many objects that were made again for idle managers may be in a run. */
+    private static final int MOST_HIGH = 800_000;
     private static final long PATIENCE = TimeUnit.MILLISECONDS.toNanos(200);
 
     private final Supplier<Engine> starting;
@@ -150,7 +153,7 @@ public final class Pool implements AutoCloseable {
     public void carried(int objects) {
         lock.lock();
         try {
-            high = Math.min(MOST, high + objects);
+            high = Math.min(MOST_HIGH, high + objects);
             gate = Math.max(gate, high);
         } finally {
             lock.unlock();

@@ -22,6 +22,7 @@ import karzhoul.jpa.shop.Depot;
 import karzhoul.jpa.shop.Order;
 import karzhoul.jpa.shop.Person;
 import karzhoul.jpa.shop.Shop;
+import karzhoul.jpa.shop.Tag;
 import org.junit.jupiter.api.Test;
 import org.junit.jupiter.api.Timeout;
 
@@ -140,6 +141,22 @@ class ThreadsTest extends Tried {
         assertTrue(factory.pool().restartIfIdle());
         commit(() -> ada.add(new Order(3, 3)));
         assertEquals(3, orders());
+    }
+
+    @Test
+    void whatWasToldBeforeTheEndOfARunIsToldAgain() {
+        store(new Person("Ada"), new Tag("x"));
+        Person ada = manager.find(Person.class, 1L);
+        ada.getTags().add(manager.find(Tag.class, "x"));
+        ada.add(new Order(1, 1));
+        ada.setName("Bea");
+        manager.persist(ada);
+        assertTrue(factory.pool().restartIfIdle());
+        commit(() -> { });
+        assertEquals("Bea 1 1", read(other -> {
+            Person stored = other.find(Person.class, 1L);
+            return stored.getName() + " " + stored.getTags().size() + " " + stored.getOrders().size();
+        }));
     }
 
     @Test
