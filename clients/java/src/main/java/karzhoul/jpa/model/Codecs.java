@@ -3,6 +3,7 @@ package karzhoul.jpa.model;
 import jakarta.persistence.AttributeConverter;
 import jakarta.persistence.Column;
 import jakarta.persistence.Convert;
+import jakarta.persistence.Entity;
 import jakarta.persistence.EnumType;
 import jakarta.persistence.Enumerated;
 import jakarta.persistence.Id;
@@ -106,11 +107,11 @@ final class Codecs {
 
     private static boolean isValue(Class<?> type) {
         return !Collection.class.isAssignableFrom(type) && !Map.class.isAssignableFrom(type)
-                && !type.isAnnotationPresent(jakarta.persistence.Entity.class);
+                && !type.isAnnotationPresent(Entity.class);
     }
 
     private void tellNone(Member member, Class<?> type) {
-        if (type.isAnnotationPresent(jakarta.persistence.Entity.class)) {
+        if (type.isAnnotationPresent(Entity.class)) {
             faults.add(member, "it leads to an entity, and doesn't say how", "Add @ManyToOne or @OneToOne");
         } else if (Collection.class.isAssignableFrom(type) || Map.class.isAssignableFrom(type)) {
             faults.add(member, "a collection is no basic value", "Add @OneToMany or @ManyToMany, or @Convert, or @Transient");

@@ -7,8 +7,10 @@ import java.time.Instant;
 import java.time.LocalDate;
 import java.time.LocalTime;
 import java.time.ZoneId;
+import java.time.ZonedDateTime;
 import java.util.Calendar;
 import java.util.Date;
+import java.util.GregorianCalendar;
 import java.util.function.Function;
 
 /**
@@ -33,7 +35,7 @@ final class DateCodecs {
         if (type == Date.class) {
             return of(precision, type, value -> (Date) value, Date::new);
         }
-        if (type == Calendar.class || type == java.util.GregorianCalendar.class) {
+        if (type == Calendar.class || type == GregorianCalendar.class) {
             return of(precision, type, value -> ((Calendar) value).getTime(), DateCodecs::calendar);
         }
         return null;
@@ -67,7 +69,7 @@ final class DateCodecs {
         return date.getTime();
     }
 
-    private static java.time.ZonedDateTime local(Date date) {
+    private static ZonedDateTime local(Date date) {
         return Instant.ofEpochMilli(date.getTime()).atZone(ZoneId.systemDefault());
     }
 

@@ -1,6 +1,7 @@
 package karzhoul.jpa.model;
 
 import java.util.List;
+import java.util.Locale;
 import java.util.SortedMap;
 import java.util.TreeMap;
 import java.util.stream.Collectors;
@@ -54,7 +55,7 @@ final class DescriptionWriter {
     }
 
     private static String kept(Codec codec) {
-        return codec.sort().name().toLowerCase(java.util.Locale.ROOT) + " (" + codec.meaning() + ")";
+        return codec.sort().name().toLowerCase(Locale.ROOT) + " (" + codec.meaning() + ")";
     }
 
     private void put(String name, String meaning) {

@@ -12,6 +12,7 @@ import jakarta.persistence.MappedSuperclass;
 import jakarta.persistence.Version;
 import java.lang.invoke.MethodHandle;
 import java.lang.reflect.Modifier;
+import java.lang.reflect.ParameterizedType;
 import java.lang.reflect.Type;
 import java.lang.reflect.TypeVariable;
 import java.util.ArrayList;
@@ -249,7 +250,7 @@ final class EntityReader {
     List<Member> embeddedMembers(Class<?> type, Member holder) {
         Map<TypeVariable<?>, Type> arguments = new LinkedHashMap<>(known);
         arguments.putAll(Types.arguments(type));
-        if (holder.type() instanceof java.lang.reflect.ParameterizedType applied) {
+        if (holder.type() instanceof ParameterizedType applied) {
             for (int i = 0; i < type.getTypeParameters().length; i++) {
                 arguments.put(type.getTypeParameters()[i], applied.getActualTypeArguments()[i]);
             }

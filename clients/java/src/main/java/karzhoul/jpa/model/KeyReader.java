@@ -6,9 +6,11 @@ import jakarta.persistence.Embeddable;
 import jakarta.persistence.EmbeddedId;
 import jakarta.persistence.GeneratedValue;
 import jakarta.persistence.GenerationType;
+import jakarta.persistence.Id;
 import jakarta.persistence.IdClass;
 import jakarta.persistence.MapsId;
 import java.lang.invoke.MethodHandle;
+import java.math.BigInteger;
 import java.util.ArrayList;
 import java.util.HashSet;
 import java.util.List;
@@ -116,7 +118,7 @@ final class KeyReader {
     }
 
     private Optional<Codec> codec(Member member, Scope scope) {
-        if (member.has(GeneratedValue.class) && !member.has(jakarta.persistence.Id.class)) {
+        if (member.has(GeneratedValue.class) && !member.has(Id.class)) {
             faults.add(member, "a part of a key isn't generated", "Leave out @GeneratedValue");
         }
         Optional<Column> column = scope.column(member.name()).or(() -> member.find(Column.class));
@@ -250,7 +252,7 @@ final class KeyReader {
 
     private static boolean isCounted(Class<?> type) {
         return type == Long.class || type == Integer.class || type == Short.class || type == Byte.class
-                || type == java.math.BigInteger.class;
+                || type == BigInteger.class;
     }
 
     private static PlainKey.Holder holder(Class<?> javaClass, MethodHandle constructor, List<Part> parts) {

@@ -22,6 +22,7 @@ import java.util.Calendar;
 import java.util.Date;
 import java.util.List;
 import java.util.Set;
+import java.util.function.Function;
 import java.util.function.Predicate;
 
 /** Tells annotations that can't be kept, or that don't go together: none is passed over. */
@@ -87,7 +88,7 @@ final class MemberCheck {
     }
 
     private <A> void tellUnknown(
-            Member member, String annotation, A[] all, java.util.function.Function<A, String> name, Predicate<String> isThere) {
+            Member member, String annotation, A[] all, Function<A, String> name, Predicate<String> isThere) {
         for (A one : all) {
             if (!isThere.test(name.apply(one))) {
                 faults.add(member, annotation + " names \"" + name.apply(one) + "\", which " + member.javaType().getName()

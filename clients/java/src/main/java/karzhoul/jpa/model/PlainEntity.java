@@ -1,6 +1,7 @@
 package karzhoul.jpa.model;
 
 import java.lang.invoke.MethodHandle;
+import java.lang.reflect.Modifier;
 import java.util.ArrayList;
 import java.util.HashSet;
 import java.util.List;
@@ -36,7 +37,7 @@ final class PlainEntity implements EntityModel {
         this.above = above;
         this.table = table;
         this.discriminator = discriminator;
-        this.isAbstract = java.lang.reflect.Modifier.isAbstract(javaClass.getModifiers());
+        this.isAbstract = Modifier.isAbstract(javaClass.getModifiers());
         if (above != null) {
             above.below = Stream.concat(above.below.stream(), Stream.of(this)).toList();
         }

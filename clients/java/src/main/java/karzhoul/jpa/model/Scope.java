@@ -7,6 +7,7 @@ import jakarta.persistence.Convert;
 import java.lang.reflect.AnnotatedElement;
 import java.util.Arrays;
 import java.util.Optional;
+import java.util.function.BiFunction;
 import java.util.function.Predicate;
 
 /**
@@ -34,7 +35,7 @@ record Scope(Scope outer, String prefix, AnnotatedElement element) {
                 .or(() -> first(element.getAnnotationsByType(Convert.class), it -> it.attributeName().equals(path)));
     }
 
-    private <A> Optional<A> inOuter(String path, java.util.function.BiFunction<Scope, String, Optional<A>> find) {
+    private <A> Optional<A> inOuter(String path, BiFunction<Scope, String, Optional<A>> find) {
         return outer == null ? Optional.empty() : find.apply(outer, prefix + path);
     }
 
