@@ -21,16 +21,17 @@ import java.util.function.Supplier;
 /** The converters of a unit (chapter 3.9). */
 final class Converters {
     private static final Set<Class<?>> IMMUTABLE = Set.of(
-            String.class, Boolean.class, Character.class, Byte.class, Short.class, Integer.class, Long.class, Float.class,
-            Double.class, BigDecimal.class, BigInteger.class, UUID.class,
-            Locale.class, Currency.class, URI.class, URL.class);
+            String.class, Boolean.class, Character.class, Byte.class, Short.class, Integer.class, Long.class,
+            Float.class, Double.class, BigDecimal.class, BigInteger.class, UUID.class, Locale.class, Currency.class,
+            URI.class, URL.class);
 
     /**
      * A codec through a converter, which is asked of null too.
      *
      * @param kept the codec of what the converter answers
      */
-    private record Converted(AttributeConverter<Object, Object> converter, Class<?> javaType, Codec kept) implements Codec {
+    private record Converted(AttributeConverter<Object, Object> converter, Class<?> javaType, Codec kept)
+            implements Codec {
         @Override
         public Sort sort() {
             return kept.sort();
@@ -56,7 +57,8 @@ final class Converters {
             } catch (PersistenceException raised) {
                 throw raised;
             } catch (RuntimeException raised) {
-                throw new PersistenceException("the converter " + converter.getClass().getName() + " raised " + raised, raised);
+                throw new PersistenceException("the converter " + converter.getClass().getName() + " raised " + raised,
+                        raised);
             }
         }
 

@@ -46,9 +46,11 @@ final class DescriptionWriter {
     private void relation(String table, PlainRelation relation) {
         String target = ((PlainEntity) relation.target()).table();
         if (relation.isMany()) {
-            put("the join table " + relation.storedName(), "number " + relation.number() + ", from " + table + " to " + target);
+            put("the join table " + relation.storedName(), "number " + relation.number() + ", from " + table + " to "
+                    + target);
         } else {
-            put("the column " + relation.storedName() + " of the table " + table, "number " + relation.number() + ", a row of "
+            put("the column " + relation.storedName() + " of the table " + table, "number " + relation.number()
+                    + ", a row of "
                     + target + (relation.isRequired() ? ", never null" : "")
                     + (relation.kind() == Relation.Kind.ONE_TO_ONE ? ", at most one to each" : ""));
         }

@@ -30,7 +30,8 @@ final class PlainEntity implements EntityModel {
     private Callbacks callbacks;
     private MethodHandle constructor;
 
-    PlainEntity(Class<?> javaClass, String name, String mappedName, PlainEntity above, String table, String discriminator) {
+    PlainEntity(Class<?> javaClass, String name, String mappedName, PlainEntity above, String table,
+            String discriminator) {
         this.javaClass = javaClass;
         this.name = name;
         this.mappedName = mappedName;
@@ -146,7 +147,8 @@ final class PlainEntity implements EntityModel {
     Optional<Attribute> find(String path) {
         Stream<Attribute> top = above != null ? above.find(path).stream()
                 : Stream.concat(version().stream(), key == null ? Stream.empty() : key.parts().stream());
-        return Stream.concat(top, ownAttributes.stream()).filter(attribute -> attribute.path().equals(path)).findFirst();
+        return Stream.concat(top, ownAttributes.stream()).filter(attribute -> attribute.path().equals(path))
+                .findFirst();
     }
 
     @Override

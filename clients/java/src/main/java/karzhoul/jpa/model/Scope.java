@@ -19,10 +19,9 @@ import java.util.function.Predicate;
  */
 record Scope(Scope outer, String prefix, AnnotatedElement element) {
     Optional<Column> column(String path) {
-        return inOuter(path, Scope::column).or(() -> Arrays.stream(element.getAnnotationsByType(AttributeOverride.class))
-                .filter(override -> override.name().equals(path))
-                .map(AttributeOverride::column)
-                .findFirst());
+        return inOuter(path, Scope::column)
+                .or(() -> first(element.getAnnotationsByType(AttributeOverride.class), it -> it.name().equals(path))
+                        .map(AttributeOverride::column));
     }
 
     Optional<AssociationOverride> association(String path) {

@@ -91,9 +91,11 @@ public final class Units {
         orNone(info.getJarFileUrls()).forEach(url -> place(url).ifPresent(jars::add));
         boolean isJta = info.getTransactionType() == PersistenceUnitTransactionType.JTA;
         boolean needsValidation = info.getValidationMode() == ValidationMode.CALLBACK;
-        return new Declared("the persistence unit " + info.getPersistenceUnitName(), place(info.getPersistenceUnitRootUrl()),
+        return new Declared("the persistence unit " + info.getPersistenceUnitName(),
+                place(info.getPersistenceUnitRootUrl()),
                 info.getPersistenceUnitName(), Optional.ofNullable(info.getPersistenceProviderClassName()), isJta,
-                orNone(info.getManagedClassNames()), jars, orNone(info.getMappingFileNames()), info.excludeUnlistedClasses(),
+                orNone(info.getManagedClassNames()), jars, orNone(info.getMappingFileNames()),
+                        info.excludeUnlistedClasses(),
                 needsValidation, properties);
     }
 
