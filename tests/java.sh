@@ -27,7 +27,7 @@ junit=$junit:$libraries/junit-platform-commons.jar:$libraries/apiguardian-api.ja
 
 rm -rf "$build/test-classes"
 mkdir -p "$build/test-classes"
-javac -Xlint:all,-classfile,-options,-processing,-path,-rawtypes,-serial,-try -d "$build/test-classes" \
+javac -J-XX:TieredStopAtLevel=1 -J-XX:+UseSerialGC -Xlint:all,-classfile,-options,-processing,-path,-rawtypes,-serial,-try -d "$build/test-classes" \
     -cp "$classes:$path:$junit" $(find clients/java/src/test/java -name '*.java') || exit 1
 [ ! -d clients/java/src/test/resources ] || cp -r clients/java/src/test/resources/. "$build/test-classes"
 
@@ -36,6 +36,6 @@ for class in "$@"; do
     wanted+=(--include-classname ".*[.]$class")
 done
 export TZ=${TZ-Europe/Zurich}
-timeout 900 java -ea -Xmx512m -Dkarzhoul.program="$(realpath "$program")" -jar "$console" \
+timeout 900 java -ea -Xmx512m -XX:TieredStopAtLevel=1 -XX:+UseSerialGC -Dkarzhoul.program="$(realpath "$program")" -jar "$console" \
     -cp "$build/test-classes:$classes:$path" "${wanted[@]}" \
     --disable-banner --disable-ansi-colors --details=summary --fail-if-no-tests 2>&1

@@ -49,6 +49,11 @@ final class Questions implements Asking {
     }
 
     @Override
+    public <E extends RuntimeException> E marked(E raised) {
+        return context.marked(raised);
+    }
+
+    @Override
     public void flushBefore(FlushModeType mode) {
         if (context.isActive() && mode == FlushModeType.AUTO) {
             manager.flushNow();

@@ -32,8 +32,8 @@ public final class StoreDescription {
     private static final int PART_BYTES = 60_000;
     private static final String MARK = ".new";
     private static final String NULL = "\"ok\":null}";
-    private static final String REMEDY = "Keep the names of before, by @Entity, @Table, @Column, @JoinColumn, @JoinTable and "
-            + "@DiscriminatorValue; or take another file for a new store.";
+    private static final String REMEDY = "Keep the names of before, by @Entity, @Table, @Column, @JoinColumn, "
+            + "@JoinTable and @DiscriminatorValue; or take another file for a new store.";
 
     private final Path store;
     private final String description;
@@ -81,8 +81,8 @@ public final class StoreDescription {
         program.ask("{\"call\":\"createEntityManager\"}");
         String stored = read(program);
         if (stored == null && !isNew) {
-            throw new PersistenceException("The store " + store + " doesn't say with which classes it was written, as one "
-                    + "of a Java unit does: it is another client's. " + REMEDY);
+            throw new PersistenceException("The store " + store + " doesn't say with which classes it was written, as "
+                    + "one of a Java unit does: it is another client's. " + REMEDY);
         }
         if (stored == null) {
             write(program);
@@ -107,7 +107,7 @@ public final class StoreDescription {
                 Files.deleteIfExists(mark);
                 return refused;
             }
-            String stored = isNew ? null : readAlone(program);
+            String stored = readAlone(program);
             return stored == null || stored.equals(description) ? refused : refused(stored);
         } catch (IOException | InterruptedException fault) {
             refused.addSuppressed(fault);
@@ -130,7 +130,8 @@ public final class StoreDescription {
             if (other == null) {
                 words.append("\n- the store has ").append(name).append(", and the classes don't");
             } else if (!other.equals(meaning)) {
-                words.append("\n- ").append(name).append(" is ").append(meaning).append(" in the store, and ").append(other)
+                words.append("\n- ").append(name).append(" is ").append(meaning).append(" in the store, and ")
+                        .append(other)
                         .append(" by the classes");
             }
         });
@@ -151,7 +152,8 @@ public final class StoreDescription {
     private static String read(Dialogue program) throws IOException {
         ByteArrayOutputStream bytes = new ByteArrayOutputStream();
         for (int part = 1;; part++) {
-            String found = program.ask("{\"call\":\"find\",\"em\":1,\"entity\":\"" + ENTITY + "\",\"key\":[" + part + "]}");
+            String found = program.ask("{\"call\":\"find\",\"em\":1,\"entity\":\"" + ENTITY + "\",\"key\":[" + part
+                    + "]}");
             if (found.endsWith(NULL)) {
                 return part == 1 ? null : bytes.toString(StandardCharsets.UTF_8);
             }
@@ -227,7 +229,8 @@ public final class StoreDescription {
             }
             String answer = reply.toString(StandardCharsets.UTF_8);
             if (answer.startsWith("{\"error\"")) {
-                throw new IOException("the program answered " + answer + " to " + line.substring(0, Math.min(line.length(), 80)));
+                throw new IOException("the program answered " + answer + " to "
+                        + line.substring(0, Math.min(line.length(), 80)));
             }
             return answer;
         }

@@ -32,13 +32,15 @@ final class BasicCodecs {
         number(Short.class, kept -> (short) within(kept, Short.MIN_VALUE, Short.MAX_VALUE));
         number(Byte.class, kept -> (byte) within(kept, Byte.MIN_VALUE, Byte.MAX_VALUE));
         whole(BigInteger.class, BasicCodecs::whole, BigInteger::valueOf);
-        add(Sort.INT, Boolean.class, "truth", value -> (Boolean) value ? 1L : 0L, kept -> within((Long) kept, 0, 1) == 1);
+        add(Sort.INT, Boolean.class, "truth", value -> (Boolean) value ? 1L : 0L,
+                kept -> within((Long) kept, 0, 1) == 1);
         add(Sort.INT, Double.class, "double", value -> sortable(Double.doubleToLongBits((Double) value)),
                 kept -> Double.longBitsToDouble(sortable((Long) kept)));
         add(Sort.INT, Float.class, "float", value -> (long) sortable(Float.floatToIntBits((Float) value)),
                 kept -> Float.intBitsToFloat(sortable(Math.toIntExact((Long) kept))));
         add(Sort.TEXT, String.class, "text", value -> Limits.text((String) value), kept -> kept);
-        add(Sort.TEXT, Character.class, "text", value -> Limits.text(value.toString()), kept -> onlyCharacter((String) kept));
+        add(Sort.TEXT, Character.class, "text", value -> Limits.text(value.toString()),
+                kept -> onlyCharacter((String) kept));
         add(Sort.TEXT, UUID.class, "uuid", Object::toString, kept -> UUID.fromString((String) kept));
         add(Sort.INT, LocalDate.class, "day", value -> ((LocalDate) value).toEpochDay(),
                 kept -> LocalDate.ofEpochDay((Long) kept));
@@ -52,8 +54,10 @@ final class BasicCodecs {
                 kept -> TimeTexts.readOffset((String) kept));
         add(Sort.TEXT, OffsetTime.class, "offset time of day", value -> TimeTexts.write((OffsetTime) value),
                 kept -> TimeTexts.readOffsetTime((String) kept));
-        mutable(Sort.BYTES, byte[].class, "bytes", value -> Limits.bytes((byte[]) value), kept -> ((byte[]) kept).clone());
-        mutable(Sort.BYTES, Byte[].class, "bytes", value -> Limits.bytes(unboxed((Byte[]) value)), kept -> boxed((byte[]) kept));
+        mutable(Sort.BYTES, byte[].class, "bytes", value -> Limits.bytes((byte[]) value),
+                kept -> ((byte[]) kept).clone());
+        mutable(Sort.BYTES, Byte[].class, "bytes", value -> Limits.bytes(unboxed((Byte[]) value)),
+                kept -> boxed((byte[]) kept));
         mutable(Sort.TEXT, char[].class, "text", value -> Limits.text(new String((char[]) value)),
                 kept -> ((String) kept).toCharArray());
         mutable(Sort.TEXT, Character[].class, "text", value -> Limits.text(unboxed((Character[]) value)),
@@ -78,14 +82,16 @@ final class BasicCodecs {
             return value.setScale(scale, RoundingMode.UNNECESSARY).unscaledValue().longValueExact();
         } catch (ArithmeticException inexact) {
             throw new IllegalArgumentException(value + " can't be kept: there are " + scale
-                    + " digits behind the point, and 64 bits for all; @Column(precision, scale) says how many", inexact);
+                    + " digits behind the point, and 64 bits for all; @Column(precision, scale) says how many",
+                    inexact);
         }
     }
 
     /** An enum by its place. */
     static Codec ordinal(Class<?> type) {
         Object[] constants = type.getEnumConstants();
-        String meaning = Arrays.stream(constants).map(it -> ((Enum<?>) it).name()).collect(Collectors.joining(" ", "places of ", ""));
+        String meaning = Arrays.stream(constants).map(it -> ((Enum<?>) it).name())
+                .collect(Collectors.joining(" ", "places of ", ""));
         return new ValueCodec(Sort.INT, type, false, meaning, value -> (long) ((Enum<?>) value).ordinal(),
                 kept -> constants[Math.toIntExact((Long) kept)]);
     }
@@ -155,11 +161,13 @@ final class BasicCodecs {
         FIXED.put(type, new ValueCodec(Sort.INT, type, false, "whole", to, kept -> back.apply((Long) kept)));
     }
 
-    private static void add(Sort sort, Class<?> type, String meaning, Function<Object, Object> to, Function<Object, Object> back) {
+    private static void add(Sort sort, Class<?> type, String meaning, Function<Object, Object> to,
+            Function<Object, Object> back) {
         FIXED.put(type, new ValueCodec(sort, type, false, meaning, to, back));
     }
 
-    private static void mutable(Sort sort, Class<?> type, String meaning, Function<Object, Object> to, Function<Object, Object> back) {
+    private static void mutable(Sort sort, Class<?> type, String meaning, Function<Object, Object> to,
+            Function<Object, Object> back) {
         FIXED.put(type, new ValueCodec(sort, type, true, meaning, to, back));
     }
 

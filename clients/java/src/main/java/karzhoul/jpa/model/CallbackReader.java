@@ -112,7 +112,8 @@ final class CallbackReader {
         return all;
     }
 
-    private void readListener(Class<?> entity, Class<?> listener, Class<?> declaring, Map<Event, List<MethodHandle>> found) {
+    private void readListener(Class<?> entity, Class<?> listener, Class<?> declaring,
+            Map<Event, List<MethodHandle>> found) {
         for (var event : eventsOf(declaring).entrySet()) {
             Method method = event.getValue();
             if (!isWell(method, 1)) {
@@ -120,7 +121,8 @@ final class CallbackReader {
             }
             Class<?> takes = method.getParameterTypes()[0];
             if (!takes.isAssignableFrom(entity)) {
-                faults.add(declaring, method.getName(), "it takes " + takes.getName() + ", and listens to " + entity.getName() + " too",
+                faults.add(declaring, method.getName(), "it takes " + takes.getName() + ", and listens to "
+                        + entity.getName() + " too",
                         "Let it take Object, or a class above all that it listens to");
                 continue;
             }
@@ -194,7 +196,8 @@ final class CallbackReader {
         try {
             return Optional.of(Accessor.lookupIn(method.getDeclaringClass()).unreflect(method));
         } catch (IllegalAccessException closed) {
-            faults.add(method.getDeclaringClass(), "its module doesn't open its package", Members.openWords(method.getDeclaringClass()));
+            faults.add(method.getDeclaringClass(), "its module doesn't open its package",
+                    Members.openWords(method.getDeclaringClass()));
             return Optional.empty();
         }
     }

@@ -35,7 +35,8 @@ final class Classes {
         }
         Table table = javaClass.getAnnotation(Table.class);
         if (table != null && table.uniqueConstraints().length > 0) {
-            faults.add(javaClass, "unique constraints aren't kept", "Leave uniqueConstraints out, or make the value the key");
+            faults.add(javaClass, "unique constraints aren't kept",
+                    "Leave uniqueConstraints out, or make the value the key");
         }
         if (javaClass.getAnnotationsByType(NamedNativeQuery.class).length > 0
                 || javaClass.getAnnotationsByType(NamedStoredProcedureQuery.class).length > 0

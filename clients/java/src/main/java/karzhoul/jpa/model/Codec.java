@@ -26,8 +26,8 @@ public interface Codec {
     boolean isMutable();
 
     /**
-     * What the kept stands for: values of two codecs may be compared as they are kept where this is the same. "whole" is
-     * a number as itself, "decimal of 2" its hundreds, "text" a text as itself. A store remembers these words.
+     * What the kept stands for: values of two codecs may be compared as they are kept where this is the same. "whole"
+     * is a number as itself, "decimal of 2" its hundreds, "text" a text as itself. A store remembers these words.
      */
     String meaning();
 }

@@ -3,6 +3,7 @@ package karzhoul.jpa.model;
 import jakarta.persistence.AttributeConverter;
 import jakarta.persistence.Column;
 import jakarta.persistence.Convert;
+import jakarta.persistence.Entity;
 import jakarta.persistence.EnumType;
 import jakarta.persistence.Enumerated;
 import jakarta.persistence.Id;
@@ -35,10 +36,12 @@ final class Codecs {
      * @param path its path from the members that the scope is about
      */
     Optional<Codec> of(Member member, Scope scope, String path, Optional<Column> column) {
-        Optional<Convert> convert = scope.convert(path).or(() -> member.find(Convert.class).filter(it -> it.attributeName().isEmpty()));
+        Optional<Convert> convert = scope.convert(path).or(() -> member.find(Convert.class)
+                .filter(it -> it.attributeName().isEmpty()));
         boolean isOff = convert.isPresent() && convert.get().disableConversion();
         boolean isNamed = convert.isPresent() && !isOff && isConverter(convert.get().converter());
-        boolean isFixed = member.has(Id.class) || member.has(Version.class) || member.has(Enumerated.class) || member.has(Temporal.class);
+        boolean isFixed = member.has(Id.class) || member.has(Version.class) || member.has(Enumerated.class)
+                || member.has(Temporal.class);
         if (isNamed && (member.has(Id.class) || member.has(Version.class))) {
             faults.add(member, "a key and a version take no converter", "Leave out @Convert, and convert in Java");
             return Optional.empty();
@@ -57,8 +60,10 @@ final class Codecs {
     private Optional<Codec> converted(Member member, Class<?> converter) {
         Optional<Codec> codec = converters.of(converter);
         Class<?> boxed = Types.boxed(member.javaType());
-        if (codec.isPresent() && !codec.get().javaType().isAssignableFrom(boxed) && !boxed.isAssignableFrom(codec.get().javaType())) {
-            faults.add(member, "its converter is of " + codec.get().javaType().getName() + ", and it is of " + boxed.getName(),
+        if (codec.isPresent() && !codec.get().javaType().isAssignableFrom(boxed)
+                && !boxed.isAssignableFrom(codec.get().javaType())) {
+            faults.add(member, "its converter is of " + codec.get().javaType().getName() + ", and it is of "
+                    + boxed.getName(),
                     "Name a converter of its type");
             return Optional.empty();
         }
@@ -106,14 +111,15 @@ final class Codecs {
 
     private static boolean isValue(Class<?> type) {
         return !Collection.class.isAssignableFrom(type) && !Map.class.isAssignableFrom(type)
-                && !type.isAnnotationPresent(jakarta.persistence.Entity.class);
+                && !type.isAnnotationPresent(Entity.class);
     }
 
     private void tellNone(Member member, Class<?> type) {
-        if (type.isAnnotationPresent(jakarta.persistence.Entity.class)) {
+        if (type.isAnnotationPresent(Entity.class)) {
             faults.add(member, "it leads to an entity, and doesn't say how", "Add @ManyToOne or @OneToOne");
         } else if (Collection.class.isAssignableFrom(type) || Map.class.isAssignableFrom(type)) {
-            faults.add(member, "a collection is no basic value", "Add @OneToMany or @ManyToMany, or @Convert, or @Transient");
+            faults.add(member, "a collection is no basic value",
+                    "Add @OneToMany or @ManyToMany, or @Convert, or @Transient");
         } else {
             faults.add(member, type.getName() + " is no basic type, no enum, and not Serializable",
                     "Add @Convert, @Embedded with an @Embeddable class, or @Transient");

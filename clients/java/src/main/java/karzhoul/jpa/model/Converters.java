@@ -4,24 +4,34 @@ import jakarta.persistence.AttributeConverter;
 import jakarta.persistence.Converter;
 import jakarta.persistence.PersistenceException;
 import java.lang.reflect.Type;
+import java.lang.reflect.TypeVariable;
+import java.math.BigDecimal;
+import java.math.BigInteger;
+import java.net.URI;
+import java.net.URL;
+import java.util.Currency;
 import java.util.HashMap;
+import java.util.Locale;
 import java.util.Map;
 import java.util.Optional;
 import java.util.Set;
+import java.util.UUID;
+import java.util.function.Supplier;
 
 /** The converters of a unit (chapter 3.9). */
 final class Converters {
     private static final Set<Class<?>> IMMUTABLE = Set.of(
-            String.class, Boolean.class, Character.class, Byte.class, Short.class, Integer.class, Long.class, Float.class,
-            Double.class, java.math.BigDecimal.class, java.math.BigInteger.class, java.util.UUID.class,
-            java.util.Locale.class, java.util.Currency.class, java.net.URI.class, java.net.URL.class);
+            String.class, Boolean.class, Character.class, Byte.class, Short.class, Integer.class, Long.class,
+            Float.class, Double.class, BigDecimal.class, BigInteger.class, UUID.class, Locale.class, Currency.class,
+            URI.class, URL.class);
 
     /**
      * A codec through a converter, which is asked of null too.
      *
      * @param kept the codec of what the converter answers
      */
-    private record Converted(AttributeConverter<Object, Object> converter, Class<?> javaType, Codec kept) implements Codec {
+    private record Converted(AttributeConverter<Object, Object> converter, Class<?> javaType, Codec kept)
+            implements Codec {
         @Override
         public Sort sort() {
             return kept.sort();
@@ -41,13 +51,14 @@ final class Converters {
             return raised(() -> converter.convertToEntityAttribute(kept.toAttribute(column)));
         }
 
-        private Object raised(java.util.function.Supplier<Object> conversion) {
+        private Object raised(Supplier<Object> conversion) {
             try {
                 return conversion.get();
             } catch (PersistenceException raised) {
                 throw raised;
             } catch (RuntimeException raised) {
-                throw new PersistenceException("the converter " + converter.getClass().getName() + " raised " + raised, raised);
+                throw new PersistenceException("the converter " + converter.getClass().getName() + " raised " + raised,
+                        raised);
             }
         }
 
@@ -104,11 +115,11 @@ final class Converters {
             faults.add(javaClass, "it is no AttributeConverter", "Implement AttributeConverter<X, Y>");
             return Optional.empty();
         }
-        Map<?, Type> arguments = Types.arguments(javaClass);
+        Map<TypeVariable<?>, Type> arguments = Types.arguments(javaClass);
         var variables = AttributeConverter.class.getTypeParameters();
-        Class<?> attribute = Types.raw(Types.resolve(variables[0], (Map<java.lang.reflect.TypeVariable<?>, Type>) arguments));
-        Class<?> column = Types.raw(Types.resolve(variables[1], (Map<java.lang.reflect.TypeVariable<?>, Type>) arguments));
-        Codec kept = column == java.math.BigDecimal.class ? BasicCodecs.decimal(Codecs.USUAL_SCALE) : Codecs.plain(column);
+        Class<?> attribute = Types.raw(Types.resolve(variables[0], arguments));
+        Class<?> column = Types.raw(Types.resolve(variables[1], arguments));
+        Codec kept = column == BigDecimal.class ? BasicCodecs.decimal(Codecs.USUAL_SCALE) : Codecs.plain(column);
         if (kept == null) {
             faults.add(javaClass, "it converts to " + column.getName() + ", which is no basic type",
                     "Convert to a number, a String, a byte[] or a date");

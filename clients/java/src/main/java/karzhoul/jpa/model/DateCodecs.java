@@ -7,8 +7,10 @@ import java.time.Instant;
 import java.time.LocalDate;
 import java.time.LocalTime;
 import java.time.ZoneId;
+import java.time.ZonedDateTime;
 import java.util.Calendar;
 import java.util.Date;
+import java.util.GregorianCalendar;
 import java.util.function.Function;
 
 /**
@@ -27,29 +29,33 @@ final class DateCodecs {
             return timeOfDay(type, Function.identity(), time -> new Time(firstDay(time)));
         }
         if (type == Timestamp.class) {
-            return new ValueCodec(Sort.TEXT, type, true, "instant", value -> TimeTexts.write(((Timestamp) value).toInstant()),
+            return new ValueCodec(Sort.TEXT, type, true, "instant",
+                    value -> TimeTexts.write(((Timestamp) value).toInstant()),
                     kept -> Timestamp.from(TimeTexts.readInstant((String) kept)));
         }
         if (type == Date.class) {
             return of(precision, type, value -> (Date) value, Date::new);
         }
-        if (type == Calendar.class || type == java.util.GregorianCalendar.class) {
+        if (type == Calendar.class || type == GregorianCalendar.class) {
             return of(precision, type, value -> ((Calendar) value).getTime(), DateCodecs::calendar);
         }
         return null;
     }
 
-    private static Codec of(TemporalType precision, Class<?> type, Function<Object, Object> toDate, Function<Long, Object> back) {
+    private static Codec of(TemporalType precision, Class<?> type, Function<Object, Object> toDate,
+            Function<Long, Object> back) {
         return switch (precision) {
             case DATE -> day(type, toDate, day -> back.apply(millis(day)));
             case TIME -> timeOfDay(type, toDate, time -> back.apply(firstDay(time)));
-            case TIMESTAMP -> new ValueCodec(Sort.INT, type, true, "millisecond", value -> exact((Date) toDate.apply(value)),
+            case TIMESTAMP -> new ValueCodec(Sort.INT, type, true, "millisecond",
+                    value -> exact((Date) toDate.apply(value)),
                     kept -> back.apply((Long) kept));
         };
     }
 
     private static Codec day(Class<?> type, Function<Object, Object> toDate, Function<LocalDate, Object> back) {
-        return new ValueCodec(Sort.INT, type, true, "day", value -> local((Date) toDate.apply(value)).toLocalDate().toEpochDay(),
+        return new ValueCodec(Sort.INT, type, true, "day", value -> local((Date) toDate.apply(value)).toLocalDate()
+                .toEpochDay(),
                 kept -> back.apply(LocalDate.ofEpochDay((Long) kept)));
     }
 
@@ -61,13 +67,13 @@ final class DateCodecs {
 
     private static Long exact(Date date) {
         if (date instanceof Timestamp timestamp && timestamp.getNanos() % 1_000_000 != 0) {
-            throw new IllegalArgumentException(
-                    date + " can't be kept in a java.util.Date without its nanoseconds; declare it as java.sql.Timestamp");
+            throw new IllegalArgumentException(date + " can't be kept in a java.util.Date without its nanoseconds; "
+                    + "declare it as java.sql.Timestamp");
         }
         return date.getTime();
     }
 
-    private static java.time.ZonedDateTime local(Date date) {
+    private static ZonedDateTime local(Date date) {
         return Instant.ofEpochMilli(date.getTime()).atZone(ZoneId.systemDefault());
     }
 

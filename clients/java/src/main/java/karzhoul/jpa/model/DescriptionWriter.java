@@ -1,6 +1,7 @@
 package karzhoul.jpa.model;
 
 import java.util.List;
+import java.util.Locale;
 import java.util.SortedMap;
 import java.util.TreeMap;
 import java.util.stream.Collectors;
@@ -45,16 +46,18 @@ final class DescriptionWriter {
     private void relation(String table, PlainRelation relation) {
         String target = ((PlainEntity) relation.target()).table();
         if (relation.isMany()) {
-            put("the join table " + relation.storedName(), "number " + relation.number() + ", from " + table + " to " + target);
+            put("the join table " + relation.storedName(), "number " + relation.number() + ", from " + table + " to "
+                    + target);
         } else {
-            put("the column " + relation.storedName() + " of the table " + table, "number " + relation.number() + ", a row of "
+            put("the column " + relation.storedName() + " of the table " + table, "number " + relation.number()
+                    + ", a row of "
                     + target + (relation.isRequired() ? ", never null" : "")
                     + (relation.kind() == Relation.Kind.ONE_TO_ONE ? ", at most one to each" : ""));
         }
     }
 
     private static String kept(Codec codec) {
-        return codec.sort().name().toLowerCase(java.util.Locale.ROOT) + " (" + codec.meaning() + ")";
+        return codec.sort().name().toLowerCase(Locale.ROOT) + " (" + codec.meaning() + ")";
     }
 
     private void put(String name, String meaning) {

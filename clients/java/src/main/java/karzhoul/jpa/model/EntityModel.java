@@ -27,7 +27,9 @@ public interface EntityModel {
 
     Optional<Attribute> version();
 
-    /** All values in the order of the program's answer to {@code values}: key, version, attributes, superclass first. */
+    /**
+     * All values in the order of the program's answer to {@code values}: key, version, attributes, superclass first.
+     */
     List<Attribute> attributes();
 
     /** All relations in the order of the program's answer to {@code values}: superclass first. */

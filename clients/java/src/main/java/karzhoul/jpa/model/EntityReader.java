@@ -12,6 +12,7 @@ import jakarta.persistence.MappedSuperclass;
 import jakarta.persistence.Version;
 import java.lang.invoke.MethodHandle;
 import java.lang.reflect.Modifier;
+import java.lang.reflect.ParameterizedType;
 import java.lang.reflect.Type;
 import java.lang.reflect.TypeVariable;
 import java.util.ArrayList;
@@ -131,7 +132,8 @@ final class EntityReader {
      */
     private void read(Member member, Way way, String path, Scope scope, String inScope, int depth) {
         if (member.has(ElementCollection.class)) {
-            faults.add(member, "@ElementCollection isn't kept", "Make its elements entities, with @OneToMany and cascade ALL");
+            faults.add(member, "@ElementCollection isn't kept",
+                    "Make its elements entities, with @OneToMany and cascade ALL");
         } else if (RelationReader.isRelation(member)) {
             readRelation(member, way, path, scope, inScope);
         } else if (member.has(Embedded.class) || member.javaType().isAnnotationPresent(Embeddable.class)) {
@@ -147,7 +149,8 @@ final class EntityReader {
         boolean isRequired = column.filter(it -> !it.nullable()).isPresent()
                 || member.find(Basic.class).filter(it -> !it.optional()).isPresent();
         column.ifPresent(it -> memberCheck.check(member, it));
-        codec.ifPresent(it -> entity.has(new PlainAttribute(path, names.give(path), Attribute.Role.PLAIN, it, isRequired, way,
+        codec.ifPresent(it -> entity.has(new PlainAttribute(path, names.give(path), Attribute.Role.PLAIN, it,
+                isRequired, way,
                 columnName(column, path))));
     }
 
@@ -163,15 +166,18 @@ final class EntityReader {
     }
 
     private void readVersion(Member member) {
-        Optional<Codec> codec = codecs.of(member, new Scope(null, "", member.annotated()), member.name(), Optional.empty());
+        Optional<Codec> codec = codecs.of(member, new Scope(null, "", member.annotated()), member.name(),
+                Optional.empty());
         if (entity.above() != null) {
             faults.add(member, "the version belongs into the class at the top of the hierarchy", "Move @Version to "
                     + entity.root().javaClass().getName());
         } else if (entity.version().isPresent()) {
             faults.add(member, "there is another @Version", "Leave one of them out");
         } else if (codec.isPresent() && codec.get().meaning().equals("whole")) {
-            String column = member.find(Column.class).map(Column::name).filter(it -> !it.isEmpty()).orElse(member.name());
-            entity.isVersionedBy(new PlainAttribute(member.name(), names.give(member.name()), Attribute.Role.VERSION, codec.get(),
+            String column = member.find(Column.class).map(Column::name).filter(it -> !it.isEmpty())
+                    .orElse(member.name());
+            entity.isVersionedBy(new PlainAttribute(member.name(), names.give(member.name()), Attribute.Role.VERSION,
+                    codec.get(),
                     true, Way.to(member), column));
         } else if (codec.isPresent()) {
             faults.add(member, "a version of " + member.javaType().getName() + " isn't kept: versions are counted",
@@ -185,7 +191,8 @@ final class EntityReader {
             return;
         }
         boolean isOwner = said.get().mappedBy().isEmpty();
-        String stored = isOwner ? RelationReader.storedName(member, said.get(), entity.table(), path, scope.association(inScope)) : null;
+        String stored = isOwner ? RelationReader.storedName(member, said.get(), entity.table(), path,
+                scope.association(inScope)) : null;
         boolean isColumn = isOwner && said.get().container() == Relation.Container.ONE;
         entity.has(new PlainRelation(path, names.give(path), said.get(), way, isColumn ? owned(stored) : stored));
     }
@@ -197,7 +204,8 @@ final class EntityReader {
             return;
         }
         if (depth == MOST_NESTED) {
-            faults.add(member, "embeddables are nested more than " + MOST_NESTED + " deep", "Leave out the circle, or add @Transient");
+            faults.add(member, "embeddables are nested more than " + MOST_NESTED + " deep",
+                    "Leave out the circle, or add @Transient");
             return;
         }
         Scope inner = new Scope(scope, inScope + ".", member.annotated());
@@ -224,7 +232,8 @@ final class EntityReader {
             return Optional.empty();
         }
         if (type.isRecord() || Modifier.isAbstract(type.getModifiers())) {
-            faults.add(type, "a record, an interface or an abstract class is no embeddable", "Make it a class with a constructor "
+            faults.add(type, "a record, an interface or an abstract class is no embeddable",
+                    "Make it a class with a constructor "
                     + "without parameters");
             return Optional.empty();
         }
@@ -249,7 +258,7 @@ final class EntityReader {
     List<Member> embeddedMembers(Class<?> type, Member holder) {
         Map<TypeVariable<?>, Type> arguments = new LinkedHashMap<>(known);
         arguments.putAll(Types.arguments(type));
-        if (holder.type() instanceof java.lang.reflect.ParameterizedType applied) {
+        if (holder.type() instanceof ParameterizedType applied) {
             for (int i = 0; i < type.getTypeParameters().length; i++) {
                 arguments.put(type.getTypeParameters()[i], applied.getActualTypeArguments()[i]);
             }

@@ -39,11 +39,13 @@ final class Generators {
         }
         Member other = users.putIfAbsent(name, member);
         if (other != null && !other.equals(member)) {
-            faults.add(member, "the generator " + name + " is that of " + other.declaring().getName() + " too, and each counts alone", REMEDY);
+            faults.add(member, "the generator " + name + " is that of " + other.declaring().getName()
+                    + " too, and each counts alone", REMEDY);
         }
         int begin = begins.getOrDefault(name, 1);
         if (begin > 1) {
-            faults.add(member, "the generator " + name + " begins at " + begin + ", and keys are counted from 1", REMEDY);
+            faults.add(member, "the generator " + name + " begins at " + begin + ", and keys are counted from 1",
+                    REMEDY);
         }
     }
 }

@@ -39,7 +39,8 @@ final class Joiner {
         if (entity != null) {
             relation.leadsTo(entity);
         } else {
-            faults.add(relation.said().declared(), "it leads to " + target.getName() + ", which is no entity of the unit",
+            faults.add(relation.said().declared(), "it leads to " + target.getName()
+                    + ", which is no entity of the unit",
                     "Annotate that class with @Entity, and list it in persistence.xml");
         }
     }
@@ -72,7 +73,8 @@ final class Joiner {
             String name = column.referencedColumnName();
             boolean isKey = name.isEmpty() || key == null || relation.isMany() || key.hasColumn(name);
             if (!isKey) {
-                faults.add(member, "it refers to the column " + name + " of " + relation.target().name() + ", which is no part of its key",
+                faults.add(member, "it refers to the column " + name + " of " + relation.target().name()
+                        + ", which is no part of its key",
                         "Leave referencedColumnName out, or make that column the key");
             }
         }
@@ -108,10 +110,12 @@ final class Joiner {
         for (String item : orderBy.get().value().isBlank() ? new String[0] : orderBy.get().value().split(",")) {
             String[] words = item.trim().split("\\s+");
             boolean isDescending = words.length == 2 && words[1].equalsIgnoreCase("DESC");
-            boolean isWell = words.length == 1 || words.length == 2 && (isDescending || words[1].equalsIgnoreCase("ASC"));
+            boolean isWell = words.length == 1 || words.length == 2
+                    && (isDescending || words[1].equalsIgnoreCase("ASC"));
             Optional<Attribute> by = isWell ? target.find(words[0]) : Optional.empty();
             if (by.isEmpty()) {
-                faults.add(relation.said().declared(), "@OrderBy names \"" + item.trim() + "\", which is no attribute of "
+                faults.add(relation.said().declared(), "@OrderBy names \"" + item.trim()
+                        + "\", which is no attribute of "
                         + target.name() + ", with ASC or DESC", "Name attributes of the members");
             }
             by.ifPresent(it -> orders.add(new Relation.Order(it, isDescending)));

@@ -6,9 +6,11 @@ import jakarta.persistence.Embeddable;
 import jakarta.persistence.EmbeddedId;
 import jakarta.persistence.GeneratedValue;
 import jakarta.persistence.GenerationType;
+import jakarta.persistence.Id;
 import jakarta.persistence.IdClass;
 import jakarta.persistence.MapsId;
 import java.lang.invoke.MethodHandle;
+import java.math.BigInteger;
 import java.util.ArrayList;
 import java.util.HashSet;
 import java.util.List;
@@ -59,7 +61,8 @@ final class KeyReader {
         PlainEntity entity = draft.entity();
         if (!begun.add(entity.javaClass())) {
             if (entity.plainKey() == null && !ended.contains(entity.javaClass())) {
-                faults.add(entity.javaClass(), "its key can't be read, or is made of itself", "Give it an @Id of its own");
+                faults.add(entity.javaClass(), "its key can't be read, or is made of itself",
+                        "Give it an @Id of its own");
             }
             return;
         }
@@ -97,7 +100,8 @@ final class KeyReader {
         finish(draft, parts, Generation.ASSIGNED, holder, member, false);
     }
 
-    private void collect(Draft draft, Member holder, Way way, Way inHolder, MethodHandle constructor, String leaf, List<Part> parts) {
+    private void collect(Draft draft, Member holder, Way way, Way inHolder, MethodHandle constructor, String leaf,
+            List<Part> parts) {
         String before = leaf.isEmpty() ? "" : leaf + ".";
         for (Member part : draft.reader().embeddedMembers(holder.javaType(), holder)) {
             Way partWay = way.then(constructor, part);
@@ -106,23 +110,26 @@ final class KeyReader {
                 Optional<MethodHandle> inner = EntityReader.embeddable(faults, part);
                 inner.ifPresent(it -> collect(draft, part, partWay, partInHolder, it, before + part.name(), parts));
             } else if (RelationReader.isRelation(part)) {
-                faults.add(part, "an embedded id has no relations", "Keep the key's value, and map the relation with @MapsId");
+                faults.add(part, "an embedded id has no relations",
+                        "Keep the key's value, and map the relation with @MapsId");
             } else {
                 Scope scope = new Scope(null, "", holder.annotated());
-                codec(part, scope).ifPresent(codec -> parts.add(new Part(before + part.name(), before + part.name(), codec,
+                codec(part, scope).ifPresent(codec -> parts.add(new Part(before + part.name(), before + part.name(),
+                        codec,
                         partWay, partInHolder, columnOf(part, scope))));
             }
         }
     }
 
     private Optional<Codec> codec(Member member, Scope scope) {
-        if (member.has(GeneratedValue.class) && !member.has(jakarta.persistence.Id.class)) {
+        if (member.has(GeneratedValue.class) && !member.has(Id.class)) {
             faults.add(member, "a part of a key isn't generated", "Leave out @GeneratedValue");
         }
         Optional<Column> column = scope.column(member.name()).or(() -> member.find(Column.class));
         Optional<Codec> codec = codecs.of(member, scope, member.name(), column);
         if (codec.isPresent() && codec.get().meaning().equals("serialized")) {
-            faults.add(member, member.javaType().getName() + " is no type of a key", "Use a number, a String, a date, a UUID or an enum");
+            faults.add(member, member.javaType().getName() + " is no type of a key",
+                    "Use a number, a String, a date, a UUID or an enum");
             return Optional.empty();
         }
         return codec;
@@ -136,7 +143,8 @@ final class KeyReader {
     private void readPlain(Draft draft, List<Member> members) {
         Optional<Class<?>> idClass = idClass(draft.entity().javaClass());
         if (members.size() > 1 && idClass.isEmpty()) {
-            faults.add(draft.entity().javaClass(), "it has " + members.size() + " members with @Id, and no class for its keys",
+            faults.add(draft.entity().javaClass(), "it has " + members.size()
+                    + " members with @Id, and no class for its keys",
                     "Add @IdClass, or use @EmbeddedId");
             return;
         }
@@ -148,7 +156,8 @@ final class KeyReader {
                 collectDerived(draft, member, inHolder.orElse(null), parts);
             } else if (idClass.isEmpty() || inHolder.isPresent()) {
                 Scope scope = new Scope(null, "", member.annotated());
-                codec(member, scope).ifPresent(codec -> parts.add(new Part(member.name(), member.name(), codec, Way.to(member),
+                codec(member, scope).ifPresent(codec -> parts.add(new Part(member.name(), member.name(), codec,
+                        Way.to(member),
                         inHolder.orElse(null), columnOf(member, scope))));
             }
         }
@@ -159,7 +168,8 @@ final class KeyReader {
         Generation generation = generation(members);
         PlainKey.Holder holder = constructor.isPresent() ? holder(idClass.orElseThrow(), constructor.get(), parts)
                 : RelationReader.isRelation(only) ? derivedHolder(draft, only) : null;
-        finish(draft, parts, generation, holder, null, generation == Generation.COUNTER && only.javaType().isPrimitive());
+        boolean isZeroNone = generation == Generation.COUNTER && only.javaType().isPrimitive();
+        finish(draft, parts, generation, holder, null, isZeroNone);
     }
 
     private static Optional<Class<?>> idClass(Class<?> entity) {
@@ -176,7 +186,8 @@ final class KeyReader {
     private Optional<Place> memberOf(Class<?> idClass, Member member) {
         Optional<Member> found = NamedMembers.find(idClass, member.name());
         if (found.isEmpty()) {
-            faults.add(idClass, "it has no member " + member.name() + ", as the key of " + member.declaring().getName() + " has",
+            faults.add(idClass, "it has no member " + member.name() + ", as the key of " + member.declaring().getName()
+                    + " has",
                     "Add one of the same type");
         } else if (!RelationReader.isRelation(member)
                 && Types.boxed(found.get().javaType()) != Types.boxed(member.javaType())) {
@@ -198,7 +209,10 @@ final class KeyReader {
         List<Attribute> theirs = key.get().parts();
         for (int i = 0; i < theirs.size(); i++) {
             Place there = holder == null ? null : holder.places().get(i);
-            Place part = inHolder == null ? there : there == null ? inHolder : new Through(inHolder, holder.constructor(), there);
+            Place part = inHolder != null ? inHolder : there;
+            if (inHolder != null && there != null) {
+                part = new Through(inHolder, holder.constructor(), there);
+            }
             String path = member.name() + "." + theirs.get(i).path();
             parts.add(new Part(path, path, theirs.get(i).codec(), new KeyOfTarget(relation.get(), theirs.get(i)), part,
                     member.name()));
@@ -212,7 +226,8 @@ final class KeyReader {
     private Optional<PlainKey> targetKey(Draft draft, Member member) {
         Optional<PlainRelation> relation = draft.entity().relation(member.name());
         if (relation.isEmpty() || relation.get().isMany() || !relation.get().isOwner()) {
-            faults.add(member, "a relation in a key leads to one entity, and is owned", "Use @ManyToOne or @OneToOne without mappedBy");
+            faults.add(member, "a relation in a key leads to one entity, and is owned",
+                    "Use @ManyToOne or @OneToOne without mappedBy");
             return Optional.empty();
         }
         Class<?> target = relation.get().said().target();
@@ -229,7 +244,8 @@ final class KeyReader {
 
     private Generation generation(List<Member> members) {
         Member only = members.get(0);
-        Optional<GeneratedValue> generated = members.stream().flatMap(it -> it.find(GeneratedValue.class).stream()).findFirst();
+        Optional<GeneratedValue> generated = members.stream().flatMap(it -> it.find(GeneratedValue.class).stream())
+                .findFirst();
         if (generated.isEmpty()) {
             return Generation.ASSIGNED;
         }
@@ -241,7 +257,8 @@ final class KeyReader {
         } else if (isUuid && type != UUID.class && type != String.class) {
             faults.add(only, "a UUID is no " + type.getName(), "Declare it as java.util.UUID or String");
         } else if (!isUuid && !isCounted(type)) {
-            faults.add(only, "a generated number is no " + type.getName(), "Declare it as Long, or use GenerationType.UUID");
+            faults.add(only, "a generated number is no " + type.getName(),
+                    "Declare it as Long, or use GenerationType.UUID");
         } else if (!isUuid) {
             generators.use(only, generated.get().generator());
         }
@@ -250,7 +267,7 @@ final class KeyReader {
 
     private static boolean isCounted(Class<?> type) {
         return type == Long.class || type == Integer.class || type == Short.class || type == Byte.class
-                || type == java.math.BigInteger.class;
+                || type == BigInteger.class;
     }
 
     private static PlainKey.Holder holder(Class<?> javaClass, MethodHandle constructor, List<Part> parts) {
@@ -258,10 +275,12 @@ final class KeyReader {
     }
 
     private void finish(
-            Draft draft, List<Part> found, Generation generation, PlainKey.Holder holder, Member embedded, boolean isZeroNone) {
+            Draft draft, List<Part> found, Generation generation, PlainKey.Holder holder, Member embedded,
+                    boolean isZeroNone) {
         PlainEntity entity = draft.entity();
         if (found.isEmpty() || found.size() > MOST_PARTS) {
-            faults.add(entity.javaClass(), "its key has " + found.size() + " parts", "Let it have one to " + MOST_PARTS);
+            faults.add(entity.javaClass(), "its key has " + found.size() + " parts", "Let it have one to "
+                    + MOST_PARTS);
             return;
         }
         String before = embedded == null ? "" : embedded.name() + ".";
@@ -272,14 +291,18 @@ final class KeyReader {
         for (Part part : found) {
             String leaf = leaves.give(part.leaf());
             String member = isNamed ? keyName + "." + leaf : leaf;
-            parts.add(new PlainAttribute(before + part.path(), member, Attribute.Role.KEY, part.codec(), true, part.where(),
+            parts.add(new PlainAttribute(before + part.path(), member, Attribute.Role.KEY, part.codec(), true,
+                    part.where(),
                     part.column()));
         }
         Place embeddedAt = embedded == null ? null : Way.to(embedded);
-        entity.isKnownBy(new PlainKey(parts, generation, holder, embedded == null ? null : embedded.name(), embeddedAt, isZeroNone), keyName);
+        entity.isKnownBy(new PlainKey(parts, generation, holder, embedded == null ? null : embedded.name(), embeddedAt,
+                isZeroNone), keyName);
         for (Member member : draft.reader().keyMembers()) {
-            entity.relation(member.name()).ifPresent(relation -> entity.plainKey().derives(new KeyModel.Derived(relation,
-                    parts.stream().filter(it -> it.path().startsWith(member.name() + ".")).map(Attribute.class::cast).toList())));
+            entity.relation(member.name()).ifPresent(relation -> entity.plainKey()
+                    .derives(new KeyModel.Derived(relation,
+                    parts.stream().filter(it -> it.path().startsWith(member.name() + ".")).map(Attribute.class::cast)
+                            .toList())));
         }
     }
 
@@ -295,7 +318,8 @@ final class KeyReader {
             Optional<PlainKey> theirs = targetKey(draft, member);
             String at = key.embedded().map(it -> it + ".").orElse("") + mapsId.get().value();
             List<Attribute> parts = mapsId.get().value().isEmpty() ? key.parts()
-                    : key.parts().stream().filter(it -> it.path().equals(at) || it.path().startsWith(at + ".")).toList();
+                    : key.parts().stream().filter(it -> it.path().equals(at) || it.path().startsWith(at + "."))
+                            .toList();
             if (theirs.isPresent() && !fits(parts, theirs.get().parts())) {
                 faults.add(member, "@MapsId names parts of the key that aren't those of the key of "
                         + relation.said().target().getName(), "Name a part of the same type");

@@ -22,7 +22,7 @@ final class Limits {
                 bytes += 2;
             } else if (!Character.isSurrogate(at)) {
                 bytes += 3;
-            } else if (Character.isHighSurrogate(at) && i + 1 < text.length() && Character.isLowSurrogate(text.charAt(i + 1))) {
+            } else if (i + 1 < text.length() && Character.isSurrogatePair(at, text.charAt(i + 1))) {
                 bytes += 4;
                 i++;
             } else {
@@ -43,7 +43,8 @@ final class Limits {
      */
     static byte[] bytes(byte[] bytes) {
         if (bytes.length > LONGEST) {
-            throw new IllegalArgumentException("there are " + bytes.length + " bytes, and at most " + LONGEST + " are kept");
+            throw new IllegalArgumentException("there are " + bytes.length + " bytes, and at most " + LONGEST
+                    + " are kept");
         }
         return bytes.clone();
     }

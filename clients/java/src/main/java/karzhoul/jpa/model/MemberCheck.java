@@ -22,6 +22,7 @@ import java.util.Calendar;
 import java.util.Date;
 import java.util.List;
 import java.util.Set;
+import java.util.function.Function;
 import java.util.function.Predicate;
 
 /** Tells annotations that can't be kept, or that don't go together: none is passed over. */
@@ -46,12 +47,14 @@ final class MemberCheck {
         if (member.has(Enumerated.class) && !member.javaType().isEnum() && sorts.isEmpty()) {
             faults.add(member, "it has @Enumerated, and is no enum", "Leave @Enumerated out");
         }
-        boolean isDated = Date.class.isAssignableFrom(member.javaType()) || Calendar.class.isAssignableFrom(member.javaType());
+        boolean isDated = Date.class.isAssignableFrom(member.javaType())
+                || Calendar.class.isAssignableFrom(member.javaType());
         if (member.has(Temporal.class) && !isDated && sorts.isEmpty()) {
             faults.add(member, "it has @Temporal, and is no Date or Calendar", "Leave @Temporal out");
         }
         if (member.has(GeneratedValue.class) && !member.has(Id.class) && !member.has(EmbeddedId.class)) {
-            faults.add(member, "it is generated, and is no key", "Leave @GeneratedValue out, and give it in @PrePersist");
+            faults.add(member, "it is generated, and is no key",
+                    "Leave @GeneratedValue out, and give it in @PrePersist");
         }
         if (member.has(PrimaryKeyJoinColumn.class)) {
             faults.add(member, "@PrimaryKeyJoinColumn isn't kept", "Use @MapsId, with the relation set");
@@ -83,14 +86,16 @@ final class MemberCheck {
     void checkOverrides(Member member, Set<String> paths) {
         tellUnknown(member, "@AttributeOverride", member.annotated().getAnnotationsByType(AttributeOverride.class),
                 AttributeOverride::name, paths::contains);
-        tellUnknown(member, "@Convert", member.annotated().getAnnotationsByType(Convert.class), Convert::attributeName, paths::contains);
+        tellUnknown(member, "@Convert", member.annotated().getAnnotationsByType(Convert.class), Convert::attributeName,
+                paths::contains);
     }
 
     private <A> void tellUnknown(
-            Member member, String annotation, A[] all, java.util.function.Function<A, String> name, Predicate<String> isThere) {
+            Member member, String annotation, A[] all, Function<A, String> name, Predicate<String> isThere) {
         for (A one : all) {
             if (!isThere.test(name.apply(one))) {
-                faults.add(member, annotation + " names \"" + name.apply(one) + "\", which " + member.javaType().getName()
+                faults.add(member, annotation + " names \"" + name.apply(one) + "\", which " + member.javaType()
+                        .getName()
                         + " doesn't have", "Name one of its attributes");
             }
         }

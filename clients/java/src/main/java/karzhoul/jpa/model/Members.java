@@ -142,7 +142,8 @@ final class Members {
     private Optional<Member> read(Field field, Map<TypeVariable<?>, Type> known) {
         Class<?> javaClass = field.getDeclaringClass();
         if (Modifier.isFinal(field.getModifiers())) {
-            faults.add(javaClass, field.getName(), "a persistent field can't be final", "Leave out final, or add @Transient");
+            faults.add(javaClass, field.getName(), "a persistent field can't be final",
+                    "Leave out final, or add @Transient");
             return Optional.empty();
         }
         try {
@@ -205,7 +206,8 @@ final class Members {
             return Optional.empty();
         }
         String rest = name.substring(cut);
-        boolean isShout = rest.length() > 1 && Character.isUpperCase(rest.charAt(0)) && Character.isUpperCase(rest.charAt(1));
+        boolean isShout = rest.length() > 1 && Character.isUpperCase(rest.charAt(0))
+                && Character.isUpperCase(rest.charAt(1));
         return Optional.of(isShout ? rest : Character.toLowerCase(rest.charAt(0)) + rest.substring(1));
     }
 

@@ -9,8 +9,8 @@ public final class NamedMembers {
     private NamedMembers() {}
 
     /**
-     * What an instance has in a field, else in a property, of this name; empty where it has neither, its module is closed,
-     * or it is null there. A getter that raises raises here.
+     * What an instance has in a field, else in a property, of this name; empty where it has neither, its module is
+     * closed, or it is null there. A getter that raises raises here.
      */
     public static Optional<Object> value(Object instance, String name) {
         return find(instance.getClass(), name).map(member -> member.accessor().get(instance));
@@ -37,7 +37,8 @@ public final class NamedMembers {
         try {
             Method getter = javaClass.getDeclaredMethod("get" + end);
             Method setter = javaClass.getDeclaredMethod("set" + end, getter.getReturnType());
-            return Optional.of(new Member(name, javaClass, getter.getGenericReturnType(), getter, Accessor.of(getter, setter)));
+            return Optional.of(new Member(name, javaClass, getter.getGenericReturnType(), getter,
+                    Accessor.of(getter, setter)));
         } catch (NoSuchMethodException | IllegalAccessException none) {
             return Optional.empty();
         }

@@ -9,7 +9,10 @@ final class Names {
     /** How long a name of the mapping may be. */
     private static final int LONGEST = 64;
 
-    /** The highest number of a table or a column that a name gives; the program has a thousand more, which are the door's. */
+    /**
+     * The highest number of a table or a column that a name gives; the program has a thousand more, which are the
+     * door's.
+     */
     private static final int HIGHEST = 999_000;
 
     private final Set<String> taken = new HashSet<>();

@@ -38,14 +38,16 @@ final class NumberCheck {
             }
             PlainEntity named = names.putIfAbsent(entity.name(), entity);
             if (named != null) {
-                faults.add(entity.javaClass(), "its name is " + entity.name() + ", as that of " + named.javaClass().getName(),
+                faults.add(entity.javaClass(), "its name is " + entity.name() + ", as that of " + named.javaClass()
+                        .getName(),
                         "Give it another one, by @Entity(name = ..)");
             }
             checkCount(entity);
         }
         if (all.size() > MOST_ENTITIES) {
             PlainEntity last = all.get(MOST_ENTITIES);
-            faults.add(last.javaClass(), "it is one of " + all.size() + " entities, and a unit has at most " + MOST_ENTITIES,
+            faults.add(last.javaClass(), "it is one of " + all.size() + " entities, and a unit has at most "
+                    + MOST_ENTITIES,
                     "Divide the unit");
         }
     }
@@ -81,7 +83,8 @@ final class NumberCheck {
             return;
         }
         String what = other.name().equalsIgnoreCase(name) ? other.place() + " has the " + sort + " " + name + " too"
-                : "the " + sort + " " + name + " has the number " + number + ", as the " + sort + " " + other.name() + " of "
+                : "the " + sort + " " + name + " has the number " + number + ", as the " + sort + " " + other.name()
+                        + " of "
                         + other.place();
         String remedy = "Name one of them otherwise, by "
                 + (sort.equals("column") ? "@Column, @JoinColumn or @AttributeOverride" : "@Table or @JoinTable");
@@ -98,7 +101,8 @@ final class NumberCheck {
             count += at.ownAttributes().size() + at.ownRelations().size();
         }
         if (count > MOST_MEMBERS) {
-            faults.add(entity.javaClass(), "it has " + count + " attributes and relations, and may have " + MOST_MEMBERS,
+            faults.add(entity.javaClass(), "it has " + count + " attributes and relations, and may have "
+                    + MOST_MEMBERS,
                     "Move some of them into an entity of their own, with @OneToOne");
         }
     }

@@ -11,8 +11,12 @@ final class PlainAttribute implements Attribute {
     private final String columnName;
     private int place = -1;
 
-    /** @param columnName the column's name, of which its number is made; in a key, whose parts have none, for relations alone */
-    PlainAttribute(String path, String member, Role role, Codec codec, boolean isRequired, Place where, String columnName) {
+    /**
+     * @param columnName the column's name, of which its number is made; a part of a key has it for relations alone, and
+     *     no number
+     */
+    PlainAttribute(String path, String member, Role role, Codec codec, boolean isRequired, Place where,
+            String columnName) {
         this.path = path;
         this.member = member;
         this.role = role;

@@ -1,6 +1,7 @@
 package karzhoul.jpa.model;
 
 import java.lang.invoke.MethodHandle;
+import java.lang.reflect.Modifier;
 import java.util.ArrayList;
 import java.util.HashSet;
 import java.util.List;
@@ -29,14 +30,15 @@ final class PlainEntity implements EntityModel {
     private Callbacks callbacks;
     private MethodHandle constructor;
 
-    PlainEntity(Class<?> javaClass, String name, String mappedName, PlainEntity above, String table, String discriminator) {
+    PlainEntity(Class<?> javaClass, String name, String mappedName, PlainEntity above, String table,
+            String discriminator) {
         this.javaClass = javaClass;
         this.name = name;
         this.mappedName = mappedName;
         this.above = above;
         this.table = table;
         this.discriminator = discriminator;
-        this.isAbstract = java.lang.reflect.Modifier.isAbstract(javaClass.getModifiers());
+        this.isAbstract = Modifier.isAbstract(javaClass.getModifiers());
         if (above != null) {
             above.below = Stream.concat(above.below.stream(), Stream.of(this)).toList();
         }
@@ -145,7 +147,8 @@ final class PlainEntity implements EntityModel {
     Optional<Attribute> find(String path) {
         Stream<Attribute> top = above != null ? above.find(path).stream()
                 : Stream.concat(version().stream(), key == null ? Stream.empty() : key.parts().stream());
-        return Stream.concat(top, ownAttributes.stream()).filter(attribute -> attribute.path().equals(path)).findFirst();
+        return Stream.concat(top, ownAttributes.stream()).filter(attribute -> attribute.path().equals(path))
+                .findFirst();
     }
 
     @Override

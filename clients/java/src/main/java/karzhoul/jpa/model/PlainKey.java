@@ -30,7 +30,8 @@ final class PlainKey implements KeyModel {
      * @param embeddedAt where the embedded id stands in an instance, or null
      * @param isZeroNone whether a key of zero says that there is none yet
      */
-    PlainKey(List<PlainAttribute> parts, Generation generation, Holder holder, String embedded, Place embeddedAt, boolean isZeroNone) {
+    PlainKey(List<PlainAttribute> parts, Generation generation, Holder holder, String embedded, Place embeddedAt,
+            boolean isZeroNone) {
         this.parts = List.copyOf(parts);
         this.asAttributes = List.copyOf(parts);
         this.generation = generation;
@@ -104,7 +105,8 @@ final class PlainKey implements KeyModel {
     public List<Object> columnsOf(Object key) {
         if (!javaClass().isInstance(key)) {
             String given = key == null ? "null" : "a value of " + key.getClass().getName();
-            throw new IllegalArgumentException("the key is " + given + ", where one of " + javaClass().getName() + " belongs");
+            throw new IllegalArgumentException("the key is " + given + ", where one of " + javaClass().getName()
+                    + " belongs");
         }
         List<Object> columns = new ArrayList<>(parts.size());
         for (int i = 0; i < parts.size(); i++) {

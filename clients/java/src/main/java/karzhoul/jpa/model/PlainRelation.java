@@ -9,7 +9,8 @@ import java.util.Set;
 final class PlainRelation implements Relation {
     /** What the annotations say by themselves. */
     record Said(
-            Member declared, Class<?> target, String mappedBy, Kind kind, Container container, Set<CascadeType> cascades,
+            Member declared, Class<?> target, String mappedBy, Kind kind, Container container,
+                    Set<CascadeType> cascades,
             boolean removesOrphans, boolean isLazy, boolean isRequired) {}
 
     private final String path;
@@ -22,7 +23,10 @@ final class PlainRelation implements Relation {
     private List<Order> orders = List.of();
     private int place = -1;
 
-    /** @param storedName the name of the column or of the join table, of which its number is made; null of an inverse one */
+    /**
+     * @param storedName the name of the column or of the join table, of which its number is made; null of an inverse
+     *     one
+     */
     PlainRelation(String path, String member, Said said, Place where, String storedName) {
         this.path = path;
         this.member = member;

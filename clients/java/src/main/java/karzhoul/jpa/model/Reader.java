@@ -50,7 +50,8 @@ public final class Reader {
                 converters.add(javaClass);
             } else if (javaClass.isAnnotationPresent(Entity.class)) {
                 Classes.checkEntity(faults, javaClass);
-            } else if (!javaClass.isAnnotationPresent(Embeddable.class) && !javaClass.isAnnotationPresent(MappedSuperclass.class)) {
+            } else if (!javaClass.isAnnotationPresent(Embeddable.class)
+                    && !javaClass.isAnnotationPresent(MappedSuperclass.class)) {
                 Classes.tellUnknown(faults, javaClass);
             }
         }
@@ -77,7 +78,8 @@ public final class Reader {
         for (Class<?> at = javaClass.getSuperclass(); at != null && above == null; at = at.getSuperclass()) {
             above = entities.get(at);
             if (above == null && at.isAnnotationPresent(Entity.class)) {
-                faults.add(javaClass, "the class above it, " + at.getName() + ", is an entity, and isn't among those of the unit",
+                faults.add(javaClass, "the class above it, " + at.getName()
+                        + ", is an entity, and isn't among those of the unit",
                         "Add it as <class> to persistence.xml");
                 return;
             }

@@ -48,7 +48,8 @@ final class RelationReader {
         Class<?> type = isMany ? Types.argument(member.type(), 0).orElse(null) : member.javaType();
         var one = member.find(ManyToOne.class);
         if (one.isPresent()) {
-            return said(member, container.get(), Kind.MANY_TO_ONE, one.get().targetEntity(), type, "", one.get().cascade(), false,
+            return said(member, container.get(), Kind.MANY_TO_ONE, one.get().targetEntity(), type, "", one.get()
+                    .cascade(), false,
                     one.get().fetch(), !one.get().optional());
         }
         var only = member.find(OneToOne.class);
@@ -64,12 +65,14 @@ final class RelationReader {
                     it.orphanRemoval(), it.fetch(), false);
         }
         ManyToMany it = member.find(ManyToMany.class).orElseThrow();
-        return said(member, container.get(), Kind.MANY_TO_MANY, it.targetEntity(), type, it.mappedBy(), it.cascade(), false,
+        return said(member, container.get(), Kind.MANY_TO_MANY, it.targetEntity(), type, it.mappedBy(), it.cascade(),
+                false,
                 it.fetch(), false);
     }
 
     private Optional<PlainRelation.Said> said(
-            Member member, Container container, Kind kind, Class<?> named, Class<?> type, String mappedBy, CascadeType[] cascade,
+            Member member, Container container, Kind kind, Class<?> named, Class<?> type, String mappedBy,
+                    CascadeType[] cascade,
             boolean removesOrphans, FetchType fetch, boolean isRequired) {
         Class<?> target = named != void.class ? named : type;
         if (target == null) {
@@ -77,8 +80,10 @@ final class RelationReader {
             return Optional.empty();
         }
         boolean isNeeded = isRequired || kind != Kind.ONE_TO_MANY && kind != Kind.MANY_TO_MANY && mappedBy.isEmpty()
-                && Arrays.stream(member.annotated().getAnnotationsByType(JoinColumn.class)).anyMatch(it -> !it.nullable());
-        return Optional.of(new PlainRelation.Said(member, target, mappedBy, kind, container, cascades(cascade), removesOrphans,
+                && Arrays.stream(member.annotated().getAnnotationsByType(JoinColumn.class))
+                        .anyMatch(it -> !it.nullable());
+        return Optional.of(new PlainRelation.Said(member, target, mappedBy, kind, container, cascades(cascade),
+                removesOrphans,
                 fetch == FetchType.LAZY, isNeeded));
     }
 
@@ -122,17 +127,21 @@ final class RelationReader {
             faults.add(member, "maps of entities aren't kept", "Declare it as a List or a Set");
         }
         if (member.has(OrderColumn.class)) {
-            faults.add(member, "@OrderColumn isn't kept", "Sort the list by an attribute of its members, with @OrderBy");
+            faults.add(member, "@OrderColumn isn't kept",
+                    "Sort the list by an attribute of its members, with @OrderBy");
         }
         if (isMany != (container != Container.ONE)) {
-            faults.add(member, isMany ? "a relation to many needs a collection" : "a relation to one can't be a collection",
-                    isMany ? "Declare it as List, Set or Collection, or use @ManyToOne" : "Use @OneToMany or @ManyToMany");
+            faults.add(member,
+                    isMany ? "a relation to many needs a collection" : "a relation to one can't be a collection",
+                    isMany ? "Declare it as List, Set or Collection, or use @ManyToOne"
+                            : "Use @OneToMany or @ManyToMany");
         }
         return !isMap && isMany == (container != Container.ONE);
     }
 
     /** The name of which the number of an owned relation's column or join table is made. */
-    static String storedName(Member member, PlainRelation.Said said, String table, String path, Optional<AssociationOverride> override) {
+    static String storedName(Member member, PlainRelation.Said said, String table, String path,
+            Optional<AssociationOverride> override) {
         JoinTable joinTable = override.map(AssociationOverride::joinTable).filter(it -> !it.name().isEmpty())
                 .or(() -> member.find(JoinTable.class)).orElse(null);
         JoinColumn[] columns = override.map(AssociationOverride::joinColumns).filter(it -> it.length > 0)
@@ -140,7 +149,8 @@ final class RelationReader {
         if (columns.length == 0 && joinTable != null) {
             columns = joinTable.inverseJoinColumns();
         }
-        String named = Arrays.stream(columns).map(JoinColumn::name).filter(it -> !it.isEmpty()).collect(Collectors.joining(" "));
+        String named = Arrays.stream(columns).map(JoinColumn::name).filter(it -> !it.isEmpty())
+                .collect(Collectors.joining(" "));
         if (said.container() == Container.ONE) {
             return named.isEmpty() ? path : named;
         }

@@ -7,6 +7,7 @@ import jakarta.persistence.Convert;
 import java.lang.reflect.AnnotatedElement;
 import java.util.Arrays;
 import java.util.Optional;
+import java.util.function.BiFunction;
 import java.util.function.Predicate;
 
 /**
@@ -18,10 +19,9 @@ import java.util.function.Predicate;
  */
 record Scope(Scope outer, String prefix, AnnotatedElement element) {
     Optional<Column> column(String path) {
-        return inOuter(path, Scope::column).or(() -> Arrays.stream(element.getAnnotationsByType(AttributeOverride.class))
-                .filter(override -> override.name().equals(path))
-                .map(AttributeOverride::column)
-                .findFirst());
+        return inOuter(path, Scope::column)
+                .or(() -> first(element.getAnnotationsByType(AttributeOverride.class), it -> it.name().equals(path))
+                        .map(AttributeOverride::column));
     }
 
     Optional<AssociationOverride> association(String path) {
@@ -34,7 +34,7 @@ record Scope(Scope outer, String prefix, AnnotatedElement element) {
                 .or(() -> first(element.getAnnotationsByType(Convert.class), it -> it.attributeName().equals(path)));
     }
 
-    private <A> Optional<A> inOuter(String path, java.util.function.BiFunction<Scope, String, Optional<A>> find) {
+    private <A> Optional<A> inOuter(String path, BiFunction<Scope, String, Optional<A>> find) {
         return outer == null ? Optional.empty() : find.apply(outer, prefix + path);
     }
 

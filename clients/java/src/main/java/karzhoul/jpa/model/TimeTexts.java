@@ -49,7 +49,8 @@ final class TimeTexts {
         int end = text.indexOf('Z');
         long[] read = read(text.substring(0, end));
         ZoneOffset offset = offset(text.substring(end + 1));
-        return LocalDateTime.ofEpochSecond(read[0] + offset.getTotalSeconds(), (int) read[1], ZoneOffset.UTC).atOffset(offset);
+        return LocalDateTime.ofEpochSecond(read[0] + offset.getTotalSeconds(), (int) read[1], ZoneOffset.UTC)
+                .atOffset(offset);
     }
 
     /** By the time of day in Greenwich first and then by the offset's own, as {@link OffsetTime#compareTo}. */
@@ -107,7 +108,8 @@ final class TimeTexts {
             default -> Long.parseLong(text, 0, rest, 10);
         };
         long cycles = Math.floorDiv(year - 1970, 400L);
-        LocalDateTime near = LocalDateTime.of((int) (year - cycles * 400), number(text, rest + 1, 2), number(text, rest + 4, 2),
+        LocalDateTime near = LocalDateTime.of((int) (year - cycles * 400), number(text, rest + 1, 2),
+                number(text, rest + 4, 2),
                 number(text, rest + 7, 2), number(text, rest + 10, 2), number(text, rest + 13, 2));
         return new long[] {near.toEpochSecond(ZoneOffset.UTC) + cycles * CYCLE, number(text, rest + 16, 9)};
     }

@@ -1,5 +1,6 @@
 package karzhoul.jpa.model;
 
+import java.lang.invoke.MethodType;
 import java.lang.reflect.GenericArrayType;
 import java.lang.reflect.ParameterizedType;
 import java.lang.reflect.Type;
@@ -98,6 +99,6 @@ final class Types {
 
     /** The boxed class of a primitive, else the class itself. */
     static Class<?> boxed(Class<?> javaClass) {
-        return java.lang.invoke.MethodType.methodType(javaClass).wrap().returnType();
+        return MethodType.methodType(javaClass).wrap().returnType();
     }
 }

@@ -24,8 +24,8 @@ public interface UnitModel {
     String mapping();
 
     /**
-     * What the rows of a store mean, by the names of tables and columns: a line for each, its name before a tab. Two units
-     * may share a store where this is the same.
+     * What the rows of a store mean, by the names of tables and columns: a line for each, its name before a tab. Two
+     * units may share a store where this is the same.
      */
     String description();
 

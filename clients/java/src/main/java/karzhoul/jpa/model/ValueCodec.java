@@ -20,7 +20,8 @@ record ValueCodec(
         }
         if (!javaType.isInstance(value)) {
             throw new IllegalArgumentException(
-                    "a value of " + value.getClass().getName() + " stands where one of " + javaType.getName() + " belongs");
+                    "a value of " + value.getClass().getName() + " stands where one of " + javaType.getName()
+                            + " belongs");
         }
         return toKept.apply(value);
     }

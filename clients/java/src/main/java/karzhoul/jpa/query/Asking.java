@@ -27,6 +27,9 @@ public interface Asking {
     /** Locks an instance of a result, as {@code EntityManager.lock} does (chapter 3.4.4). */
     void lock(Object instance, LockModeType mode);
 
+    /** Marks an open transaction, so that it can only roll back, and answers what is raised for it (chapter 3.11). */
+    <E extends RuntimeException> E marked(E raised);
+
     /** Flushes first, where this mode and an open transaction ask for it (chapter 3.10.8); runs callbacks. */
     void flushBefore(FlushModeType mode);
 

@@ -6,6 +6,7 @@ import java.util.IdentityHashMap;
 import java.util.List;
 import java.util.Set;
 import karzhoul.jpa.model.Attribute;
+import karzhoul.jpa.model.Relation;
 import karzhoul.jpa.query.Tree.Aggregate;
 import karzhoul.jpa.query.Tree.Always;
 import karzhoul.jpa.query.Tree.And;
@@ -197,7 +198,8 @@ final class Blocks extends Rewriting {
             if (path.attribute() != null) {
                 return path.attribute().role() == Attribute.Role.PLAIN && !path.attribute().isRequired();
             }
-            return !path.steps().isEmpty() && !path.steps().get(path.steps().size() - 1).isRequired();
+            Relation last = path.steps().isEmpty() ? null : path.steps().get(path.steps().size() - 1);
+            return last != null && !(last.isRequired() && last.isOwner());
         }
         return !(value instanceof Literal);
     }

@@ -5,6 +5,8 @@ import java.math.RoundingMode;
 
 /** Numbers beside those that the program keeps as whole ones of some decimal places. */
 final class Decimals {
+    private static final int FAR = 60;
+
     private Decimals() {}
 
     /**
@@ -14,7 +16,7 @@ final class Decimals {
      */
     static Long exact(Object value, int scale) {
         try {
-            return decimal(value).setScale(scale, RoundingMode.UNNECESSARY).unscaledValue().longValueExact();
+            return near(decimal(value)).setScale(scale, RoundingMode.UNNECESSARY).unscaledValue().longValueExact();
         } catch (ArithmeticException e) {
             throw new IllegalArgumentException(value + " isn't among the numbers beside it, of " + scale
                     + " decimal places and 64 bits", e);
@@ -29,8 +31,16 @@ final class Decimals {
         throw new IllegalArgumentException("a number is expected, and " + value + " is of " + value.getClass().getName());
     }
 
+    /** The number, or where it is far beyond all that is kept one of its side that is too: so no power of ten grows. */
+    private static BigDecimal near(BigDecimal value) {
+        long digits = (long) value.precision() - value.scale();
+        return value.signum() == 0 || Math.abs(digits) <= FAR ? value
+                : BigDecimal.valueOf(value.signum()).scaleByPowerOfTen(digits > 0 ? FAR : -FAR);
+    }
+
     /** Whether it is among the whole numbers of so many places, of 64 bits. */
-    static boolean isExact(BigDecimal value, int scale) {
+    static boolean isExact(BigDecimal number, int scale) {
+        BigDecimal value = near(number);
         return value.stripTrailingZeros().scale() <= scale && isWithin(value, scale);
     }
 
@@ -44,9 +54,9 @@ final class Decimals {
      * The whole number that an order comparison has the same answers with: {@code x < 2.5} is {@code x < 3}, and
      * {@code x > 2.5} is {@code x > 2}. Null where the number is beyond 64 bits.
      */
-    static Long bound(BigDecimal value, int scale, String sign) {
+    static Long bound(BigDecimal number, int scale, String sign) {
         boolean isUp = sign.equals("<") || sign.equals(">=");
-        BigDecimal bound = value.setScale(scale, isUp ? RoundingMode.CEILING : RoundingMode.FLOOR);
+        BigDecimal bound = near(number).setScale(scale, isUp ? RoundingMode.CEILING : RoundingMode.FLOOR);
         return isWithin(bound, scale) ? bound.unscaledValue().longValueExact() : null;
     }
 }

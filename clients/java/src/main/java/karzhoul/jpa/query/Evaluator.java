@@ -54,6 +54,16 @@ final class Evaluator {
         return place == null ? null : leaves.columns().get(place).unit();
     }
 
+    /** What a row has of a value that is a column. */
+    Object column(Value value, Frame frame) {
+        return raw(leaves.place(value), frame);
+    }
+
+    /** By what a value is sorted: what the program has of it, where it is a column. */
+    Object order(Value value, Frame frame) {
+        return unit(value) == null ? value(value, frame) : column(value, frame);
+    }
+
     Object value(Value value, Frame frame) {
         Integer place = leaves.place(value);
         if (place != null) {
@@ -109,13 +119,12 @@ final class Evaluator {
     }
 
     private Object choice(Case of, Frame frame) {
-        Object operand = of.operand() == null ? null : value(of.operand(), frame);
         for (When when : of.whens()) {
             boolean isChosen;
             if (when.test() instanceof Condition condition) {
                 isChosen = isTrue(condition, frame);
             } else {
-                isChosen = Boolean.TRUE.equals(truths.compared("=", operand, value((Value) when.test(), frame)));
+                isChosen = Boolean.TRUE.equals(truths.compared("=", of.operand(), (Value) when.test(), frame));
             }
             if (isChosen) {
                 return value(when.then(), frame);
@@ -150,9 +159,23 @@ final class Evaluator {
         if (values.isEmpty()) {
             return null;
         }
-        return of.kind() == Aggregate.Kind.SUM ? sum(values, Types.of(of))
-                : values.stream().reduce((a, b) -> Comparing.compare(a, b) < 0 == (of.kind() == Aggregate.Kind.MIN)
-                        && Comparing.compare(a, b) != 0 ? a : b).get();
+        return of.kind() == Aggregate.Kind.SUM ? sum(values, Types.of(of)) : extreme(of, frame);
+    }
+
+    /** MIN or MAX of a group that has values. */
+    private Object extreme(Aggregate of, Frame frame) {
+        Frame best = null;
+        for (Object[] row : frame.group()) {
+            Frame one = new Frame(row, List.of());
+            Object order = order(of.operand(), one);
+            if (order != null) {
+                int found = best == null ? 0 : Comparing.compare(order, order(of.operand(), best));
+                if (best == null || (of.kind() == Aggregate.Kind.MIN ? found < 0 : found > 0)) {
+                    best = one;
+                }
+            }
+        }
+        return value(of.operand(), best);
     }
 
     /** What equal values have in common: where it is a column, what the program has. */

@@ -234,7 +234,8 @@ final class ExpressionParser {
         deeper();
         int at = tokens.peek().at();
         Expression left = product();
-        while (tokens.seesMark("+") || tokens.seesMark("-")) {
+        for (int terms = 1; tokens.seesMark("+") || tokens.seesMark("-"); terms++) {
+            checkTerms(terms);
             char sign = tokens.next().text().charAt(0);
             int from = tokens.peek().at();
             left = new Arithmetic(at, sign, asValue(left, at), asValue(product(), from));
@@ -243,10 +244,17 @@ final class ExpressionParser {
         return left;
     }
 
+    private void checkTerms(int terms) {
+        if (terms > DEEPEST) {
+            throw tokens.fault(tokens.peek().at(), "more than " + DEEPEST + " values in one sum or product");
+        }
+    }
+
     private Expression product() {
         int at = tokens.peek().at();
         Expression left = signed();
-        while (tokens.seesMark("*") || tokens.seesMark("/")) {
+        for (int terms = 1; tokens.seesMark("*") || tokens.seesMark("/"); terms++) {
+            checkTerms(terms);
             char sign = tokens.next().text().charAt(0);
             int from = tokens.peek().at();
             left = new Arithmetic(at, sign, asValue(left, at), asValue(signed(), from));

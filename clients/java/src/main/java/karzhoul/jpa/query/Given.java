@@ -2,7 +2,6 @@ package karzhoul.jpa.query;
 
 import jakarta.persistence.Parameter;
 import jakarta.persistence.TemporalType;
-import java.time.LocalDate;
 import java.time.LocalDateTime;
 import java.util.Calendar;
 import java.util.Collection;
@@ -57,14 +56,21 @@ final class Given {
         }
         Type asked = Type.of(type);
         return asked.isNumber() && value instanceof Number
-                || type.isInstance(Conversions.to(type, value))
-                || asked.kind() == Type.Kind.TEMPORAL && isTruncated(value)
-                || asked.kind() == Type.Kind.STRING && value instanceof Character;
+                || asked.kind() == Type.Kind.STRING && type.isInstance(Conversions.to(type, value));
     }
 
-    /** What a Date with a TemporalType has become; the attribute's codec takes it or refuses it. */
-    private static boolean isTruncated(Object value) {
-        return value instanceof java.time.LocalTime || value instanceof LocalDate || value instanceof LocalDateTime;
+    /**
+     * Sets one to a date of which a TemporalType says what is kept; the attribute's codec takes it or refuses it.
+     *
+     * @throws IllegalArgumentException where there is none of this name or number, or it is none of a time
+     */
+    void setTime(Object key, Object time) {
+        ParameterModel model = model(key);
+        if (model.type() != Object.class && Type.of(model.type()).kind() != Type.Kind.TEMPORAL) {
+            throw new IllegalArgumentException("the parameter " + model.told() + " is of " + model.type().getName()
+                    + ", and no time: " + statement.text());
+        }
+        values.put(key, time);
     }
 
     private ParameterModel model(Object key) {

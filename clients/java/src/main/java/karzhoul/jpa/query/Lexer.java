@@ -180,16 +180,23 @@ final class Lexer {
             return new BigDecimal(body.substring(0, body.length() - 2));
         }
         if (body.endsWith("f")) {
-            return Float.valueOf(body);
+            return finite(Float.valueOf(body));
         }
         if (body.endsWith("d") || body.contains("e") || body.contains(".")) {
-            return Double.valueOf(body);
+            return finite(Double.valueOf(body));
         }
         long value = Long.parseLong(body);
         if (value == (int) value) {
             return (int) value;
         }
         return value;
+    }
+
+    private static Number finite(Number number) {
+        if (Double.isInfinite(number.doubleValue())) {
+            throw new NumberFormatException();
+        }
+        return number;
     }
 
     /** A literal of JDBC's escape syntax: {d '..'}, {t '..'} or {ts '..'}. */

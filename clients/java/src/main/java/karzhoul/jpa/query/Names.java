@@ -29,7 +29,9 @@ final class Names {
     }
 
     private String fresh(String wanted) {
-        boolean isPlain = wanted.length() <= LONGEST && wanted.matches("[A-Za-z][A-Za-z0-9_]*");
+        // c0, c1 .. are the names of columns
+        boolean isPlain = wanted.length() <= LONGEST && wanted.matches("[A-Za-z][A-Za-z0-9_]*")
+                && !wanted.matches("[cC][0-9]+");
         String base = isPlain ? wanted : "v";
         String name = base;
         int number = 1;

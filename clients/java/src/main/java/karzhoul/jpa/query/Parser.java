@@ -197,6 +197,9 @@ final class Parser {
             }
             Value path = expressions.joined();
             String name = isFetch && !tokens.sees("AS") && !tokens.seesVariable() ? null : alias();
+            if (isFetch && tokens.sees("ON")) {
+                throw tokens.fault(tokens.peek().at(), "a fetch join has no ON: it reads the whole relation");
+            }
             Condition on = tokens.accept("ON") ? expressions.condition() : null;
             sources.add(new Join(at, isLeft, isFetch, path, name, null, on));
         }

@@ -2,6 +2,7 @@ package karzhoul.jpa.query;
 
 import java.util.ArrayList;
 import java.util.List;
+import java.util.function.Predicate;
 import karzhoul.jpa.model.UnitModel;
 import karzhoul.jpa.query.Tree.And;
 import karzhoul.jpa.query.Tree.Asked;
@@ -61,16 +62,21 @@ final class Planner {
     private SelectPlan select(Select typed) {
         SelectPlan withoutLists = null;
         if (Planner.conjuncts(typed.where()).stream().anyMatch(Planner::isList)) {
-            withoutLists = select(typed, true, null);
+            withoutLists = select(typed, Planner::isList, null);
         }
-        return select(typed, false, withoutLists);
+        return select(typed, test -> false, withoutLists);
+    }
+
+    /** A SELECT in which the door decides these tests of WHERE, whether the program could or not. */
+    static SelectPlan select(UnitModel unit, String text, Select typed, Predicate<Condition> byDoor) {
+        return new Planner(unit, text).select(typed, byDoor, null);
     }
 
     private static boolean isList(Condition condition) {
         return condition instanceof InParameter;
     }
 
-    private SelectPlan select(Select typed, boolean areListsByDoor, SelectPlan withoutLists) {
+    private SelectPlan select(Select typed, Predicate<Condition> byDoor, SelectPlan withoutLists) {
         Fetches.Split split = Fetches.of(text, typed);
         Blocks blocks = new Blocks(text);
         Select lowered = blocks.select(new WholeKeys().select(new Negation().select(split.select())));
@@ -81,7 +87,7 @@ final class Planner {
         List<Text> kept = new ArrayList<>();
         List<Condition> filters = new ArrayList<>();
         for (Condition conjunct : conjuncts(lowered.where())) {
-            if (areListsByDoor && isList(conjunct)) {
+            if (byDoor.test(conjunct)) {
                 filters.add(conjunct);
                 continue;
             }

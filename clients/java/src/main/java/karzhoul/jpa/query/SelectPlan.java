@@ -138,7 +138,7 @@ record SelectPlan(Text text, Leaves leaves, List<Item> items, List<Condition> fi
             }
         }
         List<Object> keys = new ArrayList<>();
-        order.forEach(sorted -> keys.add(evaluator.value(sorted.value(), frame)));
+        order.forEach(sorted -> keys.add(evaluator.order(sorted.value(), frame)));
         return new Row(values, key, keys);
     }
 

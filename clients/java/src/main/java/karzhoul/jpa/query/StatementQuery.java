@@ -36,6 +36,10 @@ final class StatementQuery<X> implements TypedQuery<X> {
         this.given = new Given(statement);
     }
 
+    Asking asking() {
+        return asking;
+    }
+
     String text() {
         return statement.text();
     }
@@ -78,6 +82,14 @@ final class StatementQuery<X> implements TypedQuery<X> {
         }
         given.needAll();
         asking.flushBefore(getFlushMode());
+        try {
+            return results(plan, most);
+        } catch (PersistenceException e) {
+            throw asking.marked(e);
+        }
+    }
+
+    private List<X> results(SelectPlan plan, int most) {
         List<Object[]> rows = plan.rows(new Binding(asking, given.values()), first == 0 ? null : first,
                 most == Integer.MAX_VALUE ? null : most);
         if (lockMode != LockModeType.NONE) {
@@ -113,7 +125,11 @@ final class StatementQuery<X> implements TypedQuery<X> {
         asking.needTransaction();
         given.needAll();
         asking.flushBefore(getFlushMode());
-        return plan.done(new Binding(asking, given.values()));
+        try {
+            return plan.done(new Binding(asking, given.values()));
+        } catch (PersistenceException e) {
+            throw asking.marked(e);
+        }
     }
 
     // ---- how it is executed
@@ -205,13 +221,13 @@ final class StatementQuery<X> implements TypedQuery<X> {
 
     @Override
     public TypedQuery<X> setParameter(Parameter<Calendar> parameter, Calendar value, TemporalType type) {
-        given.set(given.keyOf(parameter), Given.truncated(value, type));
+        given.setTime(given.keyOf(parameter), Given.truncated(value, type));
         return this;
     }
 
     @Override
     public TypedQuery<X> setParameter(Parameter<Date> parameter, Date value, TemporalType type) {
-        given.set(given.keyOf(parameter), Given.truncated(value, type));
+        given.setTime(given.keyOf(parameter), Given.truncated(value, type));
         return this;
     }
 
@@ -223,13 +239,13 @@ final class StatementQuery<X> implements TypedQuery<X> {
 
     @Override
     public TypedQuery<X> setParameter(String name, Calendar value, TemporalType type) {
-        given.set(name, Given.truncated(value, type));
+        given.setTime(name, Given.truncated(value, type));
         return this;
     }
 
     @Override
     public TypedQuery<X> setParameter(String name, Date value, TemporalType type) {
-        given.set(name, Given.truncated(value, type));
+        given.setTime(name, Given.truncated(value, type));
         return this;
     }
 
@@ -241,13 +257,13 @@ final class StatementQuery<X> implements TypedQuery<X> {
 
     @Override
     public TypedQuery<X> setParameter(int position, Calendar value, TemporalType type) {
-        given.set(position, Given.truncated(value, type));
+        given.setTime(position, Given.truncated(value, type));
         return this;
     }
 
     @Override
     public TypedQuery<X> setParameter(int position, Date value, TemporalType type) {
-        given.set(position, Given.truncated(value, type));
+        given.setTime(position, Given.truncated(value, type));
         return this;
     }
 

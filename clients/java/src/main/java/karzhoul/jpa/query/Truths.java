@@ -38,17 +38,17 @@ final class Truths {
         } else if (condition instanceof Or or) {
             return joined(or.parts(), true, frame);
         } else if (condition instanceof Compare of) {
-            return compared(of.sign(), evaluator.value(of.left(), frame), evaluator.value(of.right(), frame));
+            return compared(of.sign(), of.left(), of.right(), frame);
         } else if (condition instanceof In of) {
-            List<Object> all = new java.util.ArrayList<>();
-            of.values().forEach(value -> all.add(evaluator.value(value, frame)));
-            return turned(of.isNot(), among(evaluator.value(of.value(), frame), all));
+            return turned(of.isNot(), among(of, frame));
         } else if (condition instanceof InParameter of) {
             return turned(of.isNot(), amongAll(of, frame));
         } else if (condition instanceof Like of) {
             return turned(of.isNot(), like(of, frame));
         } else if (condition instanceof IsNull of) {
-            return (evaluator.value(of.value(), frame) == null) != of.isNot();
+            Object value = evaluator.unit(of.value()) != null ? evaluator.column(of.value(), frame)
+                    : evaluator.value(of.value(), frame);
+            return (value == null) != of.isNot();
         } else if (condition instanceof TypeIs of) {
             return typeIs(of, frame);
         } else if (condition instanceof Always of) {
@@ -75,7 +75,30 @@ final class Truths {
         return found;
     }
 
-    Boolean compared(String sign, Object left, Object right) {
+    /** A comparison of two values: as the program has them, where it has one of them in a form of its own. */
+    Boolean compared(String sign, Value left, Value right, Frame frame) {
+        Unit unit = evaluator.unit(left) instanceof Unit.Kept kept ? kept
+                : evaluator.unit(right) instanceof Unit.Kept kept ? kept : null;
+        if (unit != null && isIn(unit, left) && isIn(unit, right)) {
+            return compared(sign, column(unit, left, frame), column(unit, right, frame));
+        }
+        return compared(sign, evaluator.value(left, frame), evaluator.value(right, frame));
+    }
+
+    private boolean isIn(Unit unit, Value value) {
+        Unit its = evaluator.unit(value);
+        return its != null ? its.isSame(unit) : Binding.isConstant(value);
+    }
+
+    private Object column(Unit unit, Value value, Frame frame) {
+        if (evaluator.unit(value) != null) {
+            return evaluator.column(value, frame);
+        }
+        Object constant = evaluator.binding().constant(value);
+        return constant == null ? null : evaluator.binding().kept(((Unit.Kept) unit).codec(), value, constant);
+    }
+
+    private Boolean compared(String sign, Object left, Object right) {
         if (left == null || right == null) {
             return null;
         }
@@ -97,6 +120,19 @@ final class Truths {
             return Long.compare(binding.thing(unnamed, left).number(), binding.thing(unnamed, right).number());
         }
         return Comparing.compare(left, right);
+    }
+
+    private Boolean among(In of, Frame frame) {
+        Boolean found = false;
+        for (Value one : of.values()) {
+            Boolean truth = compared("=", of.value(), one, frame);
+            if (truth == null) {
+                found = null;
+            } else if (truth) {
+                return true;
+            }
+        }
+        return found;
     }
 
     private Boolean among(Object value, Collection<?> all) {

@@ -127,6 +127,9 @@ final class Typer {
     private void key(Select select, Key key) {
         Value value = key.value() instanceof Tree.ItemName name ? select.items().get(name.place()).value() : key.value();
         Type type = typed(value, true);
+        if (value instanceof Construct) {
+            throw fault(key.value().at(), "ORDER BY takes values that have an order, and this is NEW of a class");
+        }
         if (!type.isOrdered() && type.kind() != Type.Kind.BOOLEAN && type.kind() != Type.Kind.ENUM) {
             throw fault(key.value().at(), "ORDER BY takes values that have an order, and this is " + type.told());
         }

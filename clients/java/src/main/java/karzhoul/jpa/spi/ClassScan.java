@@ -22,7 +22,8 @@ import net.bytebuddy.jar.asm.Opcodes;
 /** Finds the annotated classes of a folder or a JAR without loading them (chapter 8.2.1.6). */
 final class ClassScan {
     private static final Set<String> WANTED = Set.of(
-            "Ljakarta/persistence/Entity;", "Ljakarta/persistence/Embeddable;", "Ljakarta/persistence/MappedSuperclass;",
+            "Ljakarta/persistence/Entity;", "Ljakarta/persistence/Embeddable;",
+                    "Ljakarta/persistence/MappedSuperclass;",
             "Ljakarta/persistence/Converter;");
     private static final int PARTS = ClassReader.SKIP_CODE | ClassReader.SKIP_DEBUG | ClassReader.SKIP_FRAMES;
 

@@ -41,7 +41,8 @@ final class PersistenceXml {
         List<Declared> units = new ArrayList<>();
         Element top = parse();
         if (!top.getLocalName().equals("persistence")) {
-            throw new PersistenceException(file + " begins with <" + top.getLocalName() + ">, and not with <persistence>");
+            throw new PersistenceException(
+                    file + " begins with <" + top.getLocalName() + ">, and not with <persistence>");
         }
         for (Element unit : children(top, "persistence-unit")) {
             units.add(unit(unit));
@@ -76,8 +77,10 @@ final class PersistenceXml {
         List<URI> jars = new ArrayList<>();
         texts(unit, "jar-file").forEach(jar -> jars.add(jar(root, jar)));
         // A unit is of Java SE here: without an element, its transactions are its own (chapter 8.2.1.2).
-        return new Declared(file.toString(), root, unit.getAttribute("name"), texts(unit, "provider").stream().findFirst(),
-                unit.getAttribute("transaction-type").equals("JTA"), texts(unit, "class"), jars, texts(unit, "mapping-file"),
+        return new Declared(file.toString(), root, unit.getAttribute("name"), texts(unit, "provider").stream()
+                .findFirst(),
+                unit.getAttribute("transaction-type").equals("JTA"), texts(unit, "class"), jars,
+                        texts(unit, "mapping-file"),
                 texts(unit, "exclude-unlisted-classes").stream().anyMatch(it -> !it.equals("false")),
                 texts(unit, "validation-mode").contains("CALLBACK"), properties);
     }

@@ -36,16 +36,19 @@ final class ProgramFile {
         }
         // A name without a slash is looked for on the PATH when it is started.
         if (named.get().contains("/") && !Files.isExecutable(Path.of(named.get()))) {
-            tell(Settings.PROGRAM + " is " + named.get() + ", which is no file that can be run", "Name the program jpa");
+            tell(Settings.PROGRAM + " is " + named.get() + ", which is no file that can be run",
+                    "Name the program jpa");
             return null;
         }
         return named.get();
     }
 
     private String unpack() {
-        boolean isServed = System.getProperty("os.name").equals("Linux") && System.getProperty("os.arch").equals("amd64");
+        boolean isServed = System.getProperty("os.name").equals("Linux") && System.getProperty("os.arch")
+                .equals("amd64");
         if (!isServed) {
-            tell("the program in the JAR runs on Linux on x86-64 alone", "Build it for this machine, and name it with " + Settings.PROGRAM);
+            tell("the program in the JAR runs on Linux on x86-64 alone", "Build it for this machine, and name it with "
+                    + Settings.PROGRAM);
             return null;
         }
         try (InputStream sumFile = ProgramFile.class.getResourceAsStream(SUM)) {
@@ -67,7 +70,8 @@ final class ProgramFile {
 
     private static Path cache() throws IOException {
         String given = System.getenv("XDG_CACHE_HOME");
-        Path caches = given != null && !given.isEmpty() ? Path.of(given) : Path.of(System.getProperty("user.home"), ".cache");
+        Path caches = given != null && !given.isEmpty() ? Path.of(given) : Path.of(System.getProperty("user.home"),
+                ".cache");
         return Files.createDirectories(caches.resolve("karzhoul"));
     }
 

@@ -65,12 +65,14 @@ final class UnitReader {
         for (String file : declared.mappingFiles()) {
             tell("<mapping-file>" + file + "</mapping-file> isn't read", "Annotate the classes, and leave it out");
         }
-        boolean hasOrm = declared.mappingFiles().isEmpty() && declared.root().filter(it -> ClassScan.has(it, ORM)).isPresent();
+        boolean hasOrm = declared.mappingFiles().isEmpty() && declared.root().filter(it -> ClassScan.has(it, ORM))
+                .isPresent();
         if (hasOrm) {
             tell(ORM + " stands beside it, and isn't read", "Annotate the classes, and take it away");
         }
         if (declared.needsValidation()) {
-            tell("its validation-mode is CALLBACK, and Bean Validation isn't asked", "Write NONE, and validate in a callback");
+            tell("its validation-mode is CALLBACK, and Bean Validation isn't asked",
+                    "Write NONE, and validate in a callback");
         }
     }
 

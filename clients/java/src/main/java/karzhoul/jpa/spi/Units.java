@@ -1,6 +1,7 @@
 package karzhoul.jpa.spi;
 
 import jakarta.persistence.PersistenceException;
+import jakarta.persistence.ValidationMode;
 import jakarta.persistence.spi.PersistenceUnitInfo;
 import jakarta.persistence.spi.PersistenceUnitTransactionType;
 import java.io.IOException;
@@ -89,10 +90,12 @@ public final class Units {
         List<URI> jars = new ArrayList<>();
         orNone(info.getJarFileUrls()).forEach(url -> place(url).ifPresent(jars::add));
         boolean isJta = info.getTransactionType() == PersistenceUnitTransactionType.JTA;
-        boolean needsValidation = info.getValidationMode() == jakarta.persistence.ValidationMode.CALLBACK;
-        return new Declared("the persistence unit " + info.getPersistenceUnitName(), place(info.getPersistenceUnitRootUrl()),
+        boolean needsValidation = info.getValidationMode() == ValidationMode.CALLBACK;
+        return new Declared("the persistence unit " + info.getPersistenceUnitName(),
+                place(info.getPersistenceUnitRootUrl()),
                 info.getPersistenceUnitName(), Optional.ofNullable(info.getPersistenceProviderClassName()), isJta,
-                orNone(info.getManagedClassNames()), jars, orNone(info.getMappingFileNames()), info.excludeUnlistedClasses(),
+                orNone(info.getManagedClassNames()), jars, orNone(info.getMappingFileNames()),
+                        info.excludeUnlistedClasses(),
                 needsValidation, properties);
     }
 

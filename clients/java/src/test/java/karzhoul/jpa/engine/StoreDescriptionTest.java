@@ -187,6 +187,24 @@ class StoreDescriptionTest {
     }
 
     @Test
+    void aMarkThatWasLeftBesideADescribedStoreGoes() throws IOException {
+        write();
+        Path mark = Files.createFile(folder.resolve("shop.db.new"));
+        write();
+        assertFalse(Files.exists(mark));
+        Files.createFile(mark);
+        assertTrue(refused(OtherTable.class).contains("was written with other classes"));
+    }
+
+    @Test
+    void aProgramThatDoesNotStartLeavesNoMark() {
+        UnitModel unit = Reader.read("test", List.of(Person.class));
+        assertThrows(PersistenceException.class,
+                () -> Program.open("karzhoul:" + store, "/bin/false", unit.mapping(), unit.description(), null));
+        assertFalse(Files.exists(folder.resolve("shop.db.new")));
+    }
+
+    @Test
     void anEmptyFileIsANewStore() throws IOException {
         Files.createFile(store);
         write();

@@ -230,6 +230,14 @@ class FormsTest extends OverShop {
                 -> SELECT p.age, p.name FROM Person p WHERE p.id = 3
                 => [36/Bob]
 
+                SELECT c0.name FROM Person c0 WHERE c0.age = 50 ORDER BY c0.name
+                -> SELECT v.name AS c0 FROM Person v WHERE v.age = 50 ORDER BY v.name
+                => [Cy]
+
+                SELECT o.number FROM Order o ORDER BY o.status DESC, o.number / 1
+                -> SELECT o.number AS c0, o.status AS c1 FROM Order o
+                => [Long 13, Long 11, Long 10, Long 14, Long 12]
+
                 SELECT 'x', 1, 2.5, TRUE FROM Team t
                 -> SELECT 1 FROM Team t
                 => [[x, Integer 1, Double 2.5, true], [x, Integer 1, Double 2.5, true]]

@@ -30,6 +30,8 @@ class ParserTest {
     @Test
     void refusesWhatIsTooDeep() {
         String deep = "(".repeat(100_000) + "1" + ")".repeat(100_000);
+        QueryFault tooLong = assertThrows(QueryFault.class, () -> Parser.parse("SELECT 1" + " + 1".repeat(50_000) + " FROM P p"));
+        assertEquals("more than 200 values in one sum or product", tooLong.reason());
         for (String value : new String[] {deep, "ABS".concat(deep.replace("(", "(ABS(")), "NOT ".repeat(100_000) + "1 = 1"}) {
             QueryFault fault = assertThrows(QueryFault.class, () -> Parser.parse("SELECT p FROM P p WHERE " + value));
             assertTrue(fault.reason().startsWith("more than 200 parentheses"), fault.reason());
@@ -215,6 +217,8 @@ class ParserTest {
                 SELECT p FROM Person p JOIN x ## 1:30 expected ".": a join is along a relation, as v.relation; an entity of its own stands behind a comma in FROM, with its condition in WHERE
                 SELECT p FROM Person p JOIN Order o ON o.a = 1 ## 1:35 expected ".": a join is along a relation, as v.relation; an entity of its own stands behind a comma in FROM, with its condition in WHERE
                 SELECT p FROM Person p JOIN p.a ## 1:32 expected an identification variable, found the end
+                SELECT p FROM Person p JOIN FETCH p.a x ON x.b = 1 ## 1:41 a fetch join has no ON: it reads the whole relation
+                SELECT p FROM Person p WHERE p.a = 1e999 ## 1:36 "1e999" is no number, or too great for its type
                 SELECT p FROM Person p LEFT p.a x ## 1:29 expected JOIN, found "p"
                 SELECT p FROM Person p OUTER JOIN p.a x ## 1:24 expected a variable, a join, WHERE, GROUP BY, ORDER BY or the end, found "OUTER"
                 SELECT p FROM IN (p.a) x ## 1:18 expected an identification variable, found "("

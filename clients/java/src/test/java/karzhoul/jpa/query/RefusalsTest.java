@@ -64,6 +64,7 @@ class RefusalsTest {
                 SELECT p.age, COUNT(p) FROM Person p ## 8 "p.age" stands outside of aggregates, and isn't one of GROUP BY
                 SELECT p.name FROM Person p GROUP BY p.name HAVING p.age > 1 ## 52 "p.age" stands outside of aggregates, and isn't one of GROUP BY
                 SELECT p.name FROM Person p GROUP BY UPPER(p.name) ## 38 GROUP BY takes paths and variables
+                SELECT NEW karzhoul.jpa.query.Shop.PlaceKey(p.age, p.name) AS k FROM Person p ORDER BY k ## 88 ORDER BY takes values that have an order, and this is NEW of a class
                 SELECT p FROM Person p ORDER BY p ## 33 ORDER BY takes values that have an order, and this is the entity Person
                 SELECT DISTINCT p.name FROM Person p ORDER BY p.age ## 47 with DISTINCT, ORDER BY takes what is selected, and "p.age" isn't
                 SELECT DISTINCT p.name FROM Person p ORDER BY UPPER(p.address.city) ## 53 with DISTINCT, ORDER BY takes what is selected, and "p.address.city" isn't

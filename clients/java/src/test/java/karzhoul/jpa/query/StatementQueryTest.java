@@ -86,6 +86,9 @@ class StatementQueryTest extends OverShop {
         assertEquals("[Long 10, Long 14]", with(amount + "<= ?1", new BigDecimal("6.9")));
         assertEquals("[]", with(amount + "> ?1", new BigInteger("9".repeat(30))));
         assertEquals("[Long 10, Long 11, Long 13, Long 14]", with(amount + "< ?1", new BigInteger("9".repeat(30))));
+        assertEquals("[]", with(amount + "= ?1", new BigDecimal("1e-1000000000")));
+        assertEquals("[Long 10, Long 11, Long 13, Long 14]", with(amount + "> ?1", new BigDecimal("1e-1000000000")));
+        assertEquals("[]", with(amount + "> ?1", new BigDecimal("1e1000000000")));
         assertEquals("[Long 11]", with("SELECT o.number FROM Order o WHERE o.price = ?1", 2.25));
     }
 
@@ -192,6 +195,11 @@ class StatementQueryTest extends OverShop {
         assertThrows(IllegalArgumentException.class, () -> query.setParameter("name", 1));
         assertThrows(IllegalArgumentException.class, () -> query.setParameter("age", "x"));
         assertThrows(IllegalArgumentException.class, () -> query.setParameter("boss", new Shop.Team()));
+        assertThrows(IllegalArgumentException.class, () -> query.setParameter("age", new Date(), TemporalType.DATE));
+        Query born = query("SELECT p FROM Person p WHERE p.born = ?1");
+        for (Object wrong : List.of(new Date(), LocalDateTime.now(), "1900-01-01", 7)) {
+            assertThrows(IllegalArgumentException.class, () -> born.setParameter(1, wrong));
+        }
         query.setParameter("name", "x").setParameter("age", 1);
         assertThrows(IllegalStateException.class, query::getResultList);
         query.setParameter("boss", new Shop.Person());
@@ -321,6 +329,20 @@ class StatementQueryTest extends OverShop {
         assertEquals(1, query("UPDATE Order o SET o.amount = 2147483646 WHERE o.number = 10").executeUpdate());
         assertEquals(1, query("UPDATE Order o SET o.amount = o.amount + 1 WHERE o.number = 10").executeUpdate());
         assertThrows(PersistenceException.class, () -> query("UPDATE Order o SET o.amount = o.amount + 1").executeUpdate());
+        assertTrue(manager.getTransaction().getRollbackOnly());
+    }
+
+    /** What the door computes stays within the type too, and a refusal marks the transaction. */
+    @Test
+    void overflowAndDivisionByZeroAreRefused() {
+        for (String text : List.of("SELECT o.amount / (o.number - 10) FROM Order o", "SELECT p.age * 1000000000 FROM Person p",
+                "SELECT o.number FROM Order o WHERE o.amount / 0 > 1", "SELECT (p.age / 1) * 1000000000 FROM Person p",
+                "SELECT p.id FROM Person p WHERE p.id = (SELECT q.id FROM Person q)")) {
+            manager.getTransaction().begin();
+            assertThrows(PersistenceException.class, () -> query(text).getResultList(), text);
+            assertTrue(manager.getTransaction().getRollbackOnly(), text);
+            manager.getTransaction().rollback();
+        }
     }
 
     @Test
