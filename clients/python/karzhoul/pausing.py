@@ -11,7 +11,7 @@ from .refusals import KarzhoulError
 # How often work is done at most, where nothing else is said. Of eight threads that change one
 # object, each attempt is the first to commit about once in eight times where they are in step, and
 # more often where they have waited. So one that is refused 100 times in a row is as good as never
-# met (7/8 to the 100th is two in a million), and 100 pauses take three seconds at most.
+# met (7/8 to the 100th is two in a million), and 100 pauses take five seconds at most.
 MOST_ATTEMPTS = 100
 # The longest pauses: before the second attempt, and at last.
 _SHORTEST, _LONGEST = 0.001, 0.05
