@@ -12,7 +12,7 @@ from copy import copy
 from time import perf_counter
 from types import FrameType
 from typing import (
-    Any, Callable, Deque, Dict, FrozenSet, Iterable, Iterator, List, Mapping, Optional, Sequence, Tuple, Type,
+    Any, Callable, Deque, Dict, FrozenSet, Iterator, List, Mapping, Optional, Sequence, Tuple, Type,
 )
 
 from .classes import Classes
@@ -113,8 +113,8 @@ class Calls:
         self._is_telling = False
         # Managers of a run, by their numbers, that are open and that nobody has.
         self._left: List[Tuple[Run, int]] = []
-        # The names of the events that callbacks hear of; and whether these hear of what comes before
-        # a flush writes.
+        # The names of the events that callbacks hear of; and whether one of these comes before a
+        # flush writes.
         self.heard: FrozenSet[str] = frozenset()
         self.hears_before = False
 
@@ -338,37 +338,19 @@ class Calls:
             self._take_note(calls, replies)
         try:
             kind = None
-            # What most calls answer: an object each and no event, or null.
             if calls.entity and calls.lines:
                 kind = self._lowest.get(calls.entity) or self._new.get(calls.lines[0])
-                numbers = None if self._untold else numbers_of(replies)
-                if numbers is not None and (kind is not None or run.are_known(numbers)):
-                    objects = run.objects(numbers, kind)
-                    self._calls = None
-                    return objects
-                if kind is not None and len(replies) == 1 and not self._callbacks:
-                    found = run.loaded_one(calls.lines[0], replies[0], kind)
-                    if found is not None and not self._untold:
-                        self._calls = None
-                        return [found]
-            if not self._callbacks and (replies == NULL or are_silent(replies)):
+            answers = self._at_once(run, calls, replies, kind)
+            if answers is not None:
                 self._calls = None
-                return [None] * len(replies)
+                return answers
             heard = self._heard(run, calls, replies, kind, timeout)
         except (AttributeError, LookupError, TypeError, ValueError) as fault:
             if is_of_reply(fault):
                 self._calls = None  # What is no reply is none the next time either.
             raise
         if calls.untold is None:
-            told = [
-                (callback, event)
-                for _, events in heard
-                for event in events
-                if not calls.ran or event.due not in calls.ran
-                for callback, kinds in self._callbacks
-                if event.kind in kinds
-            ]
-            calls.untold = iter(told)
+            calls.untold = iter(self._to_be_told(calls, heard))
         # They are queued by one step, and so once, whatever is interrupted.
         self._untold.extend(calls.untold)
         self._calls = None
@@ -380,6 +362,36 @@ class Calls:
         if raised:
             raise raised[0]
         return [answer for answer, _ in heard]
+
+    def _at_once(
+        self, run: Run, calls: _Calls, replies: List[bytes], kind: Optional[Type[Entity]]
+    ) -> Optional[List[Any]]:
+        """What most calls answer, an object each or null, with no event to be told; None where it
+        is anything else."""
+        if calls.entity and not self._untold:
+            numbers = numbers_of(replies)
+            if numbers is not None and (kind is not None or run.are_known(numbers)):
+                return run.objects(numbers, kind)
+            if kind is not None and len(replies) == 1 and not self._callbacks:
+                found = run.loaded_one(calls.lines[0], replies[0], kind)
+                if found is not None:
+                    return [found]
+        if not self._callbacks and (replies == NULL or are_silent(replies)):
+            return [None] * len(replies)
+        return None
+
+    def _to_be_told(
+        self, calls: _Calls, heard: Sequence[Tuple[Any, Tuple[Event, ...]]]
+    ) -> List[Tuple[Callable[[Event], None], Event]]:
+        """The events of calls whose callbacks haven't run before, with their callbacks."""
+        return [
+            (callback, event)
+            for _, events in heard
+            for event in events
+            if not calls.ran or event.due not in calls.ran
+            for callback, kinds in self._callbacks
+            if event.kind in kinds
+        ]
 
     def _heard(
         self, run: Run, calls: _Calls, replies: List[bytes], kind: Optional[Type[Entity]],
@@ -457,7 +469,7 @@ class Calls:
         except KarzhoulError as fault:
             if isinstance(fault, Restarted):  # They weren't sent, and never will be.
                 self._calls = None
-            self._run.known.forget()  # So that a call is asked, which says that the program is gone.
+            self._run.known.forget()  # So that who reads an object hears that the program is gone.
             self._tally.tell_fault(calls.lines, fault)
             raise
         if not calls.are_noted:

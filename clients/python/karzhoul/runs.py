@@ -293,7 +293,8 @@ class Run:
         self, said: Mapping[str, Any], heard: Container[str] = EVENTS
     ) -> Tuple[Event, ...]:
         """The events of these kinds that a reply tells."""
-        return tuple([self.event(*told) for told in said["events"] if EVENTS[told[0]].value in heard])
+        events = [event for event in said["events"] if EVENTS[event[0]].value in heard]
+        return tuple([self.event(*event) for event in events])
 
     def event(self, name: str, number: int, *ran: str) -> Event:
         """The event of an object, as a reply tells it."""

@@ -119,8 +119,13 @@ class Known:
 
     # ---- what lines change
 
-    def note(self, lines: Iterable[bytes]) -> None:
+    def note(self, lines: Sequence[bytes]) -> None:
         """Takes note of lines, before they are sent."""
+        if len(lines) > 4:  # As below, at once where all are of one call that changes nothing.
+            front = lines[0][: lines[0].find(b'"', len(_FRONT)) + 1]
+            is_pure = _CHANGES.get(front[:-1], Known.forget) is None
+            if is_pure and b"\n".join(lines).count(b"\n" + front) == len(lines) - 1:
+                return
         for line in lines:
             change = _CHANGES.get(line[: line.find(b'"', len(_FRONT))], Known.forget)
             if change is not None:

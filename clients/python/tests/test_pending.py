@@ -1,10 +1,13 @@
-"""Callbacks that run before a flush writes: what they set, raise, persist and remove is in the flush
-that they come before."""
+"""Callbacks that run before a flush writes: what they set, raise, persist and remove is in the
+flush that they come before."""
 
 from __future__ import annotations
 
+import contextlib
+import sys
 import threading
 import unittest
+from pathlib import Path
 from typing import Any, Callable, List, Tuple
 
 import karzhoul
@@ -346,7 +349,8 @@ class Calls(Desk):
             self.ada.orders.append(following)
 
         self.on(PRE_PERSIST, replace)
-        with self.assertRaisesRegex(RuntimeError, "others run 1,000 times over: PrePersist of <Order"):
+        told = "others run 1,000 times over: PrePersist of <Order"
+        with self.assertRaisesRegex(RuntimeError, told):
             with self.em.transaction():
                 self.ada.orders.append(self.Order(number=12, person=self.ada))
         self.assertEqual(self.stored(), [["Ada", 0], [10, 11]])
@@ -532,6 +536,46 @@ class Told(Desk):
             self.assertEqual(kinds, [])
         kinds = [(kind, type(it), it.number) for kind, it in self.told]
         self.assertEqual(kinds, [("PreRemove", self.Order, 10), ("PreRemove", self.Order, 11)])
+
+
+@needs_program
+class Interrupted(Desk):
+    def test_an_interrupt_at_each_step_of_a_commit(self) -> None:
+        """Nothing is stored whose callback hasn't run, wherever Ctrl-C comes."""
+        self.on(PRE_UPDATE, lambda person: setattr(person, "name", person.name + "!"))
+        package = str(Path(karzhoul.__file__).parent)
+        left, number = 0, 0
+
+        def profile(frame: Any, event: str, _: object) -> None:
+            nonlocal left
+            if event in ("call", "c_return") and frame.f_code.co_filename.startswith(package):
+                left -= 1
+                if left == 0:
+                    sys.setprofile(None)
+                    raise KeyboardInterrupt
+
+        transaction, is_over = self.em.transaction(), False
+        while not is_over:
+            number += 1
+            left = number
+            person = present(self.em, self.Person, 1)
+            transaction.begin()
+            person.name = str(number)
+            try:
+                sys.setprofile(profile)
+                transaction.commit()
+                is_over = True
+            except KeyboardInterrupt:
+                pass
+            finally:
+                sys.setprofile(None)
+            self.app.tell_kept()  # Where it was under way it is done.
+            with contextlib.suppress(karzhoul.IllegalState):
+                transaction.rollback()
+            stored = self.stored()[0][0]
+            self.assertTrue(stored == "Ada" or stored.endswith("!"), stored)
+        self.assertGreater(number, 30)
+        self.assertEqual(stored, f"{number}!")
 
 
 @needs_program
