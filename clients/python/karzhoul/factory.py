@@ -168,7 +168,8 @@ class EntityManagerFactory(Calls, AbstractContextManager["EntityManagerFactory"]
             if self._is_within():  # The call that waits is told of the end.
                 self.program.stop()
                 return
-            with nullcontext() if self._store is None else closing(self._store), closing(self.program):
+            store = nullcontext() if self._store is None else closing(self._store)
+            with store, closing(self.program):
                 try:
                     self._settle(10)
                 finally:
@@ -184,8 +185,8 @@ class EntityManagerFactory(Calls, AbstractContextManager["EntityManagerFactory"]
         has ended, and where a transaction is open, it is started again over its file.
 
         What isn't committed is gone. Objects and managers of before are `Restarted` where they are
-        used, also by a call of another thread that waits meanwhile; classes and callbacks stay. In a
-        pipeline the calls that were kept are sent first, and their first refusal is raised: then
+        used, also by a call of another thread that waits meanwhile; classes and callbacks stay. In
+        a pipeline the calls that were kept are sent first, and their first refusal is raised: then
         nothing else was done.
         """
         with self._lock:

@@ -195,8 +195,8 @@ class Places:
         """Why no manager is free, and who has those that are open."""
         now = time.monotonic()
         held = ", ".join(
-            f"{place.name} ({'a block' if place.is_block else 'a manager'}, {now - place.since:.1f} "
-            f"s)"
+            f"{place.name} ({'a block' if place.is_block else 'a manager'}, "
+            f"{now - place.since:.1f} s)"
             for place in self._held
         )
         if self._factory._is_ahead():

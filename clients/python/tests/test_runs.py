@@ -349,7 +349,8 @@ class Many(RunsTest):
 
         def callback(event: karzhoul.Event) -> None:
             with contextlib.suppress(Restarted):
-                if type(event.object) is self.Person and event.object.name.rstrip("0123456789") not in NAMES:
+                is_person = type(event.object) is self.Person
+                if is_person and event.object.name.rstrip("0123456789") not in NAMES:
                     heard.append(f"{event.kind} {event.object.name}")
 
         self.app.listen(callback, LifecycleEvent.POST_LOAD, LifecycleEvent.POST_UPDATE)
