@@ -144,6 +144,41 @@ class ThreadsTest extends Tried {
     }
 
     @Test
+    void whatOthersAddedMeanwhileIsRemovedByWhoIsCarriedOver() {
+        store(new Person("Ada").add(new Order(1, 1)).add(new Order(2, 2)));
+        Person ada = manager.find(Person.class, 1L);
+        assertEquals(2, ada.getOrders().size());
+        ada.getOrders().remove(manager.find(Order.class, 2L));
+        ada.add(new Order(3, 3));
+        other(it -> it.find(Person.class, 1L).add(new Order(4, 4)));
+        assertTrue(factory.pool().restartIfIdle());
+        commit(() -> manager.remove(manager.find(Order.class, 4L)));
+        assertNotNull(read(other -> other.find(Order.class, 4L)), "it is in the list still, and managed again");
+        assertEquals(List.of(4L, 3L, 1L), read(other -> other.find(Person.class, 1L).getOrders().stream()
+            .map(Order::getNumber).toList()));
+        commit(() -> {
+            Order fourth = manager.find(Order.class, 4L);
+            ada.getOrders().remove(fourth);
+            manager.remove(fourth);
+        });
+        assertEquals(List.of(3L, 1L), read(other -> other.find(Person.class, 1L).getOrders().stream()
+            .map(Order::getNumber).toList()));
+    }
+
+    @Test
+    void anInverseSetThatNobodyReadRefusesNoRemovalAfterTheEndOfARun() {
+        Person ada = new Person("Ada");
+        store(ada);
+        Person found = manager.find(Person.class, 1L);
+        Tag tag = new Tag("x");
+        commit(() -> found.getTags().add(tag));
+        assertTrue(factory.pool().restartIfIdle());
+        commit(() -> manager.remove(found));
+        assertNull(read(other -> other.find(Person.class, 1L)));
+        assertTrue(manager.contains(tag));
+    }
+
+    @Test
     void whatWasToldBeforeTheEndOfARunIsToldAgain() {
         store(new Person("Ada"), new Tag("x"));
         Person ada = manager.find(Person.class, 1L);
