@@ -93,6 +93,24 @@ class ManagerTest extends Tried {
     }
 
     @Test
+    void aCommitAfterAFlushThatIsStaleNamesItsEntityAlsoWithoutAVersion() {
+        store(new Person("Ada"), new Person("Bea"), new Order(1, 1), new Order(2, 2));
+        manager.getTransaction().begin();
+        manager.find(Person.class, 1L).setName("one");
+        Person bea = manager.find(Person.class, 2L);
+        bea.setName("two");
+        manager.flush();
+        other(it -> it.find(Person.class, 2L).setName("other"));
+        assertSame(bea, ((OptimisticLockException) causeOf(this::commitNow)).getEntity());
+        manager.getTransaction().begin();
+        manager.find(Order.class, 1L).setAmount(10L);
+        Order second = manager.find(Order.class, 2L);
+        second.setAmount(20L);
+        other(it -> it.find(Order.class, 2L).setAmount(30L));
+        assertSame(second, ((OptimisticLockException) causeOf(this::commitNow)).getEntity());
+    }
+
+    @Test
     void aKeyThatIsStoredAlreadyNamesItsEntity() {
         store(new Depot("d", "here"));
         manager.getTransaction().begin();
