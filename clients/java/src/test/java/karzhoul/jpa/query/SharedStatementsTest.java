@@ -33,8 +33,10 @@ class SharedStatementsTest extends OverShop {
         try (EntityManager own = factory.createEntityManager()) {
             for (int round = 0; round < 30; round++) {
                 int age = 20 + (number + round) % 40;
-                String text = "SELECT COUNT(p) FROM Person p WHERE p.age = :age AND (UPPER(p.name) IN :names OR p.id IN :ids)";
-                Object found = own.createQuery(text).setParameter("age", age).setParameter("names", List.of("ADA", "BOB", "CY"))
+                String text =
+                        "SELECT COUNT(p) FROM Person p WHERE p.age = :age AND (UPPER(p.name) IN :names OR p.id IN :ids)";
+                Object found = own.createQuery(text).setParameter("age", age).setParameter("names",
+                        List.of("ADA", "BOB", "CY"))
                         .setParameter("ids", List.of(2L)).getSingleResult();
                 long expected = age == 36 ? 2 : age == 50 || age == 20 ? 1 : 0;
                 if (!found.equals(expected)) {

@@ -51,10 +51,12 @@ class SubqueryTruthsTest extends OverShop {
             }
             for (String sign : SIGNS) {
                 for (String form : List.of("ALL", "ANY")) {
-                    check(wrong, "o." + x + " " + sign + " " + form + " (SELECT q." + y + from, form, sign, x, y, filter);
+                    check(wrong, "o." + x + " " + sign + " " + form + " (SELECT q." + y + from, form, sign, x, y,
+                            filter);
                 }
                 for (String form : List.of("MAX", "MIN")) {
-                    check(wrong, "o." + x + " " + sign + " (SELECT " + form + "(q." + y + ")" + from, form, sign, x, y, filter);
+                    check(wrong, "o." + x + " " + sign + " (SELECT " + form + "(q." + y + ")" + from, form, sign, x, y,
+                            filter);
                 }
             }
         }
@@ -72,7 +74,8 @@ class SubqueryTruthsTest extends OverShop {
                     expected.add(o.number);
                 }
             }
-            String text = "SELECT o.number FROM Order o WHERE " + (isNot ? "NOT (" + test + ")" : test) + " ORDER BY o.number";
+            String text = "SELECT o.number FROM Order o WHERE " + (isNot ? "NOT (" + test + ")" : test)
+                    + " ORDER BY o.number";
             List<?> found = manager.createQuery(text).getResultList();
             if (!found.equals(expected)) {
                 wrong.add(text + " is " + found + ", not " + expected);
