@@ -269,8 +269,8 @@ final class RandomWork {
                 team(round);
                 break;
             case 19:
-                manager.createQuery("SELECT DISTINCT p FROM Person p JOIN FETCH p.orders WHERE p.id = :id", Person.class)
-                    .setParameter("id", person.getId()).getResultList();
+                manager.createQuery("SELECT DISTINCT p FROM Person p JOIN FETCH p.orders WHERE p.id = :id",
+                    Person.class).setParameter("id", person.getId()).getResultList();
                 break;
             case 20:
                 person.setOrders(new ArrayList<>(person.getOrders()));
@@ -402,7 +402,8 @@ final class RandomWork {
 
     @Override
     public String toString() {
-        return commits + " commits, " + kills + " kills, " + others + " others, " + restarts + " restarts, refused " + refused + ", wrong "
+        return commits + " commits, " + kills + " kills, " + others + " others, " + restarts + " restarts, refused "
+            + refused + ", wrong "
             + wrong.size();
     }
 }

@@ -23,6 +23,7 @@ import karzhoul.jpa.shop.Order;
 import karzhoul.jpa.shop.Person;
 import karzhoul.jpa.shop.Shop;
 import karzhoul.jpa.shop.Tag;
+import net.bytebuddy.ByteBuddy;
 import org.junit.jupiter.api.Test;
 import org.junit.jupiter.api.Timeout;
 
@@ -95,7 +96,8 @@ class ThreadsTest extends Tried {
         managers.get(3).getTransaction().commit();
         managers.get(4).getTransaction().begin();
         persons.get(4).setName("stale");
-        RollbackException refused = assertThrows(RollbackException.class, () -> managers.get(4).getTransaction().commit());
+        RollbackException refused =
+            assertThrows(RollbackException.class, () -> managers.get(4).getTransaction().commit());
         assertEquals(persons.get(4), ((OptimisticLockException) refused.getCause()).getEntity());
         assertEquals("changed", read(other -> other.find(Person.class, 1L)).getName());
         managers.forEach(EntityManager::close);
@@ -291,7 +293,7 @@ class ThreadsTest extends Tried {
     @Test
     void aJvmThatIsKilledEndsItsProgram() throws Exception {
         StringBuilder path = new StringBuilder();
-        for (Class<?> each : List.of(ThreadsTest.class, Factory.class, EntityManager.class, net.bytebuddy.ByteBuddy.class)) {
+        for (Class<?> each : List.of(ThreadsTest.class, Factory.class, EntityManager.class, ByteBuddy.class)) {
             path.append(Path.of(each.getProtectionDomain().getCodeSource().getLocation().toURI())).append(':');
         }
         Process other = new ProcessBuilder(ProcessHandle.current().info().command().orElse("java"),
