@@ -1,7 +1,8 @@
 package karzhoul.jpa.context;
 
 import java.util.ArrayList;
-import java.util.HashSet;
+import java.util.Collection;
+import java.util.LinkedHashSet;
 import java.util.List;
 import java.util.Set;
 import karzhoul.jpa.engine.Lines;
@@ -19,7 +20,12 @@ import karzhoul.jpa.model.Relation;
  * another commit changed meanwhile is stale: to write it is refused, as it would have been. New ones are made anew.
  */
 final class Carry {
-    private record Read(Entry owner, Relation relation) {}
+    private record Read(Entry owner, Relation relation) {
+        @SuppressWarnings("unchecked")
+        List<Entry> members() {
+            return (List<Entry>) owner.relations[relation.place()];
+        }
+    }
 
     private final Context context;
     private final Identities identities;
@@ -159,8 +165,9 @@ final class Carry {
     }
 
     /**
-     * Collections that were read are read by the program too, and stay here as they were known: changes are told
-     * against that. An owned one that is another makes its owner stale.
+     * Collections that were read are read by the program too, and are there what they were known to be: so changes
+     * are told against that. An owned one that is another makes its owner stale. What a relation that removes orphans
+     * has got from others meanwhile can't be taken out there, or it would be an orphan: it comes in here.
      */
     private void read(List<Read> reads) {
         int from = queue.count();
@@ -170,20 +177,55 @@ final class Carry {
         Reply[] replies = context.ask(from);
         for (int i = 0; i < replies.length; i++) {
             Read read = reads.get(i);
-            if (read.relation().isOwner() && !isSameSet(replies[i].list(), read)) {
+            Set<Long> now = new LinkedHashSet<>();
+            replies[i].list().forEach(ref -> now.add(((Ref) ref).number()));
+            Set<Long> known = new LinkedHashSet<>();
+            read.members().forEach(member -> known.add(member.number()));
+            if (now.equals(known)) {
+                continue;
+            } else if (read.relation().isOwner()) {
                 context.setStale(read.owner());
+            } else if (read.relation().removesOrphans()) {
+                takeIn(read, new Fill(context).entries(replies[i].list()));
+            } else {
+                tellAsKnown(read, now, known);
+            }
+        }
+        context.send();
+    }
+
+    private void tellAsKnown(Read read, Set<Long> now, Set<Long> known) {
+        for (long number : now) {
+            if (!known.contains(number)) {
+                queue.takeOut(read.owner().number(), read.relation().member(), number).about(read.owner());
+            }
+        }
+        for (long number : known) {
+            if (number != 0 && !now.contains(number)) {
+                queue.add(read.owner().number(), read.relation().member(), number).about(read.owner());
             }
         }
     }
 
-    private static boolean isSameSet(List<Object> now, Read read) {
-        Set<Long> numbers = new HashSet<>();
-        now.forEach(ref -> numbers.add(((Ref) ref).number()));
-        Set<Long> known = new HashSet<>();
-        for (Object member : (List<?>) read.owner().relations[read.relation().place()]) {
-            known.add(((Entry) member).number());
+    /** The instance's members are those of now, with what it added and without what it took out. */
+    private void takeIn(Read read, List<Entry> now) {
+        Object value = read.relation().get(read.owner().instance());
+        if (value instanceof Collection<?> && !Unread.is(value)) {
+            @SuppressWarnings("unchecked")
+            Collection<Object> held = (Collection<Object>) value;
+            List<Object> members = Members.instances(now, read.relation());
+            List<Object> before = Members.instances(read.members(), read.relation());
+            members.removeIf(member -> isAmong(before, member) && !isAmong(held, member));
+            held.stream().filter(member -> !isAmong(before, member) && !isAmong(members, member)).toList()
+                .forEach(members::add);
+            held.clear();
+            held.addAll(members);
         }
-        return numbers.equals(known);
+        read.owner().relations[read.relation().place()] = now;
+    }
+
+    private static boolean isAmong(Collection<Object> members, Object wanted) {
+        return members.stream().anyMatch(member -> member == wanted);
     }
 
     private void makeAnew(Entry entry) {

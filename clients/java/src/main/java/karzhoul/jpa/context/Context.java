@@ -31,6 +31,8 @@ import karzhoul.jpa.model.UnitModel;
  * to be sent, and the transaction. What the program decides is asked of it. For one thread at a time.
  */
 final class Context {
+    private static final Object[] NO_ROW = {};
+
     private final Factory factory;
     private final long waitMillis;
     private final UnitModel unit;
@@ -40,6 +42,7 @@ final class Context {
     private final BitSet detached = new BitSet();
     private final Map<Long, WeakReference<Object>> lost = new HashMap<>();
     private final List<Entry> touched = new ArrayList<>();
+    private final Map<Entry, Object[]> written = new IdentityHashMap<>();
     private Session session;
     private int depth;
     private boolean isActive;
@@ -241,8 +244,16 @@ final class Context {
 
     /** All that was told is written. */
     void cleanTouched() {
-        touched.forEach(Entry::clean);
+        for (Entry entry : touched) {
+            written.putIfAbsent(entry, entry.rowValues());
+            entry.clean();
+        }
         touched.clear();
+    }
+
+    /** What flushes of this transaction have written, with the values of its row before; none where there was no row. */
+    Map<Entry, Object[]> written() {
+        return written;
     }
 
     /**
@@ -291,6 +302,7 @@ final class Context {
             entry.lock(LockModeType.NONE);
         }
         heard.clear();
+        written.clear();
         if (isClosing) {
             letAllGo();
         }
@@ -399,6 +411,7 @@ final class Context {
                 entry.state(Entry.State.MANAGED);
                 entry.stored(true);
                 entry.version(0);
+                written.put(entry, NO_ROW);
                 return false;
             case PostUpdate:
                 entry.raiseVersion();
@@ -502,6 +515,7 @@ final class Context {
         lost.clear();
         heard.clear();
         touched.clear();
+        written.clear();
         isTouched = false;
         hasStale = false;
         hasRemoved = false;

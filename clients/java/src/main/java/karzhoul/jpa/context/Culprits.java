@@ -6,7 +6,9 @@ import jakarta.persistence.OptimisticLockException;
 import jakarta.persistence.PersistenceException;
 import jakarta.persistence.RollbackException;
 import java.util.ArrayList;
+import java.util.IdentityHashMap;
 import java.util.List;
+import java.util.Map;
 import java.util.Optional;
 import java.util.function.BiPredicate;
 import karzhoul.jpa.engine.Ref;
@@ -25,11 +27,13 @@ final class Culprits {
 
     private final Context probe;
     private final List<Entry> suspects = new ArrayList<>();
+    private final Map<Entry, Object[]> written;
 
     Culprits(Context context) {
         probe = new Context(context.factory(), 0);
+        written = new IdentityHashMap<>(context.written());
         for (Entry entry : context.identities().numbered()) {
-            boolean isWritten = entry.isTouched() || !entry.isStored() || entry.state() == Entry.State.REMOVED
+            boolean isWritten = entry.isTouched() || written.containsKey(entry) || !entry.isStored() || entry.state() == Entry.State.REMOVED
                 || entry.lock() != LockModeType.NONE;
             if (isWritten && entry.state() != Entry.State.DETACHED && suspects.size() < MOST) {
                 suspects.add(entry);
@@ -56,7 +60,7 @@ final class Culprits {
 
     private RuntimeException cause(RuntimeException refusal) {
         if (refusal instanceof OptimisticLockException stale && stale.getEntity() == null) {
-            return first(Culprits::isStale).<RuntimeException>map(entry -> new OptimisticLockException(
+            return first(this::isStale).<RuntimeException>map(entry -> new OptimisticLockException(
                 about(refusal, entry.toString()), refusal, entry.instance())).orElse(refusal);
         } else if (refusal instanceof EntityExistsException) {
             return first((entry, shown) -> !entry.isStored() && shown != null)
@@ -76,16 +80,17 @@ final class Culprits {
         return words.substring(0, end) + ", " + what + words.substring(end);
     }
 
-    private static boolean isStale(Entry entry, Shown shown) {
-        if (shown == null) {
-            return entry.isStored();
+    private boolean isStale(Entry entry, Shown shown) {
+        Object[] known = written.getOrDefault(entry, entry.rowValues());
+        if (shown == null || known.length == 0) {
+            return shown == null && known.length > 0 && entry.isStored();
         }
         if (entry.model().version().isPresent()) {
             Attribute version = entry.model().version().get();
-            return !Values.isKept(version, shown.values()[version.place()], entry.values[version.place()]);
+            return !Values.isKept(version, shown.values()[version.place()], known[version.place()]);
         }
-        return entry.model().attributes().stream().anyMatch(attribute -> !Values.isKept(attribute,
-            shown.values()[attribute.place()], entry.rowValues()[attribute.place()]));
+        return entry.model().attributes().stream().anyMatch(attribute ->
+            !Values.isKept(attribute, shown.values()[attribute.place()], known[attribute.place()]));
     }
 
     private static Optional<String> missing(Entry entry) {

@@ -4,6 +4,7 @@ import jakarta.persistence.LockModeType;
 import jakarta.persistence.PersistenceException;
 import java.util.Arrays;
 import java.util.List;
+import karzhoul.jpa.engine.Shown;
 import karzhoul.jpa.model.Attribute;
 import karzhoul.jpa.model.EntityModel;
 import karzhoul.jpa.model.Relation;
@@ -17,7 +18,7 @@ final class Entry {
     enum State { NEW, MANAGED, REMOVED, DETACHED }
 
     /** A collection that the program has not read. */
-    static final Object UNREAD = karzhoul.jpa.engine.Shown.UNREAD;
+    static final Object UNREAD = Shown.UNREAD;
 
     private final EntityModel model;
     private Object instance;

@@ -1,5 +1,6 @@
 package karzhoul.jpa.context;
 
+import java.util.ArrayDeque;
 import java.util.Collection;
 import java.util.Collections;
 import java.util.Deque;
@@ -57,7 +58,7 @@ final class Graph {
     /** The entries that this operation goes on to from a managed one, itself first. */
     Set<Entry> entries(Entry root, Predicate<Relation> cascades) {
         Set<Entry> reached = new LinkedHashSet<>();
-        Deque<Object> work = new java.util.ArrayDeque<>(List.of(root.instance()));
+        Deque<Object> work = new ArrayDeque<>(List.of(root.instance()));
         seen.add(root.instance());
         for (Object instance; (instance = work.poll()) != null; ) {
             Entry entry = context.entryOf(instance);

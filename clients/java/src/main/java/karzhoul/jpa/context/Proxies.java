@@ -17,6 +17,7 @@ import java.util.Optional;
 import karzhoul.jpa.model.EntityModel;
 import net.bytebuddy.ByteBuddy;
 import net.bytebuddy.description.modifier.FieldManifestation;
+import net.bytebuddy.description.modifier.FieldPersistence;
 import net.bytebuddy.description.modifier.Visibility;
 import net.bytebuddy.dynamic.DynamicType;
 import net.bytebuddy.dynamic.loading.ClassLoadingStrategy;
@@ -116,7 +117,7 @@ public final class Proxies {
         DynamicType.Builder<?> builder = new ByteBuddy().subclass(entity)
             .name(entity.getName() + SUFFIX)
             .defineField(ENTRY, Object.class, Visibility.PRIVATE,
-                net.bytebuddy.description.modifier.FieldPersistence.TRANSIENT, FieldManifestation.PLAIN)
+                FieldPersistence.TRANSIENT, FieldManifestation.PLAIN)
             .method(isVirtual().and(not(isFinalizer())).and(not(named("writeReplace").and(takesArguments(0)))))
             .intercept(MethodCall.invoke(fill).withField(ENTRY).andThen(SuperMethodCall.INSTANCE))
             .implement(Proxied.class).intercept(FieldAccessor.ofField(ENTRY));

@@ -53,6 +53,16 @@ final class Codecs {
         return automatic.isPresent() && !isFixed && !isOff ? automatic : basic(member, column);
     }
 
+    /** The codec of a part of a key, to which no converter applies (chapter 11.1.10). */
+    Optional<Codec> ofKey(Member member, Scope scope, String path, Optional<Column> column) {
+        Optional<Convert> convert = scope.convert(path).or(() -> member.find(Convert.class));
+        if (convert.isPresent() && !convert.get().disableConversion()) {
+            faults.add(member, "a key and a version take no converter", "Leave out @Convert, and convert in Java");
+            return Optional.empty();
+        }
+        return basic(member, column);
+    }
+
     private static boolean isConverter(Class<?> named) {
         return named != void.class && named != AttributeConverter.class;
     }

@@ -69,6 +69,22 @@ final class EntityReader {
         for (Member member : found.values()) {
             read(member, scopes.get(member.declaring().getName()));
         }
+        for (Class<?> at : chain) {
+            memberCheck.checkOverrides(at, allPaths());
+        }
+    }
+
+    /** The paths of the own attributes, with those of the key. */
+    private Set<String> allPaths() {
+        Set<String> paths = pathsWithin("");
+        entity.version().ifPresent(it -> paths.add(it.path()));
+        for (Member member : keyMembers) {
+            paths.add(member.name());
+            if (member.has(EmbeddedId.class)) {
+                embeddedMembers(member.javaType(), member).forEach(it -> paths.add(member.name() + "." + it.name()));
+            }
+        }
+        return paths;
     }
 
     List<Member> keyMembers() {

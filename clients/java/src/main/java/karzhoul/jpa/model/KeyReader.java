@@ -126,7 +126,7 @@ final class KeyReader {
             faults.add(member, "a part of a key isn't generated", "Leave out @GeneratedValue");
         }
         Optional<Column> column = scope.column(member.name()).or(() -> member.find(Column.class));
-        Optional<Codec> codec = codecs.of(member, scope, member.name(), column);
+        Optional<Codec> codec = codecs.ofKey(member, scope, member.name(), column);
         if (codec.isPresent() && codec.get().meaning().equals("serialized")) {
             faults.add(member, member.javaType().getName() + " is no type of a key",
                     "Use a number, a String, a date, a UUID or an enum");

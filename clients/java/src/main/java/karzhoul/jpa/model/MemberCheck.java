@@ -18,12 +18,13 @@ import jakarta.persistence.PrimaryKeyJoinColumn;
 import jakarta.persistence.Temporal;
 import jakarta.persistence.Version;
 import java.lang.annotation.Annotation;
+import java.lang.reflect.AnnotatedElement;
 import java.util.Calendar;
 import java.util.Date;
+import java.util.LinkedHashMap;
 import java.util.List;
+import java.util.Map;
 import java.util.Set;
-import java.util.function.Function;
-import java.util.function.Predicate;
 
 /** Tells annotations that can't be kept, or that don't go together: none is passed over. */
 final class MemberCheck {
@@ -84,20 +85,29 @@ final class MemberCheck {
 
     /** Tells what an embedded member overrides or converts, and doesn't have. */
     void checkOverrides(Member member, Set<String> paths) {
-        tellUnknown(member, "@AttributeOverride", member.annotated().getAnnotationsByType(AttributeOverride.class),
-                AttributeOverride::name, paths::contains);
-        tellUnknown(member, "@Convert", member.annotated().getAnnotationsByType(Convert.class), Convert::attributeName,
-                paths::contains);
+        unknown(member.annotated(), paths).forEach((annotation, name) -> faults.add(member, annotation + " names \"" + name
+                + "\", which " + member.javaType().getName() + " doesn't have", "Name one of its attributes"));
     }
 
-    private <A> void tellUnknown(
-            Member member, String annotation, A[] all, Function<A, String> name, Predicate<String> isThere) {
-        for (A one : all) {
-            if (!isThere.test(name.apply(one))) {
-                faults.add(member, annotation + " names \"" + name.apply(one) + "\", which " + member.javaType()
-                        .getName()
-                        + " doesn't have", "Name one of its attributes");
+    /** Tells what a class overrides or converts, and doesn't have of itself or of a mapped superclass. */
+    void checkOverrides(Class<?> javaClass, Set<String> paths) {
+        unknown(javaClass, paths).forEach((annotation, name) -> faults.add(javaClass, annotation + " names \"" + name
+                + "\", which it doesn't have", "Name one of its attributes, or of those of its mapped superclasses"));
+    }
+
+    /** By annotation the first attribute that it names, and that isn't there. */
+    private static Map<String, String> unknown(AnnotatedElement element, Set<String> paths) {
+        Map<String, String> unknown = new LinkedHashMap<>();
+        for (AttributeOverride override : element.getAnnotationsByType(AttributeOverride.class)) {
+            if (!paths.contains(override.name())) {
+                unknown.putIfAbsent("@AttributeOverride", override.name());
             }
         }
+        for (Convert convert : element.getAnnotationsByType(Convert.class)) {
+            if (!paths.contains(convert.attributeName())) {
+                unknown.putIfAbsent("@Convert", convert.attributeName());
+            }
+        }
+        return unknown;
     }
 }

@@ -3,6 +3,7 @@ package karzhoul.jpa.query;
 import jakarta.persistence.FlushModeType;
 import jakarta.persistence.LockModeType;
 import java.util.List;
+import karzhoul.jpa.model.Relation;
 import karzhoul.jpa.model.UnitModel;
 
 /** What queries need of the entity manager that they belong to. The context implements it. */
@@ -58,5 +59,5 @@ public interface Asking {
     Ref refOf(Object instance);
 
     /** Reads a relation of these instances in one trip, as JOIN FETCH asks. */
-    void fetch(List<Object> instances, karzhoul.jpa.model.Relation relation);
+    void fetch(List<Object> instances, Relation relation);
 }

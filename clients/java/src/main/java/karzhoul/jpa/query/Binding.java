@@ -1,6 +1,7 @@
 package karzhoul.jpa.query;
 
 import jakarta.persistence.PersistenceException;
+import java.nio.ByteBuffer;
 import java.time.LocalDateTime;
 import java.util.ArrayList;
 import java.util.HashMap;
@@ -53,7 +54,8 @@ final class Binding {
     /** Refuses a text that is too long for the program, in words. */
     void checkLength(String text) {
         if (text.length() > SelectPlan.LONGEST) {
-            throw new IllegalArgumentException("the statement has " + text.length() + " letters with the values of its lists,"
+            throw new IllegalArgumentException("the statement has " + text.length()
+                    + " letters with the values of its lists,"
                     + " and at most " + SelectPlan.LONGEST + " are served; give it fewer values at a time");
         }
     }
@@ -105,7 +107,7 @@ final class Binding {
 
     /** A parameter of the program; one for each value. */
     String parameter(Object column) {
-        Object key = column instanceof byte[] bytes ? java.nio.ByteBuffer.wrap(bytes) : column;
+        Object key = column instanceof byte[] bytes ? ByteBuffer.wrap(bytes) : column;
         return names.computeIfAbsent(key == null ? "null" : List.of(key), k -> {
             String name = "p" + names.size();
             bound.add(new Asking.Parameter(name, column));

@@ -32,7 +32,8 @@ final class BlockWriter {
                 text.add(place == 0 ? "" : ", ").add(values.path((Reference) derived.path()) + " " + name);
             } else {
                 Join join = (Join) source;
-                text.add(join.isLeft() ? " LEFT JOIN " : " JOIN ").add(values.path((Reference) join.path()) + " " + name);
+                text.add(join.isLeft() ? " LEFT JOIN " : " JOIN ").add(values.path((Reference) join.path()) + " "
+                        + name);
                 if (join.on() != null) {
                     text.add(" ON ").add(conditions.condition(join.on()));
                 }

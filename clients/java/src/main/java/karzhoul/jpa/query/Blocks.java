@@ -33,8 +33,8 @@ import karzhoul.jpa.query.Tree.Variable;
 
 /**
  * Brings what is asked of subqueries to EXISTS, which the program has; {@link Negation} has passed before, so each test
- * need be true for the right rows alone. A value that goes into the block leaves a test of its own behind, that is always
- * true, where a null link on its path leaves the row out.
+ * need be true for the right rows alone. A value that goes into the block leaves a test of its own behind, that is
+ * always true, where a null link on its path leaves the row out.
  */
 final class Blocks extends Rewriting {
     private final String text;
@@ -152,7 +152,8 @@ final class Blocks extends Rewriting {
     Condition condition(Condition condition) {
         if (condition instanceof Quantified of) {
             return quantified(of);
-        } else if (condition instanceof Compare of && of.right() instanceof Scalar scalar && !isAlone(scalar.select())) {
+        } else if (condition instanceof Compare of && of.right() instanceof Scalar scalar
+                && !isAlone(scalar.select())) {
             return compared(of, of.sign(), of.left(), scalar.select());
         } else if (condition instanceof Compare of && of.left() instanceof Scalar scalar && !isAlone(scalar.select())) {
             return compared(of, ConditionWriter.turned(of.sign()), of.right(), scalar.select());
@@ -373,14 +374,16 @@ final class Blocks extends Rewriting {
 
     private void checkClause(int at) {
         if (isHaving) {
-            throw refusal(at, "a subquery in HAVING is served where it uses no variable from outside and is compared as "
+            throw refusal(at,
+                    "a subquery in HAVING is served where it uses no variable from outside and is compared as "
                     + "one value");
         }
     }
 
     private void checkPlain(Select select) {
         if (!select.groups().isEmpty() || select.having() != null) {
-            throw refusal(select.at(), "GROUP BY and HAVING in a subquery aren't served; ask it by a query of its own, and "
+            throw refusal(select.at(),
+                    "GROUP BY and HAVING in a subquery aren't served; ask it by a query of its own, and "
                     + "give its rows to IN as a parameter");
         }
     }

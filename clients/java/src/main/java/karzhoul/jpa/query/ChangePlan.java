@@ -21,7 +21,8 @@ record ChangePlan(Text text, Text check, List<SelectPlan> asked) implements Plan
             String counting = check.written(binding);
             Object count = binding.asking.rows(counting, binding.parameters(), null, null).get(0)[0];
             if (!count.equals(0L)) {
-                throw new PersistenceException("Overflow: SET gives " + count + " objects a number beyond its Java type");
+                throw new PersistenceException("Overflow: SET gives " + count
+                        + " objects a number beyond its Java type");
             }
         }
         binding.clear();

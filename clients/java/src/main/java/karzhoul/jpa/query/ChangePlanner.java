@@ -65,7 +65,8 @@ final class ChangePlanner {
         try {
             return Text.of(" WHERE ").add(writer.conditions.condition(lowered));
         } catch (NotKept e) {
-            throw QueryFault.refusal(text, e.at, e.getMessage() + "; in UPDATE and DELETE the door decides no condition: "
+            throw QueryFault.refusal(text, e.at, e.getMessage()
+                    + "; in UPDATE and DELETE the door decides no condition: "
                     + "select the objects, and change or remove them");
         }
     }

@@ -1,5 +1,6 @@
 package karzhoul.jpa.query;
 
+import java.lang.invoke.MethodType;
 import karzhoul.jpa.model.EntityModel;
 import karzhoul.jpa.model.UnitModel;
 
@@ -36,6 +37,6 @@ final class Classes {
 
     /** The class of a value of a primitive type. */
     static Class<?> boxed(Class<?> type) {
-        return type.isPrimitive() ? java.lang.invoke.MethodType.methodType(type).wrap().returnType() : type;
+        return type.isPrimitive() ? MethodType.methodType(type).wrap().returnType() : type;
     }
 }

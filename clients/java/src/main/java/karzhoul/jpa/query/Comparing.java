@@ -1,5 +1,7 @@
 package karzhoul.jpa.query;
 
+import java.math.BigDecimal;
+import java.nio.ByteBuffer;
 import java.time.LocalDate;
 import java.time.LocalDateTime;
 import java.util.Arrays;
@@ -18,7 +20,8 @@ final class Comparing {
         if (a instanceof Number x && b instanceof Number y) {
             return Numbers.compare(x, y);
         }
-        boolean areTexts = (a instanceof String || a instanceof Character) && (b instanceof String || b instanceof Character);
+        boolean areTexts = (a instanceof String || a instanceof Character)
+                && (b instanceof String || b instanceof Character);
         if (areTexts) {
             return Arrays.compare(a.toString().codePoints().toArray(), b.toString().codePoints().toArray());
         }
@@ -58,8 +61,8 @@ final class Comparing {
     /** What is the same for values that are equal, to find them by. */
     static Object key(Object value) {
         if (value instanceof byte[] bytes) {
-            return java.nio.ByteBuffer.wrap(bytes);
+            return ByteBuffer.wrap(bytes);
         }
-        return value instanceof java.math.BigDecimal decimal ? decimal.stripTrailingZeros() : value;
+        return value instanceof BigDecimal decimal ? decimal.stripTrailingZeros() : value;
     }
 }

@@ -4,6 +4,7 @@ import java.math.BigDecimal;
 import java.util.ArrayList;
 import java.util.Arrays;
 import java.util.Collection;
+import java.util.Collections;
 import java.util.LinkedHashSet;
 import java.util.List;
 import java.util.Set;
@@ -66,7 +67,8 @@ final class ConditionWriter {
             return Text.of(values.path((Reference) isEmpty.path()) + (isEmpty.isNot() ? " IS NOT EMPTY" : " IS EMPTY"));
         } else if (condition instanceof Member member) {
             return Text.of("").add(values.in(member.value(), Unit.THINGS).within(0))
-                    .add(member.isNot() ? " NOT MEMBER OF " : " MEMBER OF ").add(values.path((Reference) member.path()));
+                    .add(member.isNot() ? " NOT MEMBER OF " : " MEMBER OF ")
+                    .add(values.path((Reference) member.path()));
         } else if (condition instanceof Exists exists) {
             return Text.of(exists.isNot() ? "NOT EXISTS (" : "EXISTS (").add(blocks.block(exists.select())).add(")");
         } else if (condition instanceof TypeIs is) {
@@ -192,7 +194,8 @@ final class ConditionWriter {
                 out.append(in.isNot() ? written + " IS NOT NULL" : never(written));
             });
         }
-        return new Text().add(value.within(0)).add(in.isNot() ? " NOT IN (" : " IN (").add(Text.joined(", ", all)).add(")");
+        return new Text().add(value.within(0)).add(in.isNot() ? " NOT IN (" : " IN (")
+                .add(Text.joined(", ", all)).add(")");
     }
 
     private Text amongAll(InParameter in) {
@@ -210,9 +213,11 @@ final class ConditionWriter {
             }
             String written = left.written(binding);
             if (!all.isEmpty()) {
-                text.append(written).append(in.isNot() ? " NOT IN (" : " IN (").append(String.join(", ", all)).append(')');
+                text.append(written).append(in.isNot() ? " NOT IN (" : " IN (")
+                        .append(String.join(", ", all)).append(')');
             } else if (in.isNot()) {
-                text.append(isInexact ? written + " IS NOT NULL" : "(" + written + " IS NULL OR " + written + " IS NOT NULL)");
+                text.append(isInexact ? written + " IS NOT NULL"
+                        : "(" + written + " IS NULL OR " + written + " IS NOT NULL)");
             } else {
                 text.append(never(written));
             }
@@ -252,13 +257,14 @@ final class ConditionWriter {
         if (value instanceof Collection<?> collection) {
             return collection;
         }
-        return value instanceof Object[] array ? Arrays.asList(array) : java.util.Collections.singletonList(value);
+        return value instanceof Object[] array ? Arrays.asList(array) : Collections.singletonList(value);
     }
 
     // ---- the others
 
     private Text like(Like like) {
-        Text text = new Text().add(values.in(like.value(), Unit.TEXTS).within(0)).add(like.isNot() ? " NOT LIKE " : " LIKE ")
+        Text text = new Text().add(values.in(like.value(), Unit.TEXTS).within(0))
+                .add(like.isNot() ? " NOT LIKE " : " LIKE ")
                 .add(values.in(like.pattern(), Unit.TEXTS).within(0));
         Value escape = like.escape();
         if (escape != null) {

@@ -5,6 +5,7 @@ import java.lang.invoke.MethodHandle;
 import java.lang.invoke.MethodHandles;
 import java.lang.reflect.Constructor;
 import java.lang.reflect.InaccessibleObjectException;
+import java.util.Arrays;
 import java.util.List;
 import karzhoul.jpa.model.UnitModel;
 
@@ -79,7 +80,7 @@ record Constructing(Class<?> type, MethodHandle constructor) {
             return constructor.invoke(arguments);
         } catch (NullPointerException | ClassCastException e) {
             throw new PersistenceException("the constructor of " + type.getName() + " takes no "
-                    + java.util.Arrays.toString(arguments), e);
+                    + Arrays.toString(arguments), e);
         } catch (RuntimeException | Error e) {
             throw e;
         } catch (Throwable e) {

@@ -28,7 +28,8 @@ final class Decimals {
         if (value instanceof Number number) {
             return Conversions.decimal(number);
         }
-        throw new IllegalArgumentException("a number is expected, and " + value + " is of " + value.getClass().getName());
+        throw new IllegalArgumentException("a number is expected, and " + value + " is of "
+                + value.getClass().getName());
     }
 
     /** The number, or where it is far beyond all that is kept one of its side that is too: so no power of ten grows. */

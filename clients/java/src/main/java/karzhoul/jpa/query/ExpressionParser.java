@@ -1,6 +1,7 @@
 package karzhoul.jpa.query;
 
 import java.util.ArrayList;
+import java.util.Arrays;
 import java.util.List;
 import java.util.Locale;
 import java.util.Set;
@@ -350,7 +351,8 @@ final class ExpressionParser {
 
     /** A path: names with dots between them. */
     Value path() {
-        if (tokens.seesCall("TREAT") || tokens.seesCall("KEY") || tokens.seesCall("VALUE") || tokens.seesCall("ENTRY")) {
+        if (tokens.seesCall("TREAT") || tokens.seesCall("KEY") || tokens.seesCall("VALUE")
+                || tokens.seesCall("ENTRY")) {
             return called(tokens.peek());
         }
         int at = tokens.peek().at();
@@ -403,7 +405,7 @@ final class ExpressionParser {
     private Value plain(Token token, Function function) {
         if (function == null) {
             throw tokens.fault(token.at(), token.told() + " is no function" + Nearest.hint(token.text(),
-                    java.util.Arrays.stream(Function.values()).map(Enum::name).toList()));
+                    Arrays.stream(Function.values()).map(Enum::name).toList()));
         }
         List<Value> arguments = new ArrayList<>();
         do {
@@ -425,7 +427,8 @@ final class ExpressionParser {
         tokens.expectMark("(");
         boolean isDistinct = tokens.accept("DISTINCT");
         if (kind == Aggregate.Kind.COUNT && tokens.seesMark("*")) {
-            throw tokens.fault(tokens.peek().at(), "expected a path: COUNT(*) is none of Jakarta Persistence; write COUNT(v)");
+            throw tokens.fault(tokens.peek().at(),
+                    "expected a path: COUNT(*) is none of Jakarta Persistence; write COUNT(v)");
         }
         Value operand = value();
         tokens.expectMark(")");

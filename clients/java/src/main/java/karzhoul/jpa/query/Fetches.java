@@ -11,8 +11,8 @@ import karzhoul.jpa.query.Tree.Value;
 import karzhoul.jpa.query.Tree.Variable;
 
 /**
- * Takes fetch joins out of a SELECT (chapter 4.4.5.3): what they read is read after the rows. The join itself stays where
- * it may leave rows out or give an owner several times, as the standard has it.
+ * Takes fetch joins out of a SELECT (chapter 4.4.5.3): what they read is read after the rows. The join itself stays
+ * where it may leave rows out or give an owner several times, as the standard has it.
  */
 final class Fetches {
     /** That the relations are read of the objects of a variable, one after the other. */
@@ -45,7 +45,8 @@ final class Fetches {
 
     /** Whether a value is the variable itself. */
     static boolean isVariable(Value value, Variable variable) {
-        return value instanceof Reference path && path.variable() == variable && path.isEntity() && path.steps().isEmpty();
+        return value instanceof Reference path && path.variable() == variable && path.isEntity()
+                && path.steps().isEmpty();
     }
 
     private static Select without(Select select) {

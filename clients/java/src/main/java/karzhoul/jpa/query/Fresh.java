@@ -22,7 +22,8 @@ final class Fresh extends Rewriting {
     /** A copy, with a value that stands behind it and may name its variables. */
     Value value(Value value) {
         if (value instanceof Reference path && copies.containsKey(path.variable())) {
-            return new Reference(path.at(), copies.get(path.variable()), path.steps(), path.attribute(), path.isWholeKey());
+            return new Reference(path.at(), copies.get(path.variable()), path.steps(), path.attribute(),
+                    path.isWholeKey());
         }
         return valueWithin(value);
     }

@@ -4,12 +4,14 @@ import jakarta.persistence.PersistenceException;
 import java.math.BigDecimal;
 import java.math.BigInteger;
 import java.math.RoundingMode;
+import java.time.DateTimeException;
 import java.time.LocalDate;
 import java.time.LocalDateTime;
 import java.time.LocalTime;
 import java.time.temporal.ChronoField;
 import java.time.temporal.IsoFields;
 import java.time.temporal.Temporal;
+import java.util.Arrays;
 import java.util.List;
 import java.util.Locale;
 import java.util.Objects;
@@ -69,7 +71,7 @@ final class Functions {
         int[] wanted = searched.codePoints().toArray();
         for (long at = Math.max(1, from); at + wanted.length <= points.length + 1L; at++) {
             int place = (int) at - 1;
-            if (java.util.Arrays.equals(points, place, place + wanted.length, wanted, 0, wanted.length)) {
+            if (Arrays.equals(points, place, place + wanted.length, wanted, 0, wanted.length)) {
                 return (int) at;
             }
         }
@@ -146,7 +148,7 @@ final class Functions {
                 case "DATE" -> time instanceof LocalDateTime at ? at.toLocalDate() : LocalDate.from(time);
                 default -> time instanceof LocalDateTime at ? at.toLocalTime() : LocalTime.from(time);
             };
-        } catch (java.time.DateTimeException e) {
+        } catch (DateTimeException e) {
             throw new PersistenceException("there is no " + field + " in " + value, e);
         }
     }

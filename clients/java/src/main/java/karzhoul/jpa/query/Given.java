@@ -14,7 +14,8 @@ import java.util.Set;
 /** The parameters of a query with what they were set to (chapter 3.10.12). */
 final class Given {
     /** A parameter as {@code getParameter} answers it. */
-    private record Described<T>(String getName, Integer getPosition, Class<T> getParameterType) implements Parameter<T> {}
+    private record Described<T>(String getName, Integer getPosition, Class<T> getParameterType)
+            implements Parameter<T> {}
 
     private final Prepared statement;
     private final Map<Object, Object> values = new HashMap<>();
@@ -130,12 +131,14 @@ final class Given {
     }
 
     private static <T> Parameter<T> described(Object key, Class<T> type) {
-        return new Described<>(key instanceof String name ? name : null, key instanceof Integer place ? place : null, type);
+        return new Described<>(key instanceof String name ? name : null, key instanceof Integer place ? place : null,
+                type);
     }
 
     /** What of a point of time a TemporalType keeps, in the zone of the JVM. */
     static Object truncated(Date value, TemporalType type) {
-        return value == null ? null : truncated((LocalDateTime) Conversions.local(new Date(value.getTime())), type, value);
+        return value == null ? null : truncated((LocalDateTime) Conversions.local(new Date(value.getTime())), type,
+                value);
     }
 
     /** What of a point of time a TemporalType keeps, in the zone of the JVM. */

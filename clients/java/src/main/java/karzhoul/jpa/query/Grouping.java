@@ -11,7 +11,9 @@ import karzhoul.jpa.query.Tree.Reference;
 import karzhoul.jpa.query.Tree.Select;
 import karzhoul.jpa.query.Tree.Value;
 
-/** Groups (chapter 4.8): what may stand outside of aggregates, and the paths that an entity of GROUP BY gives with it. */
+/**
+ * Groups (chapter 4.8): what may stand outside of aggregates, and the paths that an entity of GROUP BY gives with it.
+ */
 final class Grouping {
     private final String text;
 
@@ -49,14 +51,18 @@ final class Grouping {
         if (isGrouped(select)) {
             for (Reference path : outside(select)) {
                 if (!isGiven(select, path)) {
-                    throw QueryFault.at(text, path.at(), "\"" + path + "\" stands outside of aggregates, and isn't one of "
+                    throw QueryFault.at(text, path.at(), "\"" + path
+                            + "\" stands outside of aggregates, and isn't one of "
                             + "GROUP BY");
                 }
             }
         }
     }
 
-    /** The block with those paths in GROUP BY that its entities give with them: the program asks for each, word for word. */
+    /**
+     * The block with those paths in GROUP BY that its entities give with them: the program asks for each, word for
+     * word.
+     */
     static Select completed(Select select) {
         if (select.groups().isEmpty()) {
             return select;

@@ -18,7 +18,8 @@ import karzhoul.jpa.query.Tree.Variable;
 
 /**
  * Makes of each join one along one relation of one variable, and of IN (path) a join. Steps on the way are inner joins
- * (chapter 4.4.4). The ON of an inner join goes to WHERE where a path of it has several steps, or the door computes in it.
+ * (chapter 4.4.4). The ON of an inner join goes to WHERE where a path of it has several steps, or the door computes in
+ * it.
  */
 final class Joins extends Rewriting {
     private final String text;
@@ -87,13 +88,15 @@ final class Joins extends Rewriting {
         boolean isDeep = on != null && Visiting.has(on, value -> value instanceof Reference deep && isDeep(deep));
         if (isDeep || on != null && !join.isLeft() && Visiting.has(on, Joins::isComputedByDoor)) {
             if (join.isLeft()) {
-                throw QueryFault.refusal(text, on.at(), "in the ON of a LEFT JOIN a path has one step at most; join what it "
+                throw QueryFault.refusal(text, on.at(),
+                        "in the ON of a LEFT JOIN a path has one step at most; join what it "
                         + "goes along before, and name that variable");
             }
             moved.add(on);
             on = null;
         }
-        sources.add(new Join(join.at(), join.isLeft(), false, along(path, from, last), join.name(), join.variable(), on));
+        sources.add(new Join(join.at(), join.isLeft(), false, along(path, from, last), join.name(), join.variable(),
+                on));
     }
 
     private static boolean isComputedByDoor(Value value) {

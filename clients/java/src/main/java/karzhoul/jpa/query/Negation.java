@@ -51,7 +51,8 @@ final class Negation extends Rewriting {
             Condition high = new Compare(of.at(), outside ? ">" : "<=", value(of.value()), value(of.high()));
             return outside ? new Or(of.at(), List.of(low, high)) : new And(of.at(), List.of(low, high));
         } else if (condition instanceof Quantified of) {
-            return new Quantified(of.at(), isNot ? opposite(of.sign()) : of.sign(), value(of.left()), of.isAll() != isNot,
+            return new Quantified(of.at(), isNot ? opposite(of.sign()) : of.sign(), value(of.left()),
+                    of.isAll() != isNot,
                     select(of.select()));
         } else if (condition instanceof InSelect of) {
             boolean none = of.isNot() != isNot;

@@ -21,8 +21,8 @@ import karzhoul.jpa.query.Tree.Update;
 import karzhoul.jpa.query.Tree.Value;
 
 /**
- * Reads statements (chapter 4.14, the grammar). Beyond that of 3.1 it takes a value in ORDER BY, an alias of JOIN FETCH,
- * and joins over several steps.
+ * Reads statements (chapter 4.14, the grammar). Beyond that of 3.1 it takes a value in ORDER BY, an alias of JOIN
+ * FETCH, and joins over several steps.
  */
 final class Parser {
     private final Tokens tokens;
@@ -216,7 +216,8 @@ final class Parser {
                     tokens.accept("ASC");
                 }
                 if (tokens.sees("NULLS")) {
-                    throw tokens.fault(tokens.peek().at(), "NULLS FIRST and NULLS LAST are none of Jakarta Persistence 3.1;"
+                    throw tokens.fault(tokens.peek().at(),
+                            "NULLS FIRST and NULLS LAST are none of Jakarta Persistence 3.1;"
                             + " nulls come first, and with DESC last");
                 }
                 order.add(new Key(value, isDescending));

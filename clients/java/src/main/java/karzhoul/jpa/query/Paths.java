@@ -55,7 +55,8 @@ final class Paths {
         return new Reference(at, variable, List.copyOf(steps), null, false);
     }
 
-    private Reference unmatched(int at, Variable variable, List<Relation> steps, EntityModel entity, List<String> names) {
+    private Reference unmatched(int at, Variable variable, List<Relation> steps, EntityModel entity,
+            List<String> names) {
         String path = String.join(".", names);
         if (entity.key().embedded().filter(path::equals).isPresent()) {
             return new Reference(at, variable, List.copyOf(steps), null, true);

@@ -95,7 +95,8 @@ final class Planner {
                 kept.add(writer.conditions.condition(conjunct));
             } catch (NotKept e) {
                 if (Visiting.hasBlock(conjunct)) {
-                    throw new NotKept(e.at, e.getMessage() + "; where no subquery stands beside it but by AND, the door "
+                    throw new NotKept(e.at, e.getMessage()
+                            + "; where no subquery stands beside it but by AND, the door "
                             + "decides it");
                 }
                 filters.add(conjunct);
@@ -124,7 +125,8 @@ final class Planner {
 
     void checkVariables(Select select, Names names) {
         if (names.count() > MOST_VARIABLES) {
-            throw QueryFault.refusal(text, select.at(), "the statement takes " + names.count() + " variables, those of its "
+            throw QueryFault.refusal(text, select.at(), "the statement takes " + names.count()
+                    + " variables, those of its "
                     + "subqueries and of its joins over several steps too, and there are at most " + MOST_VARIABLES);
         }
     }
@@ -278,7 +280,8 @@ final class Planner {
             if (leaves.columns().isEmpty()) {
                 leaves.addNothing();
             }
-            Text whole = Text.of(isDistinctByProgram ? "SELECT DISTINCT " : "SELECT ").add(columns(leaves)).add(body).add(tail);
+            Text whole = Text.of(isDistinctByProgram ? "SELECT DISTINCT "
+                    : "SELECT ").add(columns(leaves)).add(body).add(tail);
             if (order != null && !order.isEmpty()) {
                 whole.add(" ORDER BY ").add(Text.joined(", ", order));
             }
@@ -291,7 +294,8 @@ final class Planner {
         private List<SelectPlan.Sorted> sorted(Leaves leaves) {
             List<SelectPlan.Sorted> sorted = new ArrayList<>();
             for (Key key : select.order()) {
-                Value value = key.value() instanceof ItemName name ? select.items().get(name.place()).value() : key.value();
+                Value value = key.value() instanceof ItemName name ? select.items().get(name.place()).value()
+                        : key.value();
                 if (select.isDistinct() && !(key.value() instanceof ItemName)) {
                     checkGiven(value);
                 }
@@ -314,13 +318,15 @@ final class Planner {
         }
 
         private QueryFault notGiven(int at, Reference path) {
-            return QueryFault.at(text, at, "with DISTINCT, ORDER BY takes what is selected, and \"" + path + "\" isn't");
+            return QueryFault.at(text, at, "with DISTINCT, ORDER BY takes what is selected, and \"" + path
+                    + "\" isn't");
         }
 
         private Text columns(Leaves leaves) {
             List<Text> columns = new ArrayList<>();
             for (Leaves.Column column : leaves.columns()) {
-                columns.add(new Text().add(column.text()).add(select.order().isEmpty() ? "" : " AS c" + columns.size()));
+                columns.add(new Text().add(column.text()).add(select.order().isEmpty() ? "" : " AS c"
+                        + columns.size()));
             }
             return Text.joined(", ", columns);
         }

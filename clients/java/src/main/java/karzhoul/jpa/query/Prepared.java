@@ -2,6 +2,7 @@ package karzhoul.jpa.query;
 
 import java.util.List;
 import java.util.Map;
+import karzhoul.jpa.model.UnitModel;
 import karzhoul.jpa.query.Tree.Item;
 
 /**
@@ -26,7 +27,7 @@ record Prepared(String text, Plan plan, Map<Object, ParameterModel> parameters, 
         return plan instanceof SelectPlan;
     }
 
-    static Column column(karzhoul.jpa.model.UnitModel unit, String text, Item item) {
+    static Column column(UnitModel unit, String text, Item item) {
         if (item.value() instanceof Tree.Construct construct) {
             Constructing made = Constructing.of(unit, text, construct);
             return new Column(item.name(), made.type(), made);

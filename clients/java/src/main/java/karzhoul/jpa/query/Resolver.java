@@ -123,7 +123,8 @@ final class Resolver extends Rewriting {
     @Override
     Source source(Source source) {
         if (source instanceof Range range) {
-            return new Range(range.at(), range.entity(), range.name(), declared(range.at(), range.name(), entity(range)));
+            return new Range(range.at(), range.entity(), range.name(),
+                    declared(range.at(), range.name(), entity(range)));
         }
         if (source instanceof Derived derived) {
             Reference path = related(derived.path());
@@ -248,7 +249,8 @@ final class Resolver extends Rewriting {
                 }
                 constants.add(((Enum<?>) constant).name());
             }
-            throw fault(path.at(), type.getName() + " has no constant \"" + last + "\"" + Nearest.hint(last, constants));
+            throw fault(path.at(), type.getName() + " has no constant \"" + last + "\""
+                    + Nearest.hint(last, constants));
         }
         throw fault(path.at(), "there is no variable \"" + names.get(0) + "\" and no enum \"" + className + "\""
                 + Nearest.hint(names.get(0), known()));

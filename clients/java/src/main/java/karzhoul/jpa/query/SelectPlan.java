@@ -1,12 +1,16 @@
 package karzhoul.jpa.query;
 
+import jakarta.persistence.PersistenceException;
 import java.util.ArrayList;
+import java.util.Arrays;
+import java.util.Collections;
 import java.util.HashSet;
 import java.util.IdentityHashMap;
 import java.util.LinkedHashMap;
 import java.util.List;
 import java.util.Map;
 import java.util.Set;
+import karzhoul.jpa.model.Relation;
 import karzhoul.jpa.query.Evaluator.Frame;
 import karzhoul.jpa.query.Tree.Condition;
 import karzhoul.jpa.query.Tree.Construct;
@@ -14,8 +18,8 @@ import karzhoul.jpa.query.Tree.Item;
 import karzhoul.jpa.query.Tree.Value;
 
 /**
- * How a SELECT is answered: the program's text, and what the door does with its rows behind it, in this order: it leaves
- * rows out, groups them, leaves groups out, computes the items, keeps the first of equal rows, sorts and cuts.
+ * How a SELECT is answered: the program's text, and what the door does with its rows behind it, in this order: it
+ * leaves rows out, groups them, leaves groups out, computes the items, keeps the first of equal rows, sorts and cuts.
  *
  * @param text the program's text
  * @param leaves its columns
@@ -62,7 +66,8 @@ record SelectPlan(Text text, Leaves leaves, List<Item> items, List<Condition> fi
         }
         binding.checkLength(written);
         boolean isCut = isCutByProgram();
-        List<Object[]> found = binding.asking.rows(written, binding.parameters(), isCut ? first : null, isCut ? max : null);
+        List<Object[]> found = binding.asking.rows(written, binding.parameters(), isCut ? first : null, isCut ? max
+                : null);
         Evaluator evaluator = new Evaluator(leaves, binding);
         List<Row> rows = new ArrayList<>();
         for (Frame frame : frames(evaluator, found)) {
@@ -80,7 +85,7 @@ record SelectPlan(Text text, Leaves leaves, List<Item> items, List<Condition> fi
         Binding own = new Binding(binding);
         List<Object[]> rows = rows(own, null, 2);
         if (rows.size() > 1) {
-            throw new jakarta.persistence.PersistenceException("a subquery that is compared as one value has several rows");
+            throw new PersistenceException("a subquery that is compared as one value has several rows");
         }
         return rows.isEmpty() ? null : rows.get(0)[0];
     }
@@ -129,7 +134,7 @@ record SelectPlan(Text text, Leaves leaves, List<Item> items, List<Condition> fi
                     arguments[argument] = evaluator.value(construct.arguments().get(argument).value(), frame);
                 }
                 values[place] = arguments;
-                key.add(java.util.Arrays.asList(arguments));
+                key.add(Arrays.asList(arguments));
             } else {
                 values[place] = evaluator.value(value, frame);
                 if (isDistinct) {
@@ -212,7 +217,7 @@ record SelectPlan(Text text, Leaves leaves, List<Item> items, List<Condition> fi
         Map<Tree.Variable, List<Object>> known = new IdentityHashMap<>();
         for (Fetches.Fetch fetch : fetches) {
             List<Object> owners = known.computeIfAbsent(fetch.owner(), owner -> owners(owner, rows));
-            for (karzhoul.jpa.model.Relation relation : fetch.relations()) {
+            for (Relation relation : fetch.relations()) {
                 binding.asking.fetch(owners, relation);
                 owners = members(owners, relation);
             }
@@ -221,7 +226,7 @@ record SelectPlan(Text text, Leaves leaves, List<Item> items, List<Condition> fi
     }
 
     private List<Object> owners(Tree.Variable variable, List<Object[]> rows) {
-        Set<Object> owners = java.util.Collections.newSetFromMap(new IdentityHashMap<>());
+        Set<Object> owners = Collections.newSetFromMap(new IdentityHashMap<>());
         List<Object> inOrder = new ArrayList<>();
         for (int place = 0; place < items.size(); place++) {
             if (Fetches.isVariable(items.get(place).value(), variable)) {
@@ -235,13 +240,13 @@ record SelectPlan(Text text, Leaves leaves, List<Item> items, List<Condition> fi
         return inOrder;
     }
 
-    private static List<Object> members(List<Object> owners, karzhoul.jpa.model.Relation relation) {
-        Set<Object> seen = java.util.Collections.newSetFromMap(new IdentityHashMap<>());
+    private static List<Object> members(List<Object> owners, Relation relation) {
+        Set<Object> seen = Collections.newSetFromMap(new IdentityHashMap<>());
         List<Object> members = new ArrayList<>();
         for (Object owner : owners) {
             Object held = relation.get(owner);
             Iterable<?> all = held instanceof Map<?, ?> map ? map.values() : held instanceof Iterable<?> many ? many
-                    : java.util.Collections.singletonList(held);
+                    : Collections.singletonList(held);
             for (Object member : all) {
                 if (member != null && seen.add(member)) {
                     members.add(member);

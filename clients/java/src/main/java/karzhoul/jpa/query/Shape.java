@@ -40,13 +40,15 @@ final class Shape {
             if (Classes.boxed(type).isAssignableFrom(java) || java == Object.class) {
                 return new Shape(columns, Kind.ITEM);
             }
-            throw new IllegalArgumentException("rows of the query are of " + java.getName() + ", and no " + type.getName()
+            throw new IllegalArgumentException("rows of the query are of " + java.getName() + ", and no "
+                    + type.getName()
                     + ": " + statement.text());
         }
         if (type == Object.class) {
             return new Shape(columns, Kind.ARRAY);
         }
-        throw new IllegalArgumentException("rows of the query have " + columns.size() + " items, which Object[], Tuple and "
+        throw new IllegalArgumentException("rows of the query have " + columns.size()
+                + " items, which Object[], Tuple and "
                 + "SELECT NEW hold, and no " + type.getName() + ": " + statement.text());
     }
 

@@ -1,5 +1,6 @@
 package karzhoul.jpa.query;
 
+import jakarta.persistence.FlushModeType;
 import jakarta.persistence.LockModeType;
 import jakarta.persistence.Query;
 import jakarta.persistence.TypedQuery;
@@ -13,8 +14,8 @@ import karzhoul.jpa.query.Tree.Select;
 import karzhoul.jpa.query.Tree.Statement;
 
 /**
- * The statements of a factory: each text is read, typed and planned once, and the last of them are kept. Threads may share
- * it; queries belong to their managers.
+ * The statements of a factory: each text is read, typed and planned once, and the last of them are kept. Threads may
+ * share it; queries belong to their managers.
  */
 public final class Statements {
     private static final int MOST_KEPT = 1_000;
@@ -34,12 +35,13 @@ public final class Statements {
     private record NamedQuery(String text, Map<String, Object> hints, Settings settings) {}
 
     /** What {@code addNamedQuery} keeps of a query beside its text. */
-    record Settings(int first, int max, jakarta.persistence.FlushModeType flush, LockModeType lock) {}
+    record Settings(int first, int max, FlushModeType flush, LockModeType lock) {}
 
     /** The statements of a unit, with its named queries. */
     public Statements(UnitModel unit) {
         this.unit = unit;
-        unit.namedQueries().forEach((name, query) -> named.put(name, new NamedQuery(query.text(), query.hints(), null)));
+        unit.namedQueries().forEach((name, query) -> named.put(name,
+                new NamedQuery(query.text(), query.hints(), null)));
     }
 
     /**
@@ -131,7 +133,8 @@ public final class Statements {
     }
 
     /**
-     * Names a query, in the place of one of that name (EntityManagerFactory.addNamedQuery); what its parameters are isn't
+     * Names a query, in the place of one of that name (EntityManagerFactory.addNamedQuery); what its parameters are
+     * isn't
      * kept.
      *
      * @throws IllegalArgumentException where the query is none of this provider's

@@ -4,8 +4,8 @@ import java.util.ArrayList;
 import java.util.List;
 
 /**
- * A text of the program's language, parts of which are known as it is executed. Once it is made, threads may write it at
- * the same time.
+ * A text of the program's language, parts of which are known as it is executed. Once it is made, threads may write it
+ * at the same time.
  */
 final class Text {
     /** A part that is known as the statement is executed. */

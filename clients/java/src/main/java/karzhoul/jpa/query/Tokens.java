@@ -9,7 +9,8 @@ final class Tokens {
     /** Reserved identifiers that can't be an identification variable without another meaning (chapter 4.4.1). */
     private static final Set<String> RESERVED = Set.of("ALL", "AND", "ANY", "AS", "ASC", "AVG", "BETWEEN", "BOTH", "BY",
             "CASE", "COUNT", "CURRENT_DATE", "CURRENT_TIME", "CURRENT_TIMESTAMP", "DELETE", "DESC", "DISTINCT", "ELSE",
-            "EMPTY", "END", "ESCAPE", "EXISTS", "FALSE", "FETCH", "FROM", "GROUP", "HAVING", "IN", "INNER", "IS", "JOIN",
+            "EMPTY", "END", "ESCAPE", "EXISTS", "FALSE", "FETCH", "FROM", "GROUP", "HAVING", "IN", "INNER", "IS",
+                    "JOIN",
             "LEFT", "LIKE", "MAX", "MEMBER", "MIN", "NEW", "NOT", "NULL", "OF", "ON", "OR", "ORDER", "OUTER", "SELECT",
             "SET", "SOME", "SUM", "THEN", "TRUE", "UPDATE", "WHEN", "WHERE");
 

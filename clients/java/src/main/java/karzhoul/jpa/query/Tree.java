@@ -68,7 +68,8 @@ final class Tree {
 
     /** What has a value. */
     sealed interface Value extends Expression permits Path, Reference, Literal, Parameter, EntityName, ItemName, Signed,
-            Arithmetic, Call, Aggregate, Case, Scalar, TypeOf, Now, Treated, MapPart, Construct, Asked, Average, PartOf {}
+            Arithmetic, Call, Aggregate, Case, Scalar, TypeOf, Now, Treated, MapPart, Construct, Asked, Average,
+                    PartOf {}
 
     /** Names with dots between them, as they are written. */
     record Path(int at, List<String> names) implements Value {

@@ -102,7 +102,8 @@ record Type(Kind kind, Class<?> java, EntityModel entity) {
         if (!a.isKnown() || !b.isKnown()) {
             return a.isKnown() ? a : b;
         }
-        for (Class<?> java : new Class<?>[] {Double.class, Float.class, BigDecimal.class, BigInteger.class, Long.class}) {
+        for (Class<?> java : new Class<?>[] {Double.class, Float.class, BigDecimal.class, BigInteger.class,
+                Long.class}) {
             if (a.java == java || b.java == java) {
                 return java == Float.class ? DOUBLE : new Type(Kind.NUMBER, java, null);
             }

@@ -5,6 +5,7 @@ import java.util.Collection;
 import java.util.LinkedHashMap;
 import java.util.List;
 import java.util.Map;
+import karzhoul.jpa.model.Attribute;
 import karzhoul.jpa.model.UnitModel;
 import karzhoul.jpa.query.Tree.Aggregate;
 import karzhoul.jpa.query.Tree.Arithmetic;
@@ -86,7 +87,7 @@ final class Typer {
         if (!isLink && (path.attribute() == null || !path.steps().isEmpty())) {
             throw fault(path.at(), "SET takes attributes and links to one entity, and \"" + path + "\" is neither");
         }
-        if (path.attribute() != null && path.attribute().role() == karzhoul.jpa.model.Attribute.Role.KEY) {
+        if (path.attribute() != null && path.attribute().role() == Attribute.Role.KEY) {
             throw fault(path.at(), "\"" + path + "\" is part of the key, which SET doesn't change");
         }
         Type given = typed(value, false);
@@ -125,7 +126,8 @@ final class Typer {
     }
 
     private void key(Select select, Key key) {
-        Value value = key.value() instanceof Tree.ItemName name ? select.items().get(name.place()).value() : key.value();
+        Value value = key.value() instanceof Tree.ItemName name ? select.items().get(name.place()).value()
+                : key.value();
         Type type = typed(value, true);
         if (value instanceof Construct) {
             throw fault(key.value().at(), "ORDER BY takes values that have an order, and this is NEW of a class");
@@ -146,7 +148,8 @@ final class Typer {
     /** The type of a value, once it is judged. */
     Type typed(Value value, boolean takesAggregates) {
         if (value instanceof Reference reference && reference.isCollection()) {
-            throw fault(value.at(), "\"" + reference + "\" is a collection, which is no value: join it, or ask for SIZE,"
+            throw fault(value.at(), "\"" + reference
+                    + "\" is a collection, which is no value: join it, or ask for SIZE,"
                     + " IS EMPTY or MEMBER OF");
         } else if (value instanceof Parameter parameter) {
             model(parameter, Type.UNKNOWN, false);
@@ -232,7 +235,8 @@ final class Typer {
     private void extract(List<Value> arguments, boolean takesAggregates) {
         String field = (String) ((Literal) arguments.get(0)).value();
         if (Clock.typeOfField(field) == null) {
-            throw fault(arguments.get(0).at(), "\"" + field + "\" is no field; there are YEAR, QUARTER, MONTH, WEEK, DAY,"
+            throw fault(arguments.get(0).at(), "\"" + field
+                    + "\" is no field; there are YEAR, QUARTER, MONTH, WEEK, DAY,"
                     + " HOUR, MINUTE, SECOND, DATE and TIME");
         }
         wanted(arguments.get(1), Type.Kind.TEMPORAL, Type.UNKNOWN, takesAggregates);

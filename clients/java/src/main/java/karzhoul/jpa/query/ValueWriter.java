@@ -228,8 +228,10 @@ final class ValueWriter {
             throw new NotKept(aggregate.at(), "AVG isn't among what the program computes");
         }
         boolean isCount = aggregate.kind() == Aggregate.Kind.COUNT;
-        Written operand = aggregate.kind() == Aggregate.Kind.SUM ? whole(aggregate.operand()) : value(aggregate.operand());
-        Text text = Text.of(aggregate.kind() + (aggregate.isDistinct() ? "(DISTINCT " : "(")).add(operand.text()).add(")");
+        Written operand = aggregate.kind() == Aggregate.Kind.SUM ? whole(aggregate.operand())
+                : value(aggregate.operand());
+        Text text = Text.of(aggregate.kind() + (aggregate.isDistinct() ? "(DISTINCT "
+                : "(")).add(operand.text()).add(")");
         return new Written(text, isCount ? Unit.INTEGERS : operand.unit(), 2);
     }
 

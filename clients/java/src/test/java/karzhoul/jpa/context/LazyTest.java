@@ -20,7 +20,7 @@ import karzhoul.jpa.shop.Order;
 import karzhoul.jpa.shop.Person;
 import org.junit.jupiter.api.Test;
 
-/** What is read when it is looked at (chapters 3.2.6 and 11.1): proxies and collections, detached and serialized ones too. */
+/** What is read when it is looked at (chapters 3.2.6 and 11.1): proxies and collections, detached and serialized ones. */
 class LazyTest extends Tried {
     private void storeDepotWithOrders() {
         Depot depot = new Depot("d", "here");
@@ -91,7 +91,8 @@ class LazyTest extends Tried {
         manager.close();
         manager = factory.createEntityManager();
         assertTrue(assertThrows(PersistenceException.class, proxy::getPlace).getMessage().contains("detached"));
-        assertTrue(assertThrows(PersistenceException.class, () -> depot.getOrders().size()).getMessage().contains("orders"));
+        PersistenceException refused = assertThrows(PersistenceException.class, () -> depot.getOrders().size());
+        assertTrue(refused.getMessage().contains("orders"), refused.getMessage());
     }
 
     @Test

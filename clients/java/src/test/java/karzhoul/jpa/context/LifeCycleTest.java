@@ -48,7 +48,8 @@ class LifeCycleTest {
 
     private static final List<Kind> KINDS = List.of(
         new Kind("generated", Person.class, () -> new Person("p"), it -> ((Person) it).getId()),
-        new Kind("assigned, versioned", Depot.class, () -> new Depot("d" + ++number, "here"), it -> ((Depot) it).getCode()),
+        new Kind("assigned, versioned", Depot.class, () -> new Depot("d" + ++number, "here"),
+            it -> ((Depot) it).getCode()),
         new Kind("assigned", Order.class, () -> new Order(++number, 1), it -> ((Order) it).getNumber()),
         new Kind("UUID", Team.class, () -> new Team("t"), it -> ((Team) it).getId()));
 
@@ -165,7 +166,8 @@ class LifeCycleTest {
                 manager.getTransaction().commit();
             });
             assertTrue(refused instanceof EntityExistsException
-                || refused instanceof RollbackException && refused.getCause() instanceof EntityExistsException, refused.toString());
+                || refused instanceof RollbackException && refused.getCause() instanceof EntityExistsException,
+                refused.toString());
             return;
         }
         manager.persist(instance);

@@ -21,8 +21,10 @@ import jakarta.persistence.TransactionRequiredException;
 import java.util.List;
 import java.util.Map;
 import karzhoul.jpa.shop.Audit;
+import karzhoul.jpa.shop.Car;
 import karzhoul.jpa.shop.Depot;
 import karzhoul.jpa.shop.Holder;
+import karzhoul.jpa.shop.Motor;
 import karzhoul.jpa.shop.Order;
 import karzhoul.jpa.shop.Person;
 import karzhoul.jpa.shop.Place;
@@ -60,6 +62,33 @@ class ManagerTest extends Tried {
     }
 
     @Test
+    void bothSidesOfAOneToOne() {
+        Car car = new Car(new Motor(1.5));
+        store(car);
+        Motor motor = manager.find(Motor.class, car.getMotor().getId());
+        assertFalse(LoadStates.isRead(motor.getCar()));
+        assertEquals(car.getId(), motor.getCar().getId());
+        assertSame(motor, motor.getCar().getMotor());
+        commit(() -> manager.find(Car.class, car.getId()).setMotor(new Motor(2.5)));
+        assertNull(manager.find(Motor.class, motor.getId()), "it is an orphan");
+        assertEquals(2.5, read(other -> other.find(Car.class, car.getId()).getMotor().getPower()));
+        manager.clear();
+        Car detached = manager.find(Car.class, car.getId());
+        detached.getMotor().setPower(3.5);
+        manager.clear();
+        commit(() -> assertEquals(3.5, manager.merge(detached).getMotor().getPower()));
+        assertEquals(3.5, read(other -> other.find(Car.class, car.getId()).getMotor().getPower()));
+        Car unread = manager.find(Car.class, car.getId());
+        manager.clear();
+        Car again = manager.find(Car.class, car.getId());
+        manager.clear();
+        commit(() -> manager.merge(again));
+        assertEquals(3.5, read(other -> other.find(Car.class, car.getId()).getMotor().getPower()));
+        commit(() -> manager.remove(manager.merge(unread)));
+        assertEquals(0L, manager.createQuery("SELECT COUNT(m) FROM Motor m").getSingleResult());
+    }
+
+    @Test
     void aDerivedKeyIsThatOfWhatItLeadsTo() {
         Profile profile = new Profile(new Place("p"), "text");
         commit(() -> manager.persist(profile));
@@ -90,6 +119,24 @@ class ManagerTest extends Tried {
         assertFalse(manager.contains(ada));
         assertFalse(manager.getTransaction().isActive());
         assertEquals("Ada", manager.find(Person.class, 1L).getName());
+    }
+
+    @Test
+    void aCommitAfterAFlushThatIsStaleNamesItsEntityAlsoWithoutAVersion() {
+        store(new Person("Ada"), new Person("Bea"), new Order(1, 1), new Order(2, 2));
+        manager.getTransaction().begin();
+        manager.find(Person.class, 1L).setName("one");
+        Person bea = manager.find(Person.class, 2L);
+        bea.setName("two");
+        manager.flush();
+        other(it -> it.find(Person.class, 2L).setName("other"));
+        assertSame(bea, ((OptimisticLockException) causeOf(this::commitNow)).getEntity());
+        manager.getTransaction().begin();
+        manager.find(Order.class, 1L).setAmount(10L);
+        Order second = manager.find(Order.class, 2L);
+        second.setAmount(20L);
+        other(it -> it.find(Order.class, 2L).setAmount(30L));
+        assertSame(second, ((OptimisticLockException) causeOf(this::commitNow)).getEntity());
     }
 
     @Test

@@ -33,6 +33,7 @@ final class RandomWork {
     private final List<Long> ids = new ArrayList<>();
     private final List<String> did = new ArrayList<>();
     private long number;
+    private boolean hasKills;
     private EntityManager manager;
     private UUID teamId;
     private Team teamSeen;
@@ -40,6 +41,7 @@ final class RandomWork {
     int commits;
     int others;
     int restarts;
+    int kills;
     final List<String> wrong = new ArrayList<>();
     final Map<String, Integer> refused = new TreeMap<>();
 
@@ -48,6 +50,12 @@ final class RandomWork {
         random = new Random(seed);
         this.hasOthers = hasOthers;
         this.keepsManager = keepsManager;
+    }
+
+    /** From now on the program is killed now and then, between two operations. */
+    RandomWork kills() {
+        hasKills = true;
+        return this;
     }
 
     RandomWork rounds(int rounds) {
@@ -157,6 +165,13 @@ final class RandomWork {
         if (hasOthers && random.nextInt(12) == 0) {
             other(round);
         }
+        if (hasKills && random.nextInt(40) == 0) {
+            ProcessHandle program = ProcessHandle.of(factory.pool().engine().pid()).orElseThrow();
+            program.destroyForcibly();
+            program.onExit().join();
+            kills++;
+            did.add("kill");
+        }
         int kind = random.nextInt(22);
         did.add(kind + " " + person);
         if (person == null || kind == 0) {
@@ -254,8 +269,8 @@ final class RandomWork {
                 team(round);
                 break;
             case 19:
-                manager.createQuery("SELECT DISTINCT p FROM Person p JOIN FETCH p.orders WHERE p.id = :id", Person.class)
-                    .setParameter("id", person.getId()).getResultList();
+                manager.createQuery("SELECT DISTINCT p FROM Person p JOIN FETCH p.orders WHERE p.id = :id",
+                    Person.class).setParameter("id", person.getId()).getResultList();
                 break;
             case 20:
                 person.setOrders(new ArrayList<>(person.getOrders()));
@@ -387,7 +402,8 @@ final class RandomWork {
 
     @Override
     public String toString() {
-        return commits + " commits, " + others + " others, " + restarts + " restarts, refused " + refused + ", wrong "
+        return commits + " commits, " + kills + " kills, " + others + " others, " + restarts + " restarts, refused "
+            + refused + ", wrong "
             + wrong.size();
     }
 }

@@ -47,6 +47,17 @@ class RandomWorkTest {
         }
     }
 
+    @ParameterizedTest
+    @ValueSource(longs = {51, 52})
+    void programsAreKilledBetween(long seed) {
+        try (Factory factory = Shop.open()) {
+            RandomWork work = new RandomWork(factory, seed, false, true).kills().rounds(ROUNDS);
+            System.out.println(work);
+            assertEquals(List.of(), work.wrong, work.toString());
+            assertTrue(work.commits > ROUNDS / 4 && work.kills > 0, work.toString());
+        }
+    }
+
     @Test
     void aDoorThatLosesOneSetInAThousandIsFound() {
         int found = 0;

@@ -23,6 +23,7 @@ import karzhoul.jpa.shop.Order;
 import karzhoul.jpa.shop.Person;
 import karzhoul.jpa.shop.Shop;
 import karzhoul.jpa.shop.Tag;
+import net.bytebuddy.ByteBuddy;
 import org.junit.jupiter.api.Test;
 import org.junit.jupiter.api.Timeout;
 
@@ -95,7 +96,8 @@ class ThreadsTest extends Tried {
         managers.get(3).getTransaction().commit();
         managers.get(4).getTransaction().begin();
         persons.get(4).setName("stale");
-        RollbackException refused = assertThrows(RollbackException.class, () -> managers.get(4).getTransaction().commit());
+        RollbackException refused =
+            assertThrows(RollbackException.class, () -> managers.get(4).getTransaction().commit());
         assertEquals(persons.get(4), ((OptimisticLockException) refused.getCause()).getEntity());
         assertEquals("changed", read(other -> other.find(Person.class, 1L)).getName());
         managers.forEach(EntityManager::close);
@@ -141,6 +143,41 @@ class ThreadsTest extends Tried {
         assertTrue(factory.pool().restartIfIdle());
         commit(() -> ada.add(new Order(3, 3)));
         assertEquals(3, orders());
+    }
+
+    @Test
+    void whatOthersAddedMeanwhileIsRemovedByWhoIsCarriedOver() {
+        store(new Person("Ada").add(new Order(1, 1)).add(new Order(2, 2)));
+        Person ada = manager.find(Person.class, 1L);
+        assertEquals(2, ada.getOrders().size());
+        ada.getOrders().remove(manager.find(Order.class, 2L));
+        ada.add(new Order(3, 3));
+        other(it -> it.find(Person.class, 1L).add(new Order(4, 4)));
+        assertTrue(factory.pool().restartIfIdle());
+        commit(() -> manager.remove(manager.find(Order.class, 4L)));
+        assertNotNull(read(other -> other.find(Order.class, 4L)), "it is in the list still, and managed again");
+        assertEquals(List.of(4L, 3L, 1L), read(other -> other.find(Person.class, 1L).getOrders().stream()
+            .map(Order::getNumber).toList()));
+        commit(() -> {
+            Order fourth = manager.find(Order.class, 4L);
+            ada.getOrders().remove(fourth);
+            manager.remove(fourth);
+        });
+        assertEquals(List.of(3L, 1L), read(other -> other.find(Person.class, 1L).getOrders().stream()
+            .map(Order::getNumber).toList()));
+    }
+
+    @Test
+    void anInverseSetThatNobodyReadRefusesNoRemovalAfterTheEndOfARun() {
+        Person ada = new Person("Ada");
+        store(ada);
+        Person found = manager.find(Person.class, 1L);
+        Tag tag = new Tag("x");
+        commit(() -> found.getTags().add(tag));
+        assertTrue(factory.pool().restartIfIdle());
+        commit(() -> manager.remove(found));
+        assertNull(read(other -> other.find(Person.class, 1L)));
+        assertTrue(manager.contains(tag));
     }
 
     @Test
@@ -256,7 +293,7 @@ class ThreadsTest extends Tried {
     @Test
     void aJvmThatIsKilledEndsItsProgram() throws Exception {
         StringBuilder path = new StringBuilder();
-        for (Class<?> each : List.of(ThreadsTest.class, Factory.class, EntityManager.class, net.bytebuddy.ByteBuddy.class)) {
+        for (Class<?> each : List.of(ThreadsTest.class, Factory.class, EntityManager.class, ByteBuddy.class)) {
             path.append(Path.of(each.getProtectionDomain().getCodeSource().getLocation().toURI())).append(':');
         }
         Process other = new ProcessBuilder(ProcessHandle.current().info().command().orElse("java"),

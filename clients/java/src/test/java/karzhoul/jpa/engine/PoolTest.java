@@ -12,6 +12,7 @@ import java.util.ArrayList;
 import java.util.List;
 import java.util.concurrent.CompletableFuture;
 import java.util.concurrent.TimeUnit;
+import java.util.concurrent.atomic.AtomicReference;
 import karzhoul.jpa.shop.Shop;
 import org.junit.jupiter.api.AfterEach;
 import org.junit.jupiter.api.Test;
@@ -37,6 +38,26 @@ class PoolTest {
         CompletableFuture<Session> waits = CompletableFuture.supplyAsync(() -> pool.enter(null, 10_000));
         pool.giveBack(busy.get(0), false);
         assertEquals(busy.get(0).manager(), waits.orTimeout(5, TimeUnit.SECONDS).join().manager());
+    }
+
+    @Test
+    void whoIsInterruptedWhileItWaitsStaysInterrupted() throws InterruptedException {
+        for (int i = 0; i < Pool.MANAGERS; i++) {
+            pool.enter(null, 1_000);
+        }
+        AtomicReference<String> told = new AtomicReference<>();
+        Thread waits = new Thread(() -> {
+            try {
+                pool.enter(null, 60_000);
+            } catch (PersistenceException e) {
+                told.set(e.getMessage() + Thread.currentThread().isInterrupted());
+            }
+        });
+        waits.start();
+        Thread.sleep(50);
+        waits.interrupt();
+        waits.join(10_000);
+        assertEquals("interrupted while it waited for a manager of the programtrue", told.get());
     }
 
     @Test

@@ -36,18 +36,21 @@ class RepliesTest {
         assertEquals(Long.MIN_VALUE, read("{\"events\":[],\"ok\":-9223372036854775808}").ok());
         assertEquals("", read("{\"events\":[],\"ok\":\"\"}").ok());
         assertEquals("é€😀", read("{\"events\":[],\"ok\":\"é€😀\"}").ok());
-        assertEquals("a\"\\\n\t\r\b\f/\u0001é", read("{\"events\":[],\"ok\":\"a\\\"\\\\\\n\\t\\r\\b\\f/\\u0001é\"}").ok());
+        assertEquals("a\"\\\n\t\r\b\f/\u0001é",
+            read("{\"events\":[],\"ok\":\"a\\\"\\\\\\n\\t\\r\\b\\f/\\u0001é\"}").ok());
         assertArrayEquals(new byte[] {10, -1}, (byte[]) read("{\"events\":[],\"ok\":{\"hex\":\"0aff\"}}").ok());
         assertArrayEquals(new byte[0], (byte[]) read("{\"events\":[],\"ok\":{\"hex\":\"\"}}").ok());
         assertEquals(new Ref(7), read("{\"events\":[],\"ok\":{\"object\":7}}").ok());
         assertEquals(List.of(), read("{\"events\":[],\"ok\":[]}").ok());
-        assertEquals(List.of(1L, List.of("a", new Ref(2))), read("{\"events\":[],\"ok\":[1,[\"a\",{\"object\":2}]]}").ok());
+        assertEquals(List.of(1L, List.of("a", new Ref(2))),
+            read("{\"events\":[],\"ok\":[1,[\"a\",{\"object\":2}]]}").ok());
     }
 
     @Test
     void whatValuesShows() throws IOException {
         Shown shown = (Shown) read("{\"events\":[],\"ok\":[{\"entity\":\"Company\",\"relations\":[null,{\"object\":3},"
-            + "{\"key\":[5,\"a\"]},{\"unread\":true},[{\"object\":4}],[]],\"values\":[7,null,\"Ada\",{\"hex\":\"0a\"}]}]}")
+            + "{\"key\":[5,\"a\"]},{\"unread\":true},[{\"object\":4}],[]],"
+            + "\"values\":[7,null,\"Ada\",{\"hex\":\"0a\"}]}]}")
             .list().get(0);
         assertEquals("Company", shown.entity());
         assertNull(shown.relations()[0]);
@@ -65,10 +68,12 @@ class RepliesTest {
         Reply loaded = read("{\"events\":[[\"PostLoad\",3],[\"PrePersist\",4,\"a\",\"b\"]],\"ok\":null}");
         assertEquals(List.of(new Event(Callbacks.Event.PostLoad, 3), new Event(Callbacks.Event.PrePersist, 4)),
             loaded.events());
-        Reply refused = read("{\"error\":{\"name\":\"Rollback\",\"no\":14,\"why\":\"Persistence(null)\"},\"events\":[]}");
+        Reply refused =
+            read("{\"error\":{\"name\":\"Rollback\",\"no\":14,\"why\":\"Persistence(null)\"},\"events\":[]}");
         assertTrue(refused.isRefused());
         assertEquals("Rollback(Persistence(null))", Refusals.words(refused));
-        assertEquals("NoSuchObject", Refusals.words(read("{\"error\":{\"name\":\"NoSuchObject\",\"no\":5},\"events\":[]}")));
+        assertEquals("NoSuchObject",
+            Refusals.words(read("{\"error\":{\"name\":\"NoSuchObject\",\"no\":5},\"events\":[]}")));
     }
 
     @Test

@@ -20,6 +20,7 @@ import jakarta.persistence.Converter;
 import jakarta.persistence.DiscriminatorValue;
 import jakarta.persistence.Embeddable;
 import jakarta.persistence.Embedded;
+import jakarta.persistence.EmbeddedId;
 import jakarta.persistence.Entity;
 import jakarta.persistence.Enumerated;
 import jakarta.persistence.EnumType;
@@ -551,6 +552,27 @@ class ReaderTest {
         assertEquals("ba", attribute(priced, "other.lid").codec().toColumn("ab"));
         assertEquals("ab", attribute(priced, "box.lid").codec().toColumn("ab"));
         assertThrows(jakarta.persistence.PersistenceException.class, () -> price.toAttribute(null), "it raised");
+    }
+
+    @Converter(autoApply = true)
+    static class Backwards extends Reversed {}
+
+    @Embeddable
+    static class TextKey {
+        String code;
+    }
+
+    @Entity
+    static class KeyedByText {
+        @EmbeddedId TextKey id;
+        String name;
+    }
+
+    @Test
+    void aConverterThatAppliesByItselfDoesNotToKeys() {
+        EntityModel entity = read(KeyedByText.class, Backwards.class).of(KeyedByText.class);
+        assertEquals("ab", attribute(entity, "id.code").codec().toColumn("ab"));
+        assertEquals("ba", attribute(entity, "name").codec().toColumn("ab"));
     }
 
     // ---- names -------------------------------------------------------------------------------------------------------

@@ -110,6 +110,7 @@ class RefusedClassesTest {
     @Entity static class OfRecord { @Id int id; @Embedded RecordPart part; }
     @Entity static class WrongOverride { @Id int id; @AttributeOverride(name = "txt", column = @Column(name = "x")) Part part; }
     @Entity static class WrongConvert { @Id int id; @Convert(attributeName = "txt", disableConversion = true) Part part; }
+    @Entity @AttributeOverride(name = "nam", column = @Column(name = "x")) static class WrongByClass { @Id int id; String name; }
     @Embeddable static class Circle { Circle circle; }
     @Entity static class Round { @Id int id; Circle circle; }
 
@@ -132,6 +133,8 @@ class RefusedClassesTest {
     @Entity static class KeyBelow extends Above { @Id int other; }
     @Entity static class SerializedKey { @Id java.util.BitSet id; }
     @Entity static class ConvertedKey { @Id @Convert(converter = Upper.class) String id; }
+    @Embeddable static class ConvertedPart { @Convert(converter = Upper.class) String code; }
+    @Entity static class OfConvertedPart { @EmbeddedId ConvertedPart id; }
     @Entity static class VersionBelow extends Above { @Version int version; }
     @Entity static class TwoVersions { @Id int id; @Version int one; @Version int two; }
     @Entity static class VersionOfTime { @Id int id; @Version LocalDateTime at; }
@@ -242,6 +245,8 @@ class RefusedClassesTest {
                         "Name one of its attributes", WrongOverride.class),
                 row("WrongConvert.part", "@Convert names \"txt\", which " + HERE + "Part doesn't have",
                         "Name one of its attributes", WrongConvert.class),
+                row("WrongByClass", "@AttributeOverride names \"nam\", which it doesn't have",
+                        "Name one of its attributes, or of those of its mapped superclasses", WrongByClass.class),
                 row("Circle.circle", "embeddables are nested more than 8 deep", "Leave out the circle, or add @Transient", Round.class),
 
                 row("NoKey", "it has no key", "Annotate a field or a getter with @Id or @EmbeddedId", NoKey.class),
@@ -266,6 +271,8 @@ class RefusedClassesTest {
                         SerializedKey.class),
                 row("ConvertedKey.id", "a key and a version take no converter", "Leave out @Convert, and convert in Java",
                         ConvertedKey.class),
+                row("ConvertedPart.code", "a key and a version take no converter", "Leave out @Convert, and convert in Java",
+                        OfConvertedPart.class),
                 row("VersionBelow.version", "the version belongs into the class at the top of the hierarchy",
                         "Move @Version to " + HERE + "Above", Above.class, VersionBelow.class),
                 row("TwoVersions.two", "there is another @Version", "Leave one of them out", TwoVersions.class),

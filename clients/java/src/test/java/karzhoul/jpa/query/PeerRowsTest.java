@@ -32,7 +32,7 @@ class PeerRowsTest extends OverShop {
             }
         }
         assertEquals(List.of(), wrong);
-        assertTrue(count > 250, count + " texts");
+        assertTrue(count > 300, count + " texts");
     }
 
     private String found(String text) {

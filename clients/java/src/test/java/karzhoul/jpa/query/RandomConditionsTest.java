@@ -15,10 +15,13 @@ import org.junit.jupiter.params.provider.ValueSource;
 /** Random conditions: the program and the door decide each, and leave the same rows. */
 class RandomConditionsTest extends OverShop {
     private static final int COUNT = Integer.getInteger("karzhoul.conditions", 150);
-    private static final String[] NUMBERS = {"p.age", "p.id", "p.credit", "o.amount", "o.price", "o.number", "p.team.limit",
+    private static final String[] NUMBERS = {"p.age", "p.id", "p.credit", "o.amount", "o.price", "o.number",
+            "p.team.limit",
         "p.boss.age", "LENGTH(p.name)", "SIZE(p.tags)"};
-    private static final String[] CONSTANTS = {"0", "1", "3", "5", "7", "36", "50", "2.25", "10.5", "0.1", "35.5", "-1", "1e9"};
-    private static final String[] TEXTS = {"p.name", "p.address.city", "p.team.name", "p.boss.name", "SUBSTRING(p.name, 2)",
+    private static final String[] CONSTANTS = {"0", "1", "3", "5", "7", "36", "50", "2.25", "10.5", "0.1", "35.5",
+            "-1", "1e9"};
+    private static final String[] TEXTS = {"p.name", "p.address.city", "p.team.name", "p.boss.name",
+            "SUBSTRING(p.name, 2)",
         "CONCAT(p.name, 'x')", "COALESCE(p.name, 'none')"};
     private static final String[] WORDS = {"'Ada'", "'Bob'", "'London'", "'Red'", "'da'", "'Adax'", "'none'", "''"};
     private static final String[] PATTERNS = {"'%'", "'_'", "'A%'", "'%o%'", "'_o_'", "'%x'", "'none'"};
@@ -26,7 +29,8 @@ class RandomConditionsTest extends OverShop {
     private static final String[] OTHERS = {"p.active = TRUE", "p.active <> FALSE",
         "p.mood = karzhoul.jpa.query.Shop.Mood.GLAD", "p.mood <> karzhoul.jpa.query.Shop.Mood.SAD",
         "o.status IN (karzhoul.jpa.query.Shop.Status.OPEN, karzhoul.jpa.query.Shop.Status.SENT)",
-        "p.born > {d '1850-01-01'}", "o.placed <= {ts '2026-01-01 08:00:00'}", "o.hour <> {t '12:00:00'}", "p.weight > 0.5",
+        "p.born > {d '1850-01-01'}", "o.placed <= {ts '2026-01-01 08:00:00'}", "o.hour <> {t '12:00:00'}",
+                "p.weight > 0.5",
         "p.weight = 2.25", "p.boss IS NULL", "o.person = p", "o.person <> p", "p.team IS NOT NULL"};
 
     private Random random;
@@ -87,7 +91,8 @@ class RandomConditionsTest extends OverShop {
         String value = one(NUMBERS);
         return switch (random.nextInt(4)) {
             case 0 -> one(CONSTANTS);
-            case 1 -> value + " " + one(new String[] {"+", "-", "*"}) + " " + one(new String[] {"1", "2", "3", "o.amount"});
+            case 1 -> value + " " + one(new String[] {"+", "-", "*"}) + " "
+                    + one(new String[] {"1", "2", "3", "o.amount"});
             default -> value;
         };
     }

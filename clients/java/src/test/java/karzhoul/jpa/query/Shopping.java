@@ -36,7 +36,8 @@ final class Shopping {
         Shop.Team blue = team(2, "Blue", null);
         Shop.Tag a = tag("a");
         Shop.Tag b = tag("b");
-        Shop.Person ada = person(new Shop.Person(), "Ada", 36, true, Shop.Mood.GLAD, LocalDate.of(1815, 12, 10), "10.50", 1.5);
+        Shop.Person ada = person(new Shop.Person(), "Ada", 36, true, Shop.Mood.GLAD, LocalDate.of(1815, 12, 10),
+                "10.50", 1.5);
         Shop.Person nameless = person(new Shop.Person(), null, 20, false, Shop.Mood.SAD, null, null, null);
         Shop.Person bob = person(new Shop.Person(), "Bob", 36, true, null, LocalDate.of(1900, 1, 1), "0.75", 2.25);
         Shop.Vip cy = person(new Shop.Vip(), "Cy", 50, false, Shop.Mood.CALM, LocalDate.of(1950, 6, 15), "99.99", -0.5);

@@ -68,7 +68,8 @@ class StatementQueryTest extends OverShop {
         assertEquals("[Order 13]", with(order + "hour > ?1", LocalTime.of(9, 0)));
         assertEquals("[Seat 1a]", with("SELECT s FROM Seat s WHERE s.price = ?1", 9.5f));
         assertEquals("[Place 1/y]", with("SELECT l FROM Place l WHERE l.at = ?1", new Shop.PlaceKey(1, "y")));
-        assertEquals("[Place 1/x, Place 2/x]", with("SELECT l FROM Place l WHERE l.at <> ?1", new Shop.PlaceKey(1, "y")));
+        assertEquals("[Place 1/x, Place 2/x]", with("SELECT l FROM Place l WHERE l.at <> ?1",
+                new Shop.PlaceKey(1, "y")));
         assertEquals("[Person 4]", with("SELECT p FROM Person p WHERE TYPE(p) = ?1", Shop.Vip.class));
         assertEquals("[Tag a, Tag b]", with("SELECT t FROM Tag t WHERE ?1 MEMBER OF t.persons",
                 manager.find(Shop.Person.class, 1L)));
@@ -95,7 +96,8 @@ class StatementQueryTest extends OverShop {
     @Test
     void nullIsUnknown() {
         for (String test : List.of("p.name = ?1", "p.name <> ?1", "p.age > ?1", "p.boss = ?1", "p.mood = ?1",
-                "p.name IN (?1)", "p.name NOT IN ('Bob', ?1)", "p.name LIKE ?1", "UPPER(p.name) = ?1", "p.credit < ?1")) {
+                "p.name IN (?1)", "p.name NOT IN ('Bob', ?1)", "p.name LIKE ?1", "UPPER(p.name) = ?1",
+                        "p.credit < ?1")) {
             assertEquals("[]", with("SELECT p FROM Person p WHERE " + test, (Object) null), test);
         }
         assertEquals("[Tag a, Tag b, Tag c]", with("SELECT t FROM Tag t WHERE ?1 IS NULL", (Object) null));
@@ -122,7 +124,8 @@ class StatementQueryTest extends OverShop {
         assertEquals("[Person 4]", with("SELECT p FROM Person p WHERE TYPE(p) IN ?1", List.of(Shop.Vip.class)));
         assertEquals("[Place 1/x, Place 2/x]", with("SELECT l FROM Place l WHERE l.at IN ?1",
                 List.of(new Shop.PlaceKey(1, "x"), new Shop.PlaceKey(2, "x"), new Shop.PlaceKey(3, "x"))));
-        assertEquals("[Person 1, Person 3]", with("SELECT p FROM Person p WHERE LOWER(p.name) IN ?1", List.of("ada", "bob")));
+        assertEquals("[Person 1, Person 3]", with("SELECT p FROM Person p WHERE LOWER(p.name) IN ?1",
+                List.of("ada", "bob")));
         assertThrows(IllegalArgumentException.class, () -> with(in + "IN ?1", List.of(1)));
     }
 
@@ -133,7 +136,8 @@ class StatementQueryTest extends OverShop {
         assertEquals("[Long 13]", with("SELECT o.number FROM Order o WHERE o.number IN ?1", numbers));
         assertEquals("[Long 10, Long 11, Long 12, Long 14]",
                 with("SELECT o.number FROM Order o WHERE o.number NOT IN ?1", numbers));
-        assertEquals("[[7, 1]]", with("SELECT o.amount, COUNT(o) FROM Order o WHERE o.number IN ?1 GROUP BY o.amount", numbers)
+        assertEquals("[[7, 1]]", with("SELECT o.amount, COUNT(o) FROM Order o WHERE o.number IN ?1 GROUP BY o.amount",
+                numbers)
                 .replace("Integer ", "").replace("Long ", ""));
         List<Object> withNull = new ArrayList<>(numbers);
         withNull.add(null);
@@ -153,7 +157,8 @@ class StatementQueryTest extends OverShop {
         calendar.setTime(noon);
         String born = "SELECT p FROM Person p WHERE p.born = :d";
         assertEquals("[Person 3]", query(born).setParameter("d", noon, TemporalType.DATE).getResultList().toString());
-        assertEquals("[Person 3]", query(born).setParameter("d", calendar, TemporalType.DATE).getResultList().toString());
+        assertEquals("[Person 3]", query(born).setParameter("d", calendar,
+                TemporalType.DATE).getResultList().toString());
         assertThrows(IllegalArgumentException.class, () -> query(born).setParameter("d", noon, TemporalType.TIME)
                 .getResultList());
         Date first = Date.from(LocalDateTime.of(2026, 1, 1, 8, 0).atZone(ZoneId.systemDefault()).toInstant());
@@ -165,8 +170,10 @@ class StatementQueryTest extends OverShop {
 
     @Test
     void parametersAreDescribed() {
-        Query query = query("SELECT p FROM Person p WHERE p.name = :name AND p.age > :age AND p.mood IN :moods AND :x IS NULL");
-        assertEquals(List.of("name", "age", "moods", "x"), query.getParameters().stream().map(Parameter::getName).sorted(
+        Query query =
+                query("SELECT p FROM Person p WHERE p.name = :name AND p.age > :age AND p.mood IN :moods AND :x IS NULL");
+        assertEquals(List.of("name", "age", "moods", "x"),
+                query.getParameters().stream().map(Parameter::getName).sorted(
                 java.util.Comparator.comparing(List.of("name", "age", "moods", "x")::indexOf)).toList());
         assertEquals(String.class, query.getParameter("name").getParameterType());
         assertEquals(Integer.class, query.getParameter("age", Integer.class).getParameterType());
@@ -210,22 +217,30 @@ class StatementQueryTest extends OverShop {
 
     @Test
     void resultsAreOfTheClass() {
-        TypedQuery<Shop.Person> persons = manager.createQuery("SELECT p FROM Person p WHERE p.id = 4", Shop.Person.class);
+        TypedQuery<Shop.Person> persons = manager.createQuery("SELECT p FROM Person p WHERE p.id = 4",
+                Shop.Person.class);
         assertTrue(persons.getSingleResult() instanceof Shop.Vip);
         assertSame(manager.find(Shop.Person.class, 4L), persons.getSingleResult());
-        assertEquals(List.of(36, 20, 36, 50), manager.createQuery("SELECT p.age FROM Person p", Integer.class).getResultList());
-        assertEquals(List.of(36, 20, 36, 50), manager.createQuery("SELECT p.age FROM Person p", Number.class).getResultList());
+        assertEquals(List.of(36, 20, 36, 50), manager.createQuery("SELECT p.age FROM Person p",
+                Integer.class).getResultList());
+        assertEquals(List.of(36, 20, 36, 50), manager.createQuery("SELECT p.age FROM Person p",
+                Number.class).getResultList());
         assertEquals(4L, manager.createQuery("SELECT COUNT(p) FROM Person p", Long.class).getSingleResult());
-        assertEquals("Ada", manager.createQuery("SELECT p.name, p.age FROM Person p", Object[].class).getResultList().get(0)[0]);
-        assertEquals("Ada", manager.createQuery("SELECT p.name FROM Person p", Object[].class).getResultList().get(0)[0]);
+        assertEquals("Ada", manager.createQuery("SELECT p.name, p.age FROM Person p",
+                Object[].class).getResultList().get(0)[0]);
+        assertEquals("Ada", manager.createQuery("SELECT p.name FROM Person p",
+                Object[].class).getResultList().get(0)[0]);
         assertEquals(Object[].class, query("SELECT p.name, p.age FROM Person p").getResultList().get(0).getClass());
-        assertEquals("36/Ada", manager.createQuery("SELECT NEW karzhoul.jpa.query.Shop$PlaceKey(p.age, p.name) FROM Person p",
+        assertEquals("36/Ada",
+                manager.createQuery("SELECT NEW karzhoul.jpa.query.Shop$PlaceKey(p.age, p.name) FROM Person p",
                 Shop.PlaceKey.class).setMaxResults(1).getSingleResult().toString());
         for (Class<?> wrong : List.of(Shop.Order.class, String.class, Long.class)) {
             assertThrows(IllegalArgumentException.class, () -> manager.createQuery("SELECT p FROM Person p", wrong));
-            assertThrows(IllegalArgumentException.class, () -> manager.createQuery("SELECT p.age, p FROM Person p", wrong));
+            assertThrows(IllegalArgumentException.class, () -> manager.createQuery("SELECT p.age, p FROM Person p",
+                    wrong));
         }
-        assertThrows(IllegalArgumentException.class, () -> manager.createQuery("SELECT p.name FROM Person p", Integer.class));
+        assertThrows(IllegalArgumentException.class, () -> manager.createQuery("SELECT p.name FROM Person p",
+                Integer.class));
         assertThrows(IllegalArgumentException.class, () -> manager.createQuery("DELETE FROM Tag t", Shop.Tag.class));
     }
 
@@ -264,7 +279,8 @@ class StatementQueryTest extends OverShop {
                 "SELECT o.number FROM Order o WHERE COALESCE(o.amount, 1) / 1 > 0 ORDER BY o.number DESC")) {
             assertEquals("[13, 12]", query(text).setFirstResult(1).setMaxResults(2).getResultList().toString());
             assertEquals("[10]", query(text).setFirstResult(4).getResultList().toString());
-            assertEquals("[]", query(text).setFirstResult(9).setMaxResults(Integer.MAX_VALUE).getResultList().toString());
+            assertEquals("[]",
+                    query(text).setFirstResult(9).setMaxResults(Integer.MAX_VALUE).getResultList().toString());
             assertEquals("[]", query(text).setMaxResults(0).getResultList().toString());
             assertEquals(3, query(text).setMaxResults(3).getResultStream().count());
         }
@@ -277,9 +293,11 @@ class StatementQueryTest extends OverShop {
 
     @Test
     void fetchJoinsReadTheRelation() {
-        Shop.Person ada = manager.createQuery("SELECT DISTINCT p FROM Person p JOIN FETCH p.orders o JOIN FETCH o.items "
+        Shop.Person ada =
+                manager.createQuery("SELECT DISTINCT p FROM Person p JOIN FETCH p.orders o JOIN FETCH o.items "
                 + "LEFT JOIN FETCH p.tags WHERE p.name = 'Ada'", Shop.Person.class).getSingleResult();
-        Shop.Order order = manager.createQuery("SELECT o FROM Order o JOIN FETCH o.person WHERE o.number = 14", Shop.Order.class)
+        Shop.Order order = manager.createQuery("SELECT o FROM Order o JOIN FETCH o.person WHERE o.number = 14",
+                Shop.Order.class)
                 .getSingleResult();
         manager.clear();
         assertEquals("[Order 10, Order 11]", ada.orders.toString());
@@ -304,10 +322,12 @@ class StatementQueryTest extends OverShop {
     void updatesAndDeletes() {
         assertThrows(TransactionRequiredException.class, () -> query("DELETE FROM Item i").executeUpdate());
         manager.getTransaction().begin();
-        assertEquals(2, query("UPDATE Order o SET o.amount = o.amount + ?1 WHERE o.status = karzhoul.jpa.query.Shop.Status.OPEN")
+        assertEquals(2,
+                query("UPDATE Order o SET o.amount = o.amount + ?1 WHERE o.status = karzhoul.jpa.query.Shop.Status.OPEN")
                 .setParameter(1, 10).executeUpdate());
         assertEquals("[Integer 11, Integer 15, Integer 7, Integer 7, null]", rows("SELECT o.amount FROM Order o"));
-        assertEquals(5, query("UPDATE Order SET price = 2.5, status = :s, person = NULL, placed = {ts '2026-05-05 05:05:05'}")
+        assertEquals(5,
+                query("UPDATE Order SET price = 2.5, status = :s, person = NULL, placed = {ts '2026-05-05 05:05:05'}")
                 .setParameter("s", Shop.Status.SENT).executeUpdate());
         assertEquals("[[BigDecimal 2.5, SENT, null, 2026-05-05T05:05:05]]",
                 rows("SELECT DISTINCT o.price, o.status, o.person, o.placed FROM Order o"));
@@ -328,14 +348,16 @@ class StatementQueryTest extends OverShop {
         manager.getTransaction().begin();
         assertEquals(1, query("UPDATE Order o SET o.amount = 2147483646 WHERE o.number = 10").executeUpdate());
         assertEquals(1, query("UPDATE Order o SET o.amount = o.amount + 1 WHERE o.number = 10").executeUpdate());
-        assertThrows(PersistenceException.class, () -> query("UPDATE Order o SET o.amount = o.amount + 1").executeUpdate());
+        assertThrows(PersistenceException.class,
+                () -> query("UPDATE Order o SET o.amount = o.amount + 1").executeUpdate());
         assertTrue(manager.getTransaction().getRollbackOnly());
     }
 
     /** What the door computes stays within the type too, and a refusal marks the transaction. */
     @Test
     void overflowAndDivisionByZeroAreRefused() {
-        for (String text : List.of("SELECT o.amount / (o.number - 10) FROM Order o", "SELECT p.age * 1000000000 FROM Person p",
+        for (String text : List.of("SELECT o.amount / (o.number - 10) FROM Order o",
+                "SELECT p.age * 1000000000 FROM Person p",
                 "SELECT o.number FROM Order o WHERE o.amount / 0 > 1", "SELECT (p.age / 1) * 1000000000 FROM Person p",
                 "SELECT p.id FROM Person p WHERE p.id = (SELECT q.id FROM Person q)")) {
             manager.getTransaction().begin();
@@ -347,11 +369,13 @@ class StatementQueryTest extends OverShop {
 
     @Test
     void namedQueries() {
-        assertEquals("Person 3", manager.createNamedQuery("Person.byName", Shop.Person.class).setParameter("name", "Bob")
+        assertEquals("Person 3", manager.createNamedQuery("Person.byName", Shop.Person.class).setParameter("name",
+                "Bob")
                 .getSingleResult().toString());
         assertThrows(IllegalArgumentException.class, () -> manager.createNamedQuery("Person.byNam"));
         assertThrows(IllegalArgumentException.class, () -> manager.createNamedQuery("Person.byName", Shop.Order.class));
-        factory.addNamedQuery("two", query("SELECT o FROM Order o ORDER BY o.number").setMaxResults(2).setFirstResult(1));
+        factory.addNamedQuery("two",
+                query("SELECT o FROM Order o ORDER BY o.number").setMaxResults(2).setFirstResult(1));
         assertEquals("[Order 11, Order 12]", manager.createNamedQuery("two").getResultList().toString());
     }
 
@@ -359,11 +383,13 @@ class StatementQueryTest extends OverShop {
     void statesAndHints() {
         assertThrows(IllegalStateException.class, () -> query("DELETE FROM Tag t").getResultList());
         assertThrows(IllegalStateException.class, () -> query("DELETE FROM Tag t").getSingleResult());
-        assertThrows(IllegalStateException.class, () -> query("DELETE FROM Tag t").setLockMode(LockModeType.OPTIMISTIC));
+        assertThrows(IllegalStateException.class,
+                () -> query("DELETE FROM Tag t").setLockMode(LockModeType.OPTIMISTIC));
         assertThrows(IllegalStateException.class, () -> query("SELECT t FROM Tag t").executeUpdate());
         assertThrows(TransactionRequiredException.class, () -> query("SELECT p FROM Person p")
                 .setLockMode(LockModeType.OPTIMISTIC).getResultList());
-        Query query = query("SELECT p FROM Person p").setHint("jakarta.persistence.query.timeout", 5).setHint("x.y", "z");
+        Query query = query("SELECT p FROM Person p").setHint("jakarta.persistence.query.timeout", 5).setHint("x.y",
+                "z");
         assertEquals("z", query.getHints().get("x.y"));
         assertSame(query, query.unwrap(Query.class));
         assertThrows(PersistenceException.class, () -> query.unwrap(String.class));
@@ -375,7 +401,8 @@ class StatementQueryTest extends OverShop {
     @Test
     void lockedResultsAreLocked() {
         manager.getTransaction().begin();
-        Object ada = query("SELECT p FROM Person p WHERE p.id = 1").setLockMode(LockModeType.OPTIMISTIC).getSingleResult();
+        Object ada =
+                query("SELECT p FROM Person p WHERE p.id = 1").setLockMode(LockModeType.OPTIMISTIC).getSingleResult();
         assertEquals(LockModeType.OPTIMISTIC, manager.getLockMode(ada));
     }
 }

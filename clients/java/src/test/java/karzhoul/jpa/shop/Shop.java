@@ -12,9 +12,9 @@ import karzhoul.jpa.spi.UnitSettings;
 /** Opens units of the shop's classes. */
 public final class Shop {
     /** The classes of the shop. */
-    public static final List<Class<?>> CLASSES = List.of(Address.class, Base.class, Circle.class, Depot.class,
-        Holder.class, Order.class, Person.class, Place.class, Profile.class, Sealed.class, Tag.class, Team.class,
-        Vip.class);
+    public static final List<Class<?>> CLASSES = List.of(
+        Address.class, Base.class, Car.class, Circle.class, Depot.class, Holder.class, Motor.class,
+        Order.class, Person.class, Place.class, Profile.class, Sealed.class, Tag.class, Team.class, Vip.class);
 
     private Shop() {}
 
