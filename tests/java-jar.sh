@@ -82,5 +82,5 @@ done <"$folder/lines"
 mkdir -p "$folder/first"
 javac -d "$folder/first" -cp "$path" $first/shop/*.java || exit 1
 cp -r $first/META-INF "$folder/first"
-prints "$(grep -m 1 '^Ada ordered' README.md)" java -cp "$folder/first:$jar:$path" shop.Main
+prints "$(sed -n 's/^It prints `\(Ada [^`]*\)`.*/\1/p' README.md)" java -cp "$folder/first:$jar:$path" shop.Main
 exit "$failed"
