@@ -2,6 +2,7 @@ package karzhoul.jpa.context;
 
 import jakarta.persistence.LockModeType;
 import jakarta.persistence.TransactionRequiredException;
+import java.lang.ref.Cleaner;
 import java.lang.ref.WeakReference;
 import java.util.ArrayList;
 import java.util.Arrays;
@@ -16,6 +17,7 @@ import java.util.function.Supplier;
 import karzhoul.jpa.engine.Engine;
 import karzhoul.jpa.engine.Event;
 import karzhoul.jpa.engine.Lines;
+import karzhoul.jpa.engine.Pool;
 import karzhoul.jpa.engine.ProgramEnded;
 import karzhoul.jpa.engine.Refusals;
 import karzhoul.jpa.engine.Reply;
@@ -32,9 +34,12 @@ import karzhoul.jpa.model.UnitModel;
  */
 final class Context {
     private static final Object[] NO_ROW = {};
+    private static final Cleaner CLEANER = Cleaner.create();
 
     private final Factory factory;
     private final long waitMillis;
+    private final Held held;
+    private final Cleaner.Cleanable cleaning;
     private final UnitModel unit;
     private final Identities identities = new Identities();
     private final Lines queue = new Lines();
@@ -63,6 +68,33 @@ final class Context {
         this.factory = factory;
         this.waitMillis = waitMillis;
         unit = factory.unit();
+        held = new Held(factory.pool());
+        cleaning = CLEANER.register(this, held);
+    }
+
+    /** What nobody gives back, since its entity manager was forgotten with a transaction open. */
+    private static final class Held implements Runnable {
+        private final Pool pool;
+        private volatile Session session;
+
+        Held(Pool pool) {
+            this.pool = pool;
+        }
+
+        @Override
+        public void run() {
+            if (session != null) {
+                pool.abandon(session);
+            }
+        }
+    }
+
+    private void hold(Session now) {
+        session = now;
+        held.session = now;
+        if (now == null && isClosing) {
+            cleaning.clean();
+        }
     }
 
     Factory factory() {
@@ -140,7 +172,7 @@ final class Context {
     private void enter() {
         Session now = factory.pool().enter(session, waitMillis);
         boolean isOther = now != session;
-        session = now;
+        hold(now);
         try {
             if (isOther) {
                 renumbered(now);
@@ -151,7 +183,7 @@ final class Context {
             }
         } catch (RuntimeException e) {
             factory.pool().leave(now);
-            session = null;
+            hold(null);
             throw e;
         }
     }
@@ -184,7 +216,7 @@ final class Context {
             factory.pool().leave(session);
         } else {
             factory.pool().giveBack(session, true);
-            session = null;
+            hold(null);
         }
     }
 
@@ -328,7 +360,7 @@ final class Context {
         } finally {
             queue.clear();
             factory.pool().giveBack(session, true);
-            session = null;
+            hold(null);
         }
     }
 
@@ -531,7 +563,7 @@ final class Context {
             queue.clearAll(session.manager());
         } else {
             factory.pool().giveBack(session, true);
-            session = null;
+            hold(null);
         }
     }
 
@@ -540,6 +572,9 @@ final class Context {
         isClosing = true;
         if (!isActive) {
             clear();
+            if (session == null) {
+                cleaning.clean();
+            }
         }
     }
 

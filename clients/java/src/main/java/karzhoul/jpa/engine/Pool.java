@@ -160,6 +160,25 @@ public final class Pool implements AutoCloseable {
         }
     }
 
+    /** Takes back what was forgotten: a transaction that is open is rolled back. */
+    public void abandon(Session session) {
+        boolean mayBeOpen;
+        lock.lock();
+        try {
+            // one that is idle has no transaction, and may be another's by the time that a line is sent
+            mayBeOpen = session.isBusy && isThere(session) && !isClosed && session.engine().isRunning();
+        } finally {
+            lock.unlock();
+        }
+        try {
+            if (mayBeOpen) {
+                session.engine().ask(new Lines().rollback(session.manager()));      // refused where none is open
+            }
+        } finally {
+            giveBack(session, true);
+        }
+    }
+
     /** Ends the run now, where no entity manager is busy; else not at all. Answers whether it did. */
     public boolean restartIfIdle() {
         lock.lock();

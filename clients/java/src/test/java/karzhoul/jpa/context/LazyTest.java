@@ -20,7 +20,7 @@ import karzhoul.jpa.shop.Order;
 import karzhoul.jpa.shop.Person;
 import org.junit.jupiter.api.Test;
 
-/** What is read when it is looked at (chapters 3.2.6 and 11.1): proxies and collections, detached and serialized ones. */
+/** What is read when it is looked at (chapters 3.2.6 and 11.1): proxies and collections, detached ones too. */
 class LazyTest extends Tried {
     private void storeDepotWithOrders() {
         Depot depot = new Depot("d", "here");

@@ -104,6 +104,27 @@ class ThreadsTest extends Tried {
     }
 
     @Test
+    void managersThatAreForgottenWithATransactionOpenAreGivenBack() throws InterruptedException {
+        store(new Person("Ada"));
+        for (int i = 0; i < 40; i++) {
+            forget(i);
+            System.gc();
+            Thread.sleep(10);
+        }
+        assertEquals("Ada", read(other -> other.find(Person.class, 1L)).getName());
+    }
+
+    private void forget(int round) {
+        EntityManager forgotten = factory.createEntityManager();
+        forgotten.getTransaction().begin();
+        forgotten.find(Person.class, 1L).setName("forgotten " + round);
+        forgotten.flush();
+        if (round % 2 == 0) {
+            forgotten.close();
+        }
+    }
+
+    @Test
     void aManagerIsCarriedOverTheEndOfARun() {
         store(new Person("Ada").add(new Order(1, 1)), new Person("Bea"), new Person("Cy"), new Depot("d", "here"));
         Person ada = manager.find(Person.class, 1L);
