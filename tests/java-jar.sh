@@ -83,4 +83,22 @@ mkdir -p "$folder/first"
 javac -d "$folder/first" -cp "$path" $first/shop/*.java || exit 1
 cp -r $first/META-INF "$folder/first"
 prints "$(sed -n 's/^It prints `\(Ada [^`]*\)`.*/\1/p' README.md)" java -cp "$folder/first:$jar:$path" shop.Main
+
+# The order desk: what its page says is what it prints, block by block.
+desk=examples/order-desk-java
+mkdir -p "$folder/desk"
+find $desk/desk -name '*.java' >"$folder/files"
+javac -Xlint:all,-classfile -Werror -d "$folder/desk" -cp "$path" "@$folder/files" || exit 1
+cp -r $desk/META-INF "$folder/desk"
+export TMPDIR=$folder
+desk() { java -cp "$folder/desk:$jar:$path" desk.Main --db "$folder/order-desk-java/desk.db" "$@"; }
+mkdir -p "$folder/order-desk-java" "$folder/page"
+awk -v to="$folder/page/" '/^```(sh|text)$/ { inside = substr($0, 4); n += inside == "sh"; next }
+    /^```$/ { inside = "" } inside { print >(to n "." inside) }' $desk/README.md
+[ -s "$folder/page/5.text" ] || fail "the page of $desk has fewer than five blocks"
+for each in 2 3 4 5; do
+    . "$folder/page/$each.sh" >"$folder/said" 2>"$folder/error"
+    diff "$folder/page/$each.text" "$folder/said" || fail "block $each of the page of $desk"
+    [ ! -s "$folder/error" ] || fail "block $each of the page of $desk: $(cat "$folder/error")"
+done
 exit "$failed"
