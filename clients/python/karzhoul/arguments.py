@@ -6,6 +6,7 @@ import difflib
 from typing import Any, Iterable, Mapping, Type, Union
 
 from .entities import Entity
+from .lines import spelled
 
 
 def meant(word: str, known: Iterable[str]) -> str:
@@ -36,6 +37,17 @@ def item_class(classes: Mapping[str, Type[Entity]], given: Union[str, Type[Any]]
     if isinstance(given, type) and not issubclass(given, Entity):
         return given
     return entity_named(classes, given)
+
+
+def row_limit(name: str, given: object) -> str:
+    """The first row that is asked for, or how many are, as JSON; a `TypeError` where something else
+    was handed in, as for a parameter of this name."""
+    if not isinstance(given, int) or isinstance(given, bool):
+        raise TypeError(
+            f"{name}= is a number of rows, and no {type(given).__name__}: a parameter :{name} is "
+            f"handed in by params={{{name!r}: ..}}"
+        )
+    return spelled(given)
 
 
 def check_query(text: object, result_class: object, params: object) -> None:

@@ -21,6 +21,7 @@ from .lines import LifecycleEvent, line_of
 from .pending import BEFORE, Due
 from .program import Exchange, Program, of_before
 from .refusals import BadLine, KarzhoulError, NotServed, Refused, Restarted
+from .refusing import manager_of
 from .replies import (
     NULL, are_silent, is_of_reply, is_restart, numbers_of, objects_in, said_of,
 )
@@ -350,7 +351,7 @@ class Calls:
                 self._calls = None  # What is no reply is none the next time either.
             raise
         if calls.untold is None:
-            calls.untold = iter(self._to_be_told(calls, heard))
+            calls.untold = iter(self._to_be_told(run, calls, heard))
         # They are queued by one step, and so once, whatever is interrupted.
         self._untold.extend(calls.untold)
         self._calls = None
@@ -381,17 +382,37 @@ class Calls:
         return None
 
     def _to_be_told(
-        self, calls: _Calls, heard: Sequence[Tuple[Any, Tuple[Event, ...]]]
+        self, run: Run, calls: _Calls, heard: Sequence[Tuple[Any, Tuple[Event, ...]]]
     ) -> List[Tuple[Callable[[Event], None], Event]]:
         """The events of calls whose callbacks haven't run before, with their callbacks."""
         return [
-            (callback, event)
-            for _, events in heard
+            (self._marking(run, line, callback) if event.kind in BEFORE else callback, event)
+            for line, (_, events) in zip(calls.lines, heard)
             for event in events
             if not calls.ran or event.due not in calls.ran
             for callback, kinds in self._callbacks
             if event.kind in kinds
         ]
+
+    def _marking(
+        self, run: Run, line: bytes, callback: Callable[[Event], None]
+    ) -> Callable[[Event], None]:
+        """A callback of what a call tells of itself once it is done, as `persist` does. What it
+        raises marks the transaction of the line's manager, if one is open, as the standard has it
+        (chapter 3.5.1): so what it refused isn't stored where that is caught."""
+
+        def heard(event: Event) -> None:
+            try:
+                callback(event)
+            except Exception as fault:
+                manager = manager_of(line)
+                if manager is not None and manager not in run.marked:
+                    with suppress(KarzhoulError):
+                        self.ask_lines(run, [line_of("setRollbackOnly", {"em": str(manager)})])
+                        run.marked[manager] = repr(fault), line.decode()
+                raise
+
+        return heard
 
     def _heard(
         self, run: Run, calls: _Calls, replies: List[bytes], kind: Optional[Type[Entity]],

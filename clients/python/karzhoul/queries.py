@@ -5,9 +5,9 @@ from __future__ import annotations
 from typing import TYPE_CHECKING, Any, Dict, FrozenSet, Iterator, List, Mapping, NamedTuple
 from typing import Optional, Type, Union
 
-from .arguments import check_query, item_class, parameter_name
+from .arguments import check_query, item_class, parameter_name, row_limit
 from .concern import Concern
-from .lines import line_of, spelled, text_spelled
+from .lines import line_of, text_spelled
 from .misfits import misfit, misfit_of
 from .refusals import NoResult, Refused
 from .rewriting import ByKey, by_key, counting, is_list, with_lists
@@ -241,7 +241,7 @@ class _Asked(NamedTuple):
         if has_params:
             members["params"] = f"{{{','.join(_listed(self.manager._run, values))}}}"
         limits = (("first", first), ("max", most))
-        members.update({name: spelled(limit) for name, limit in limits if limit is not None})
+        members.update({name: row_limit(name, it) for name, it in limits if it is not None})
         try:
             return line_of(call, members)
         except UnicodeEncodeError as fault:

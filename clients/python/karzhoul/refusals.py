@@ -70,12 +70,12 @@ class ProgramEnded(KarzhoulError):
 
 class GivenUp(ProgramEnded):
     """The program was ended, for all threads, since a call took too long (`end_program_after`), or
-    was interrupted twice. `EntityManagerFactory.restart` opens it again, and `retry` does so by
+    was interrupted twice. `EntityManagerFactory.reopen` opens it again, and `retry` does so by
     itself where the call was another thread's."""
 
     def __str__(self) -> str:
         return (
-            f"{self._how()}, and was given up: what was not committed is lost; app.restart() opens "
+            f"{self._how()}, and was given up: what was not committed is lost; app.reopen() opens "
             f"the program again over its store{self._of_commit()}"
         )
 

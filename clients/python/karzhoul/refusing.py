@@ -4,7 +4,7 @@ that moment."""
 from __future__ import annotations
 
 import re
-from typing import TYPE_CHECKING, Any, Iterable, Mapping, Sequence, Tuple, Type
+from typing import TYPE_CHECKING, Any, Iterable, Mapping, Optional, Sequence, Tuple, Type
 
 from .limits import told_apart
 from .refusals import MARKING, REFUSALS, BadLine, Limit, Refused, StoreFault
@@ -56,6 +56,12 @@ def note_written(run: Run, line: bytes, events: Iterable[Sequence[Any]]) -> None
     numbers = [event[1] for event in events if event[0] in _WRITTEN]
     if numbers and (found := _MANAGER.search(line)):
         run.written.setdefault(int(found[1]), {}).update(dict.fromkeys(numbers))
+
+
+def manager_of(line: bytes) -> Optional[int]:
+    """The number of the manager that a line calls."""
+    found = _MANAGER.search(line)
+    return None if found is None else int(found[1])
 
 
 def _note_mark(run: Run, refused: Refused, line: bytes) -> None:

@@ -68,6 +68,16 @@ class Played(unittest.TestCase):
             lambda _, manager: manager.query("SELECT p FROM Person p", 7),
         )
 
+    def test_a_parameter_that_has_the_name_of_a_number_of_rows(self) -> None:
+        text = "SELECT p FROM Person p WHERE p.name = :max"
+        words = "no str: a parameter :max is handed in by params={'max': ..}"
+        for name in ("query", "one", "scalars"):
+            self.refused(
+                TypeError, words, lambda _, em, name=name: getattr(em, name)(text, max="Ada")
+            )
+        words = "first= is a number of rows, and no bool"
+        self.refused(TypeError, words, lambda _, manager: manager.query(text, first=True))
+
     def test_names_of_parameters(self) -> None:
         for name in (1.5, True, None):
             words = f"a text for its name, or a number for ?1, and not {name!r}"

@@ -8,7 +8,7 @@ import sys
 import threading
 import unittest
 from pathlib import Path
-from typing import Any, Callable, List, Tuple
+from typing import Any, Callable, List, Optional, Tuple
 
 import karzhoul
 from karzhoul import Event, LifecycleEvent
@@ -242,6 +242,61 @@ class Raises(Desk):
             self.ada.orders.remove(order)
         self.assertEqual(self.told, [("PreRemove", order)])
         self.assertEqual(self.stored(), [["Ada", 0], [10, 11]])
+
+    def test_what_persist_is_refused_is_not_stored_where_that_is_caught(self) -> None:
+        """Chapter 3.5.1: what a callback throws within a transaction marks it."""
+        self.raise_on(PRE_PERSIST)
+
+        def each_alone(manager: karzhoul.EntityManager) -> None:
+            with self.assertRaises(LookupError):
+                manager.persist(self.Person(name="Bob"))
+
+        def together(manager: karzhoul.EntityManager) -> None:
+            with self.assertRaises(LookupError):
+                manager.persist_all([self.Person(name="Bob"), self.Person(name="Cy")])
+
+        def in_a_pipeline(manager: karzhoul.EntityManager) -> None:
+            with self.assertRaises(LookupError), self.app.pipeline():
+                manager.persist(self.Person(name="Bob"))
+
+        def copied(manager: karzhoul.EntityManager) -> None:
+            with self.assertRaises(LookupError):
+                manager.merge(self.Person(name="Bob"))
+
+        for work in (each_alone, together, in_a_pipeline, copied):
+            for manager in (None, self.em):
+                with self.assertRaises(karzhoul.Rollback) as raised:
+                    self.in_transaction(manager, work)
+                self.assertEqual(raised.exception.word, "Rollback(marked)")
+                self.assertIn("refused: LookupError('PrePersist') of ", str(raised.exception))
+                self.assertEqual(self.stored(), [["Ada", 0], [10, 11]])
+
+    def in_transaction(
+        self, manager: Optional[karzhoul.EntityManager],
+        work: Callable[[karzhoul.EntityManager], None],
+    ) -> None:
+        """Does work in a transaction of a manager, or without one in a `retry`."""
+        if manager is None:
+            self.app.retry(work)
+            return
+        with manager.transaction():
+            work(manager)
+
+    def test_a_removal_that_is_refused_is_not_done_where_that_is_caught(self) -> None:
+        self.raise_on(PRE_REMOVE)
+        with self.assertRaises(karzhoul.Rollback) as raised, self.app.begin() as manager:
+            with self.assertRaises(LookupError):
+                manager.remove(present(manager, self.Order, 10))
+        self.assertIn("refused: LookupError('PreRemove') of ", str(raised.exception))
+        self.assertEqual(self.stored(), [["Ada", 0], [10, 11]])
+
+    def test_the_next_transaction_is_not_marked(self) -> None:
+        self.raise_on(PRE_PERSIST)
+        with self.assertRaises(LookupError), self.em.transaction():
+            self.em.persist(self.Person(name="Bob"))
+        with self.em.transaction():
+            present(self.em, self.Person, 1).name = "Eve"
+        self.assertEqual(self.stored(), [["Eve", 1], [10, 11]])
 
     def test_it_is_not_done_again(self) -> None:
         self.raise_on(PRE_UPDATE)
