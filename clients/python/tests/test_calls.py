@@ -360,8 +360,10 @@ class Events(ProgramTest):
         transaction = self.em.transaction().begin()
         with self.assertRaises(LookupError):
             self.em.persist(person)
-        transaction.commit()
-        self.assertEqual(person.id, 1)
+        self.assertEqual(person.id, 1)  # The call was done, and marks (chapter 3.5).
+        with self.assertRaises(karzhoul.Rollback) as raised:
+            transaction.commit()
+        self.assertEqual(raised.exception.detail, "marked")
 
 
 @needs_program
