@@ -8,6 +8,10 @@ from typing import Any, Iterable, Mapping, Type, Union
 from .entities import Entity
 from .lines import spelled
 
+# The flags of the code of a generator, a coroutine and an asynchronous generator, as `inspect` has
+# them.
+_DOES_NOTHING = 0x20 | 0x80 | 0x200
+
 
 def meant(word: str, known: Iterable[str]) -> str:
     """The question which known word was meant, after a word that isn't known; nothing where none is
@@ -48,6 +52,18 @@ def row_limit(name: str, given: object) -> str:
             f"handed in by params={{{name!r}: ..}}"
         )
     return spelled(given)
+
+
+def check_callback(callback: object) -> None:
+    """Refuses what does nothing when it is called with an event; a `TypeError` says so."""
+    if not callable(callback):
+        raise TypeError(f"a callback is a function of an event, and not {callback!r}")
+    function = getattr(callback, "func", callback)  # Of a `functools.partial`.
+    if getattr(getattr(function, "__code__", None), "co_flags", 0) & _DOES_NOTHING:
+        raise TypeError(
+            f"{callback!r} is a coroutine or a generator, and does nothing when it is called: let "
+            "the callback be an ordinary function"
+        )
 
 
 def check_query(text: object, result_class: object, params: object) -> None:

@@ -15,6 +15,7 @@ from typing import (
     Any, Callable, Deque, Dict, FrozenSet, Iterator, List, Mapping, Optional, Sequence, Tuple, Type,
 )
 
+from .arguments import check_callback
 from .classes import Classes
 from .entities import Entity, Event
 from .lines import LifecycleEvent, line_of
@@ -135,8 +136,9 @@ class Calls:
         an object that it had to load.
 
         All other events come when their call is done. What the callback raises then is raised by
-        that call.
+        that call. A coroutine or a generator, which would do nothing, is a `TypeError`.
         """
+        check_callback(callback)
         kinds = frozenset(map(LifecycleEvent, events or LifecycleEvent))
         self._callbacks.append((callback, kinds))
         self.heard |= {kind.value for kind in kinds}
@@ -399,7 +401,7 @@ class Calls:
     ) -> Callable[[Event], None]:
         """A callback of what a call tells of itself once it is done, as `persist` does. What it
         raises marks the transaction of the line's manager, if one is open, as the standard has it
-        (chapter 3.5.1): so what it refused isn't stored where that is caught."""
+        (chapter 3.5): so what it refused isn't stored where that is caught."""
 
         def heard(event: Event) -> None:
             try:

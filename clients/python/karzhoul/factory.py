@@ -42,6 +42,7 @@ def open(
 ) -> EntityManagerFactory:
     """Starts the program over a mapping (a file, a pipe, or what such a file says) and a database
     file; without one the store is in memory, and goes with the factory (`memory.MemoryStore`).
+    `":memory:"` is a `ValueError`.
 
     With `threads` it is for a service of many threads, which goes on for ever. Where 16 managers
     are open, `begin`, `retry` and `create_entity_manager` wait until one is closed, at most `wait`
@@ -54,6 +55,8 @@ def open(
     (`finding.find_program` tells where it is looked for else). With `echo` each line, its reply
     and its time are told on standard error; the logger `karzhoul` hears them at DEBUG.
     """
+    if db == ":memory:":
+        raise ValueError("':memory:' would be a file of that name: leave db out for one in memory")
     said, faults = _said(mapping)
     word = find_program(program)
     store = _store_in_memory() if db is None else None

@@ -7,8 +7,9 @@ import os
 import tempfile
 import threading
 import unittest
+from functools import partial
 from pathlib import Path
-from typing import Any, List, Type
+from typing import Any, Iterator, List, Type
 
 import karzhoul
 from .support import PERSONS, PROGRAM, ProgramTest, needs_program, played
@@ -77,6 +78,21 @@ class Played(unittest.TestCase):
             )
         words = "first= is a number of rows, and no bool"
         self.refused(TypeError, words, lambda _, manager: manager.query(text, first=True))
+
+    def test_a_callback_that_does_nothing(self) -> None:
+        def generator(_: karzhoul.Event) -> Iterator[None]:
+            yield
+
+        async def coroutine(_: karzhoul.Event) -> None:
+            pass
+
+        words = "is a coroutine or a generator, and does nothing when it is called"
+        for callback in (generator, coroutine, partial(generator)):
+            self.refused(TypeError, words, lambda app, _, it=callback: app.listen(it))
+        self.refused(
+            TypeError, "a callback is a function of an event, and not 3",
+            lambda app, _: app.listen(3),
+        )
 
     def test_names_of_parameters(self) -> None:
         for name in (1.5, True, None):

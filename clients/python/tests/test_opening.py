@@ -64,6 +64,12 @@ class Opening(FolderTest):
         self.db = self.place / "none" / "app.db"
         self.fails(f"there is no folder {self.place / 'none'}")
 
+    def test_sqlites_name_of_a_store_in_memory_is_no_file(self) -> None:
+        with self.assertRaises(ValueError) as raised:
+            karzhoul.open(FLAT, ":memory:", program=PROGRAM).close()
+        self.assertIn("leave db out", str(raised.exception))
+        self.assertFalse(Path(":memory:").exists())
+
     def test_what_may_not_be_written(self) -> None:
         """Told without a program, since whoever runs tests as root may write all."""
         self.db.touch()

@@ -244,7 +244,7 @@ class Raises(Desk):
         self.assertEqual(self.stored(), [["Ada", 0], [10, 11]])
 
     def test_what_persist_is_refused_is_not_stored_where_that_is_caught(self) -> None:
-        """Chapter 3.5.1: what a callback throws within a transaction marks it."""
+        """Chapter 3.5: what a callback throws within a transaction marks it."""
         self.raise_on(PRE_PERSIST)
 
         def each_alone(manager: karzhoul.EntityManager) -> None:
