@@ -358,7 +358,7 @@ class WhileItWaits(Interrupted):
             with self.assertRaises(karzhoul.GivenUp) as raised:
                 self.em.query("0")
             self.assertIn("not committed is lost", str(raised.exception))
-            self.assertIn("app.restart()", str(raised.exception))
+            self.assertIn("app.reopen()", str(raised.exception))
         self.assertFalse(lives(self.app.program.pid))
 
     def test_a_second_interrupt_of_a_program_that_is_about_to_answer(self) -> None:
