@@ -9,7 +9,9 @@ import java.util.List;
 import java.util.Set;
 import karzhoul.jpa.engine.Event;
 import karzhoul.jpa.engine.Lines;
+import karzhoul.jpa.engine.ProgramEnded;
 import karzhoul.jpa.engine.Ref;
+import karzhoul.jpa.engine.Reply;
 import karzhoul.jpa.model.Callbacks;
 
 /**
@@ -47,9 +49,17 @@ final class Flush {
         }
         context.send();                 // a change that were refused must not be behind a commit that is done
         queue.commit(context.manager());
-        take(context.ask(0)[0].events(), false);
+        take(commitNow().events(), false);
         context.committed();
         context.forgetRunAhead();
+    }
+
+    private Reply commitNow() {
+        try {
+            return context.ask(0)[0];
+        } catch (ProgramEnded e) {
+            throw e.isAsked() ? new CommitUnknown(e) : e;
+        }
     }
 
     /** Tells what changed, and runs what is due before the writes. */

@@ -13,7 +13,9 @@ import java.lang.invoke.MethodHandles;
 import java.lang.invoke.MethodType;
 import java.lang.reflect.Method;
 import java.lang.reflect.Modifier;
+import java.util.List;
 import java.util.Optional;
+import karzhoul.jpa.model.Attribute;
 import karzhoul.jpa.model.EntityModel;
 import net.bytebuddy.ByteBuddy;
 import net.bytebuddy.description.modifier.FieldManifestation;
@@ -49,14 +51,22 @@ public final class Proxies {
         return model.subEntities().isEmpty() && !model.isAbstract() && MAKERS.get(model.javaClass()).isPresent();
     }
 
-    /** A proxy of this entry. */
+    /** A proxy of this entry, whose key is set: an {@code equals} that reads the other one's field finds it there. */
     static Object make(Entry entry) {
-        return make(entry.model().javaClass(), entry);
+        Object made = make(entry.model().javaClass());
+        List<Attribute> parts = entry.model().key().parts();
+        for (int i = 0; i < parts.size(); i++) {
+            parts.get(i).set(made, parts.get(i).codec().toAttribute(entry.key().get(i)));
+        }
+        ((Proxied) made).karzhoul$entry(entry);     // only now, so that a setter reads nothing
+        return made;
     }
 
     /** A detached proxy of what has this key. */
     static Object ofKey(Plain.Key key) {
-        return make(key.entity(), key);
+        Object made = make(key.entity());
+        ((Proxied) made).karzhoul$entry(key);
+        return made;
     }
 
     /** What the door knows of a proxy: an {@link Entry} or a {@link Plain.Key}; null of any other instance. */
@@ -64,12 +74,10 @@ public final class Proxies {
         return instance instanceof Proxied proxied ? proxied.karzhoul$entry() : null;
     }
 
-    private static Object make(Class<?> entity, Object known) {
+    private static Object make(Class<?> entity) {
         MethodHandle maker = MAKERS.get(entity).orElseThrow();
         try {
-            Object made = maker.invoke();
-            ((Proxied) made).karzhoul$entry(known);
-            return made;
+            return maker.invoke();
         } catch (RuntimeException | Error e) {
             throw e;
         } catch (Throwable e) {

@@ -24,6 +24,7 @@ final class Transaction implements EntityTransaction {
      * Commits what changed.
      *
      * @throws RollbackException where it can't be committed: it is rolled back then, and all is detached
+     * @throws CommitUnknown where the program ended before it answered, so that all of it stands, or nothing
      */
     @Override
     public void commit() {
@@ -41,6 +42,9 @@ final class Transaction implements EntityTransaction {
             Culprits culprits = new Culprits(context);
             context.rolledBack(true);
             throw culprits.named(e);
+        } catch (CommitUnknown e) {
+            rollBackAfter(e);
+            throw e;
         } catch (RuntimeException e) {
             Culprits culprits = new Culprits(context);
             rollBackAfter(e);

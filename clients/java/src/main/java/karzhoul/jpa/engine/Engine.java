@@ -77,7 +77,7 @@ public final class Engine implements AutoCloseable {
             description.check(out, in);
         } catch (IOException e) {
             end = e;
-            throw ended(e);
+            throw ended(e, true);
         } catch (PersistenceException e) {
             close();
             throw e;
@@ -103,7 +103,7 @@ public final class Engine implements AutoCloseable {
         lock.lock();
         try {
             if (end != null) {
-                throw ended(end);
+                throw ended(end, false);
             }
             if (tail != null) {
                 tail.accept(lines, made + 1);
@@ -112,7 +112,7 @@ public final class Engine implements AutoCloseable {
         } catch (IOException e) {
             end = e;
             process.destroy();
-            throw ended(e);
+            throw ended(e, true);
         } finally {
             lock.unlock();
         }
@@ -166,7 +166,7 @@ public final class Engine implements AutoCloseable {
         }
     }
 
-    private ProgramEnded ended(IOException cause) {
+    private ProgramEnded ended(IOException cause, boolean isAsked) {
         String told = "";
         try {
             if (process.waitFor(PATIENCE, TimeUnit.SECONDS)) {
@@ -179,8 +179,7 @@ public final class Engine implements AutoCloseable {
         } catch (IOException e) {
             cause.addSuppressed(e);
         }
-        return new ProgramEnded("the program has ended" + told
-            + "; what was not committed is rolled back, and the next entity manager starts it again", cause);
+        return new ProgramEnded(told, isAsked, cause);
     }
 
     /** Ends the program, once what is being asked was answered. */

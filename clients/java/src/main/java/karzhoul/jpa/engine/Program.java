@@ -41,6 +41,19 @@ public final class Program {
         pool = new Pool(() -> started(command, journal, described));
     }
 
+    private static PersistenceException notOpened(List<String> command, ProgramEnded ended) {
+        String program = command.get(0);
+        String store = command.get(command.size() - 1);
+        String words = "The store " + store + " isn't opened" + ended.status();
+        if (ended.status().contains("StoreFault")) {
+            words += ": another process has it open, it or its folder can't be written, the disk is full, or it is no"
+                + " store of this program's";
+        } else if (ended.status().isEmpty()) {
+            words += ", since " + program + " isn't this version's program: " + ended.getCause().getMessage();
+        }
+        return new PersistenceException(words, ended);
+    }
+
     private static Engine started(List<String> command, Journal journal, StoreDescription described) {
         if (described == null) {
             return new Engine(command, journal);
@@ -49,8 +62,8 @@ public final class Program {
         Engine engine = new Engine(command, journal);
         try {
             engine.check(described);
-        } catch (ProgramEnded refused) {
-            throw described.explained(command.get(0), refused);
+        } catch (ProgramEnded ended) {
+            throw described.explained(command.get(0), notOpened(command, ended));
         }
         return engine;
     }

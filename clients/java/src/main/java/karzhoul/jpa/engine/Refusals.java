@@ -27,7 +27,7 @@ public final class Refusals {
         Map.entry("NonUniqueResult", "the query found more than one row"),
         Map.entry("Overflow", "a whole number left 64 bits"),
         Map.entry("OutOfMemory", "the program had no memory for the call, and did nothing"),
-        Map.entry("StoreFault", "the store's file could not be written; the transaction is as it was"),
+        Map.entry("StoreFault", "the store's file could not be written; has its disk room?"),
         Map.entry("Limit", "a text or bytes over 65,535 bytes, a line over 1,048,576, a query over 16,384, or more"
             + " objects than the program makes in a run"),
         Map.entry("Rollback", "the transaction was rolled back"),

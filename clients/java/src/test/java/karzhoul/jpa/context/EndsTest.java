@@ -1,0 +1,103 @@
+package karzhoul.jpa.context;
+
+import static org.junit.jupiter.api.Assertions.assertEquals;
+import static org.junit.jupiter.api.Assertions.assertFalse;
+import static org.junit.jupiter.api.Assertions.assertThrows;
+import static org.junit.jupiter.api.Assertions.assertTrue;
+
+import jakarta.persistence.EntityManager;
+import jakarta.persistence.PersistenceException;
+import jakarta.persistence.RollbackException;
+import java.nio.file.Files;
+import java.nio.file.Path;
+import java.nio.file.attribute.PosixFilePermissions;
+import java.time.Duration;
+import java.util.Map;
+import java.util.Optional;
+import karzhoul.jpa.model.Reader;
+import karzhoul.jpa.shop.Person;
+import karzhoul.jpa.shop.Shop;
+import karzhoul.jpa.spi.UnitSettings;
+import org.junit.jupiter.api.Test;
+import org.junit.jupiter.api.Timeout;
+import org.junit.jupiter.api.io.TempDir;
+
+/** What is said where a commit isn't answered, and where a store can't be opened. */
+@Timeout(120)
+class EndsTest {
+    /** Serves the calls of the program, and ends after the next commit, or before it, without an answer. */
+    private static final String ENDING = """
+        #!/usr/bin/env bash
+        coproc served { exec '%s' "$@"; }
+        end() { eval "exec ${served[1]}>&-"; wait "$served_PID"; exit 9; }
+        while IFS= read -r line; do
+            case $line in *'"call":"commit"'*) [ ! -e '%s' ] || end ;; esac
+            printf '%%s\\n' "$line" >&"${served[1]}"
+            IFS= read -r answer <&"${served[0]}"
+            case $line in *'"call":"commit"'*) [ ! -e '%s' ] || end ;; esac
+            printf '%%s\\n' "$answer"
+        done
+        """;
+
+    @TempDir
+    Path folder;
+
+    private Factory over(String program) {
+        return new Factory(new UnitSettings("shop", Reader.read("shop", Shop.CLASSES), "karzhoul:" + folder.resolve("a.db"),
+            program, Duration.ofSeconds(20), Optional.empty(), Map.of()));
+    }
+
+    /** How many persons stand after a commit that wasn't answered. */
+    private long standAfter(String armed) throws Exception {
+        Path program = folder.resolve("ending");
+        Files.writeString(program, ENDING.formatted(
+            Path.of(Shop.program()).toAbsolutePath(), folder.resolve("before"), folder.resolve("after")));
+        Files.setPosixFilePermissions(program, PosixFilePermissions.fromString("rwx------"));
+        try (Factory factory = over(program.toString()); EntityManager manager = factory.createEntityManager()) {
+            manager.getTransaction().begin();
+            Person ada = new Person("Ada");
+            manager.persist(ada);
+            Files.createFile(folder.resolve(armed));
+            PersistenceException unknown =
+                assertThrows(PersistenceException.class, () -> manager.getTransaction().commit());
+            assertFalse(unknown instanceof RollbackException, unknown.getMessage());
+            assertTrue(unknown.getMessage().contains("before it answered the commit: all of it is stored, or nothing"),
+                unknown.getMessage());
+            assertFalse(manager.getTransaction().isActive());
+            assertFalse(manager.contains(ada));
+            Files.delete(folder.resolve(armed));
+            return manager.createQuery("SELECT COUNT(p) FROM Person p", Long.class).getSingleResult();
+        }
+    }
+
+    @Test
+    void aCommitThatWasDoneAndNotAnsweredIsNoRollback() throws Exception {
+        assertEquals(1, standAfter("after"));
+    }
+
+    @Test
+    void norIsOneOfWhichNothingIsKnown() throws Exception {
+        assertEquals(0, standAfter("before"));
+    }
+
+    @Test
+    void aStoreThatAnotherProcessHasIsNamed() throws Exception {
+        try (Factory factory = over(Shop.program())) {
+            Path same = Files.createSymbolicLink(folder.resolve("b.db"), folder.resolve("a.db"));
+            assertTrue(factory.isOpen());
+            PersistenceException refused = assertThrows(PersistenceException.class, () -> Shop.open(
+                "karzhoul:" + same, Shop.CLASSES, Duration.ofSeconds(20), null).close());
+            assertTrue(refused.getMessage().matches("The store .*db isn't opened .*another process has it open.*"),
+                refused.getMessage());
+        }
+    }
+
+    @Test
+    void aFileThatIsNoStoreIsNamed() throws Exception {
+        Files.writeString(folder.resolve("a.db"), "this is no store");
+        PersistenceException refused =
+            assertThrows(PersistenceException.class, () -> over(Shop.program()).close());
+        assertTrue(refused.getMessage().startsWith("The store " + folder.resolve("a.db") + " isn't opened (status 3"),
+            refused.getMessage());
+    }
+}
