@@ -30,9 +30,9 @@ from .runs import Run
 from .shown import Shown
 from .tally import Tally
 
-_taken_off: Callable[
-    [Deque[Tuple[Callable[[Event], None], Event]]], Tuple[Callable[[Event], None], Event]
-] = deque.popleft
+# A callback, the event that it is to be told, and the run and the line of the call that told it.
+_Untold = Tuple[Callable[[Event], None], Event, Run, bytes]
+_taken_off: Callable[[Deque[_Untold]], _Untold] = deque.popleft
 _CREATE, RESTART = line_of("createEntityManager", {}), line_of("restart", {})
 _REPLIES = Program.replies.__code__
 
@@ -64,7 +64,7 @@ class _Calls(Exchange):
         self.are_kept = are_kept
         # The events that they tell again, whose callbacks ran before.
         self.ran: FrozenSet[Due] = frozenset()
-        self.untold: Optional[Iterator[Tuple[Callable[[Event], None], Event]]] = None
+        self.untold: Optional[Iterator[_Untold]] = None
         # Whether they were counted, which they are once, whatever is interrupted.
         self.are_noted = False
         # Whether another run is on once they are done.
@@ -111,7 +111,7 @@ class Calls:
         # way, which an interrupt may have left.
         self._calls: Optional[_Calls] = None
         self._callbacks: List[Tuple[Callable[[Event], None], FrozenSet[LifecycleEvent]]] = []
-        self._untold: Deque[Tuple[Callable[[Event], None], Event]] = deque()
+        self._untold: Deque[_Untold] = deque()
         self._is_telling = False
         # Managers of a run, by their numbers, that are open and that nobody has.
         self._left: List[Tuple[Run, int]] = []
@@ -385,10 +385,10 @@ class Calls:
 
     def _to_be_told(
         self, run: Run, calls: _Calls, heard: Sequence[Tuple[Any, Tuple[Event, ...]]]
-    ) -> List[Tuple[Callable[[Event], None], Event]]:
+    ) -> List[_Untold]:
         """The events of calls whose callbacks haven't run before, with their callbacks."""
         return [
-            (self._marking(run, line, callback) if event.kind in BEFORE else callback, event)
+            (callback, event, run, line)
             for line, (_, events) in zip(calls.lines, heard)
             for event in events
             if not calls.ran or event.due not in calls.ran
@@ -396,25 +396,15 @@ class Calls:
             if event.kind in kinds
         ]
 
-    def _marking(
-        self, run: Run, line: bytes, callback: Callable[[Event], None]
-    ) -> Callable[[Event], None]:
-        """A callback of what a call tells of itself once it is done, as `persist` does. What it
-        raises marks the transaction of the line's manager, if one is open, as the standard has it
-        (chapter 3.5): so what it refused isn't stored where that is caught."""
-
-        def heard(event: Event) -> None:
-            try:
-                callback(event)
-            except Exception as fault:
-                manager = manager_of(line)
-                if manager is not None and manager not in run.marked:
-                    with suppress(KarzhoulError):
-                        self.ask_lines(run, [line_of("setRollbackOnly", {"em": str(manager)})])
-                        run.marked[manager] = repr(fault), line.decode()
-                raise
-
-        return heard
+    def _mark(self, run: Run, line: bytes, fault: Exception) -> None:
+        """Marks the transaction of a line's manager, if one is open, since a callback has raised
+        this of what its call told when it was done, as `persist` does (chapter 3.5). So what it
+        refused isn't stored where that is caught."""
+        manager = manager_of(line)
+        if manager is not None and manager not in run.marked:
+            with suppress(KarzhoulError):
+                self.ask_lines(run, [line_of("setRollbackOnly", {"em": str(manager)})])
+                run.marked[manager] = repr(fault), line.decode()
 
     def _heard(
         self, run: Run, calls: _Calls, replies: List[bytes], kind: Optional[Type[Entity]],
@@ -537,10 +527,12 @@ class Calls:
         raised: List[Exception] = []
         while self._untold:
             # An event is taken off by the same step that begins to tell it.
-            for callback, event in map(_taken_off, (self._untold,)):
+            for callback, event, run, line in map(_taken_off, (self._untold,)):
                 try:
                     callback(event)
                 except Exception as fault:
                     vars(fault)["_karzhoul_is_told"] = True
                     raised.append(fault)
+                    if event.kind in BEFORE:
+                        self._mark(run, line, fault)
         return raised
