@@ -12,6 +12,7 @@ import karzhoul.jpa.engine.Lines;
 import karzhoul.jpa.engine.ProgramEnded;
 import karzhoul.jpa.engine.Ref;
 import karzhoul.jpa.engine.Reply;
+import karzhoul.jpa.engine.StoreFault;
 import karzhoul.jpa.model.Callbacks;
 
 /**
@@ -59,6 +60,9 @@ final class Flush {
             return context.ask(0)[0];
         } catch (ProgramEnded e) {
             throw e.isAsked() ? new CommitUnknown(e) : e;
+        } catch (StoreFault e) {
+            context.engine().close();       // its store is shut for good: the next entity manager has another one open it
+            throw new CommitUnknown(e);
         }
     }
 

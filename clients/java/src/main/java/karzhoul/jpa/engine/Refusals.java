@@ -94,6 +94,8 @@ public final class Refusals {
                 return new NoResultException(message);
             case "NonUniqueResult":
                 return new NonUniqueResultException(message);
+            case "StoreFault":
+                return new StoreFault(message);
             case "Rollback":
                 return rollback(words.substring(open + 1, words.length() - 1), message, about);
             default:

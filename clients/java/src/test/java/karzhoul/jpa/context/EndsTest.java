@@ -25,18 +25,22 @@ import org.junit.jupiter.api.io.TempDir;
 /** What is said where a commit isn't answered, and where a store can't be opened. */
 @Timeout(120)
 class EndsTest {
-    /** Serves the calls of the program, and ends after the next commit, or before it, without an answer. */
+    /** Serves the calls of the program, and ends after the next commit, or before it, or has the disk fail at it. */
     private static final String ENDING = """
         #!/usr/bin/env bash
         coproc served { exec '%s' "$@"; }
         end() { eval "exec ${served[1]}>&-"; wait "$served_PID"; exit 9; }
         while IFS= read -r line; do
-            case $line in *'"call":"commit"'*) [ ! -e '%s' ] || end ;; esac
+            case $line in *'"call":"commit"'*)
+                [ ! -e '%s' ] || end
+                [ ! -e '%s' ] || { echo '{"error":{"name":"StoreFault","no":2},"events":[]}'; continue; } ;;
+            esac
             printf '%%s\\n' "$line" >&"${served[1]}"
             IFS= read -r answer <&"${served[0]}"
             case $line in *'"call":"commit"'*) [ ! -e '%s' ] || end ;; esac
             printf '%%s\\n' "$answer"
         done
+        end
         """;
 
     @TempDir
@@ -47,11 +51,12 @@ class EndsTest {
             program, Duration.ofSeconds(20), Optional.empty(), Map.of()));
     }
 
-    /** How many persons stand after a commit that wasn't answered. */
-    private long standAfter(String armed) throws Exception {
+    /** How many persons stand after a commit of which it isn't known whether it was done, as these words say. */
+    private long standAfter(String armed, String words) throws Exception {
         Path program = folder.resolve("ending");
         Files.writeString(program, ENDING.formatted(
-            Path.of(Shop.program()).toAbsolutePath(), folder.resolve("before"), folder.resolve("after")));
+            Path.of(Shop.program()).toAbsolutePath(), folder.resolve("before"),
+            folder.resolve("fault"), folder.resolve("after")));
         Files.setPosixFilePermissions(program, PosixFilePermissions.fromString("rwx------"));
         try (Factory factory = over(program.toString()); EntityManager manager = factory.createEntityManager()) {
             manager.getTransaction().begin();
@@ -61,8 +66,7 @@ class EndsTest {
             PersistenceException unknown =
                 assertThrows(PersistenceException.class, () -> manager.getTransaction().commit());
             assertFalse(unknown instanceof RollbackException, unknown.getMessage());
-            assertTrue(unknown.getMessage().contains("before it answered the commit: all of it is stored, or nothing"),
-                unknown.getMessage());
+            assertTrue(unknown.getMessage().contains(words + ": all of it is stored, or nothing"), unknown.getMessage());
             assertFalse(manager.getTransaction().isActive());
             assertFalse(manager.contains(ada));
             Files.delete(folder.resolve(armed));
@@ -72,12 +76,17 @@ class EndsTest {
 
     @Test
     void aCommitThatWasDoneAndNotAnsweredIsNoRollback() throws Exception {
-        assertEquals(1, standAfter("after"));
+        assertEquals(1, standAfter("after", "before it answered the commit"));
     }
 
     @Test
     void norIsOneOfWhichNothingIsKnown() throws Exception {
-        assertEquals(0, standAfter("before"));
+        assertEquals(0, standAfter("before", "before it answered the commit"));
+    }
+
+    @Test
+    void norIsOneAtWhichTheDiskFailed() throws Exception {
+        assertEquals(0, standAfter("fault", "as the commit was written"));
     }
 
     @Test
