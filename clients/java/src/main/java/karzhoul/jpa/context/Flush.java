@@ -16,7 +16,7 @@ import karzhoul.jpa.engine.StoreFault;
 import karzhoul.jpa.model.Callbacks;
 
 /**
- * The flush (chapters 3.2.4 and 3.6). What changed is told, the program is asked which callbacks are due, and these
+ * The flush (chapters 3.2.4 and 3.5). What changed is told, the program is asked which callbacks are due, and these
  * run, until nothing new is due; only then does it write. One for each flush or commit.
  */
 final class Flush {

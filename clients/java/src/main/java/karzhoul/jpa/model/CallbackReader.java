@@ -26,7 +26,7 @@ import java.util.Map;
 import java.util.Optional;
 import karzhoul.jpa.model.Callbacks.Event;
 
-/** Reads the callbacks of entities and their listeners, of which there is one instance a unit (chapter 3.6). */
+/** Reads the callbacks of entities and their listeners, of which there is one instance a unit (chapter 3.5). */
 final class CallbackReader {
     private static final MethodType RUNS = MethodType.methodType(void.class, Object.class);
     private static final Map<Event, Class<? extends Annotation>> ANNOTATIONS = new EnumMap<>(Map.of(

@@ -1,6 +1,6 @@
 package karzhoul.jpa.model;
 
-/** The callbacks of an entity: those of its listeners and its own, in the standard's order (chapter 3.6). */
+/** The callbacks of an entity: those of its listeners and its own, in the standard's order (chapter 3.5). */
 public interface Callbacks {
     /** An event of the life cycle, by the program's names. */
     enum Event { PrePersist, PostPersist, PreRemove, PostRemove, PreUpdate, PostUpdate, PostLoad }

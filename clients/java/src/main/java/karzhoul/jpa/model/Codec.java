@@ -1,7 +1,7 @@
 package karzhoul.jpa.model;
 
 /**
- * How values of a Java type are kept as a whole number, a text or bytes (chapters 2.6 and 3.9).
+ * How values of a Java type are kept as a whole number, a text or bytes (chapters 2.6 and 3.8).
  * Order and equality of what is kept are those of the Java type, so that queries may compare it.
  */
 public interface Codec {

@@ -17,7 +17,7 @@ import java.util.Collection;
 import java.util.Map;
 import java.util.Optional;
 
-/** Chooses the codec of an attribute by its type and its annotations (chapters 2.8 and 3.9). */
+/** Chooses the codec of an attribute by its type and its annotations (chapters 2.8 and 3.8). */
 final class Codecs {
     /** The scale of a decimal of which no column says one. */
     static final int USUAL_SCALE = 2;

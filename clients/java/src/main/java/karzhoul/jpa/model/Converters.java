@@ -18,7 +18,7 @@ import java.util.Set;
 import java.util.UUID;
 import java.util.function.Supplier;
 
-/** The converters of a unit (chapter 3.9). */
+/** The converters of a unit (chapter 3.8). */
 final class Converters {
     private static final Set<Class<?>> IMMUTABLE = Set.of(
             String.class, Boolean.class, Character.class, Byte.class, Short.class, Integer.class, Long.class,

@@ -14,7 +14,7 @@ import java.util.List;
 import java.util.Map;
 import java.util.Set;
 
-/** Reads annotated classes as the entities of a unit (chapters 2, 3.6, 3.9 and 11). */
+/** Reads annotated classes as the entities of a unit (chapters 2, 3.5, 3.8 and 11). */
 public final class Reader {
     private final Faults faults = new Faults();
     private final Converters converters = new Converters(faults);

@@ -17,7 +17,7 @@ import karzhoul.jpa.shop.Person;
 import karzhoul.jpa.shop.Tag;
 import org.junit.jupiter.api.Test;
 
-/** Callbacks (chapter 3.6): each event in its order, and what callbacks may do. */
+/** Callbacks (chapter 3.5): each event in its order, and what callbacks may do. */
 class CallbacksTest extends Tried {
     @Test
     void eventsInTheirOrder() {

@@ -23,7 +23,7 @@ import karzhoul.jpa.model.Callbacks.Event;
 import org.junit.jupiter.api.BeforeEach;
 import org.junit.jupiter.api.Test;
 
-/** Which callbacks run, and in which order (chapter 3.6, with the example of 3.6.4). */
+/** Which callbacks run, and in which order (chapter 3.5, with its example). */
 class CallbackTest {
     static final List<String> RAN = new ArrayList<>();
 
