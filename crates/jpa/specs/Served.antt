@@ -1,5 +1,7 @@
 -- Which unit the program serves, and what a store that was served holds.
 use Rattle.std.specs.Prelude.{◌≡◌, ◌⊎◌, ◌&&◌, ℕ, Bool, List, [], Option, Some, None, Result, Ok, Err, IsErrAnd, true}
+use Rattle.std.specs.Prelude.{codes, if◌then◌else◌}
+use Rattle.std.specs.Str.{bytes_eq}
 use Rattle.sqlite_trees.specs.declared.store.Store.{Ghosts}
 use Rattle.sqlite.specs.Held.{Held}
 use Rattle.jpa_value.specs.declared.refusal.Cause.{Cause}
@@ -19,6 +21,7 @@ use Rattle.jpa_functions.specs.FunctionsIn.{functions_in}
 use Rattle.jpa_functions.specs.Known.{names_are_known}
 use Rattle.jpa_functions.specs.Sorts.{registered}
 use Rattle.jpa_migration.specs.Migration.{defaults_pass}
+use Rattle.jpql_tree.specs.declared.Language.{Language}
 use Rattle.jpa_program.specs.Opening.{HoldsCells}
 use Rattle.jpa_program.specs.Persons.{persons}
 
@@ -45,6 +48,11 @@ own_unit = record { metamodel = persons; registry = record { listeners = []; con
 abbrev pub unit_from : Option (List ℕ) → Result (ProgramUnit × History) Cause
 unit_from (Some bytes) = unit_in bytes
 unit_from None = Ok (own_unit, unchanged)
+
+-- the language that a name says, which is the profile's where none is said
+abbrev pub language_named : Option (List ℕ) → Language
+language_named None = Language.Profile
+language_named (Some name) = if bytes_eq name (codes "wide") then Language.Wide else Language.Profile
 
 -- where the unit can't be made the first that is wrong is told, unless memory ran out
 abbrev pub RefusesUnit : {T : Type 0} → Option (List ℕ) → Result T Cause → Type 0

@@ -25,6 +25,7 @@ use jpa_questions::{
 use jpa_settings::{Settings, Stop, read_settings, status};
 use jpa_value::{Cause, MappingFault, Refusal, Seq, Text, refusal_text};
 use jpql_eval::Datum;
+use jpql_tree::Language;
 use sqlite::{Alter, Connection, Error, ErrorCode, Unknown};
 use std::alloc::Global;
 use std::io::{ErrorKind, Write};
@@ -272,6 +273,8 @@ fn rows_found(
     if let Err(cause) = &rows {
         tell_holding(rt, cause, &conn);
     }
+    // the log isn't brought into the file, which stays as it was
+    drop(conn.into_store().close());
     rows
 }
 
@@ -304,6 +307,7 @@ fn answer(
     rt: &HostRuntime,
     mapping: Option<&[u8]>,
     path: &Text,
+    language: Language,
     text: &Text,
     parameters: &[Parameter],
     explain: bool,
@@ -312,7 +316,8 @@ fn answer(
     ensures refused { spec.RefusesUnit (option_copied mapping.entry) result }
 {
     let unit = unit_to_ask(rt.alloc(), mapping)?;
-    let question = read_question(rt.alloc(), &unit.metamodel, text.as_str(), parameters)?;
+    let metamodel = &unit.metamodel;
+    let question = read_question(rt.alloc(), metamodel, language, text.as_str(), parameters)?;
     let answer = told(rt, path, &unit, &question, explain)?;
     Ok(print_text(rt, answer.as_slice()))
 }
@@ -328,6 +333,16 @@ fn no_parameters(alloc: Global, misgiven: &Misgiven) -> Stop {
     ) {
         Ok(text) => Stop::Words(text),
         Err(_) => Stop::Refused(Refusal::Because(Cause::OutOfMemory)),
+    }
+}
+
+/// The language in which the query of the settings is read.
+fn language_of(settings: &Settings) -> Language
+    ensures { result ≡ spec.language_named settings.now.language }
+{
+    match &settings.language {
+        Some(name) if name.as_str() == "wide" => Language::Wide,
+        _ => Language::Profile,
     }
 }
 
@@ -347,6 +362,7 @@ fn ask_as_said(
         rt,
         mapping.as_deref(),
         db,
+        language_of(settings),
         query,
         parameters.as_slice(),
         settings.explain,

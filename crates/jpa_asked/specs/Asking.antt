@@ -12,6 +12,7 @@ use Rattle.jpa_model.specs.Chains.{root_class}
 use Rattle.jpa_heap.specs.declared.Handed.{Handed}
 use Rattle.jpa_context.specs.Work.{Work, object, identity_at}
 use Rattle.jpa_context.specs.Steps.{◌>>=◌, ◌>>◌, Op, give, refuse, require, read}
+use Rattle.jpql_tree.specs.declared.Language.{Language}
 use Rattle.jpql_tree.specs.declared.Query.{Query}
 use Rattle.jpql_tree.specs.Grammar.{Text}
 use Rattle.jpql_types.specs.declared.sort.Sort.{Sort}
@@ -33,13 +34,13 @@ abbrev pub given : {A : Type 0} → Result A Cause → Op A
 given (Ok x) = give x
 given (Err r) = refuse r
 
--- the tree of a text; none where it is outside the grammar, which is told later. Limit is told at
--- once
-abbrev pub read_of : Text → Op (Option Query)
-read_of text = do
+-- the tree of a text; none where it is outside the language's grammar, which is told later. Limit is
+-- told at once
+abbrev pub read_of : Language → Text → Op (Option Query)
+read_of l text = do
   require (is_within text) Cause.Limit
-  require (declares_few (query_of text)) Cause.Limit
-  give (query_of text)
+  require (declares_few (query_of l text)) Cause.Limit
+  give (query_of l text)
 
 -- ---- what is bound to a parameter
 

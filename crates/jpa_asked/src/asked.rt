@@ -2,6 +2,7 @@
 use jpa_heap::Handed;
 use jpa_value::{Seq, Text};
 use jpql_eval::Datum;
+use jpql_tree::Language;
 use jpql_types::Typed;
 
 /// What is bound to a parameter (Jakarta Persistence 3.1, chapter 3.10.12), by its name: `x` for
@@ -12,10 +13,12 @@ pub struct Binding {
     pub value: Handed,
 }
 
-/// What query and querySingle are asked (chapters 3.10.1 and 3.10.3): the statement's text, what is
-/// bound to its parameters, how many rows are skipped, and how many are kept at most.
+/// What query and querySingle are asked (chapters 3.10.1 and 3.10.3): the statement's text and its
+/// language, what is bound to its parameters, how many rows are skipped, and how many are kept at
+/// most.
 #[derive(Drop)]
 pub struct Asked {
+    pub language: Language,
     pub text: Text,
     pub bindings: Seq<Binding>,
     pub first: Option<i64>,

@@ -6,6 +6,7 @@ ghost use Rattle.jpa_context.specs.Undo.{now};
 ghost use Rattle.jpa_context.specs.Work.{Work};
 ghost use Rattle.jpa_fetch.specs.Grown.{IsReady};
 ghost use Rattle.jpql_text.specs.Answers.{IsRefused};
+ghost use Rattle.jpql_tree.specs.declared.Language.{Language};
 ghost use Rattle.jpql_tree.specs.Grammar.{Text};
 ghost use Rattle.jpa_asked.specs.Asking as asking;
 ghost use Rattle.jpa_asked.specs.Premises.{AreInHeap};
@@ -17,14 +18,14 @@ use jpa_model::Metamodel;
 use jpa_value::{Argument, Cause, Seq};
 use jpql_eval::Datum;
 use jpql_text::read_query;
-use jpql_tree::Query;
+use jpql_tree::{Language, Query};
 use jpql_types::check_query;
 use std::alloc::Global;
 
 /// No tree, where the text that was refused for this cause is outside the grammar; else the cause.
 fn unread(cause: Cause) -> Result<Option<Query>, Cause>
-    ensures meets { (text : Text) → IsRefused text cause → (w : Work)
-        → Meets result w (asking.read_of text w) }
+    ensures meets { (l : Language) (text : Text) → IsRefused l text cause → (w : Work)
+        → Meets result w (asking.read_of l text w) }
 {
     match cause {
         Cause::IllegalArgument(_) => Ok(None),
@@ -32,15 +33,15 @@ fn unread(cause: Cause) -> Result<Option<Query>, Cause>
     }
 }
 
-/// The tree of a statement's text (Jakarta Persistence 3.1, chapter 4); none for a text outside the
-/// grammar.
+/// The tree of a statement's text in a language (Jakarta Persistence 3.1, chapter 4); none for a text
+/// outside its grammar.
 ///
 /// `Limit` for a text that is too long, nests too deep or declares too many variables;
 /// `OutOfMemory` where a growth was refused.
-pub fn read_of(alloc: Global, text: &str) -> Result<Option<Query>, Cause>
-    ensures meets { (w : Work) → Meets result w (asking.read_of text.now w) }
+pub fn read_of(alloc: Global, language: Language, text: &str) -> Result<Option<Query>, Cause>
+    ensures meets { (w : Work) → Meets result w (asking.read_of language text.now w) }
 {
-    match read_query(alloc, text) {
+    match read_query(alloc, language, text) {
         Ok(query) => Ok(Some(query)),
         Err(cause) => unread(cause),
     }

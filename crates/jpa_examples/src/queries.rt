@@ -5,7 +5,7 @@ use crate::stop::Stop;
 use crate::writer::Writer;
 use jpa_value::{Argument, Cause};
 use jpql_text::{at_most_one_tree, read_query};
-use jpql_tree::Query;
+use jpql_tree::{Language, Query};
 use std::alloc::Global;
 
 /// The name of a refusal that is an answer.
@@ -29,10 +29,15 @@ fn add_refusal(cause: Cause, out: &mut Writer) -> Result<(), Stop> {
     Ok(())
 }
 
-/// The tree of a text, which has one at most, or the name of its refusal.
-fn query_answer(alloc: Global, text: &str, out: &mut Writer) -> Result<(), Stop> {
+/// The tree of a text in a language, which has one at most, or the name of its refusal.
+fn query_answer(
+    alloc: Global,
+    language: Language,
+    text: &str,
+    out: &mut Writer,
+) -> Result<(), Stop> {
     at_most_one_tree();
-    match read_query(alloc, text) {
+    match read_query(alloc, language, text) {
         Ok(query) => {
             add_query(&query, out);
             drop(query);
@@ -43,15 +48,25 @@ fn query_answer(alloc: Global, text: &str, out: &mut Writer) -> Result<(), Stop>
 }
 
 /// The tree of the text on a line, or the name of its refusal.
-fn line_answer(alloc: Global, line: &str, out: &mut Writer) -> Result<(), Stop> {
+fn line_answer(
+    alloc: Global,
+    language: Language,
+    line: &str,
+    out: &mut Writer,
+) -> Result<(), Stop> {
     let text = text_of(alloc, line)?;
-    query_answer(alloc, text.as_str(), out)
+    query_answer(alloc, language, text.as_str(), out)
 }
 
-/// Adds a line for each text.
-pub(crate) fn query_answers(alloc: Global, given: &str, out: &mut Writer) -> Result<(), Stop> {
+/// Adds a line for each text of the language.
+pub(crate) fn query_answers(
+    alloc: Global,
+    language: Language,
+    given: &str,
+    out: &mut Writer,
+) -> Result<(), Stop> {
     for line in given.lines() {
-        line_answer(alloc, line, out)?;
+        line_answer(alloc, language, line, out)?;
     }
     Ok(())
 }
@@ -85,5 +100,5 @@ pub(crate) fn repeated_answer(
     out: &mut Writer,
 ) -> Result<(), Stop> {
     let text = repeated(alloc, number(rows)?, given)?;
-    query_answer(alloc, text.as_str(), out)
+    query_answer(alloc, Language::Profile, text.as_str(), out)
 }

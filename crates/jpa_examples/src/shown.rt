@@ -3,7 +3,7 @@ use crate::writer::Writer;
 use jpa_value::{Boxed, Text};
 use jpql_tree::{
     Aggregate, Arithmetic, Assignment, Block, Comparison, Condition, Function, Item, Join, Origin,
-    Path, Query, Select, Sign, SortKey, Sorted, Source, Value,
+    Path, Query, Select, Sign, SortKey, Sorted, Source, Trimmed, Value,
 };
 
 fn path(out: &mut Writer, path: &Path) {
@@ -24,6 +24,11 @@ fn function(function: Function) -> &'static str {
         Function::Mod => "MOD",
         Function::Coalesce => "COALESCE",
         Function::NullIf => "NULLIF",
+        Function::Upper => "UPPER",
+        Function::Lower => "LOWER",
+        Function::Trim(Trimmed::Leading) => "TRIM LEADING",
+        Function::Trim(Trimmed::Trailing) => "TRIM TRAILING",
+        Function::Trim(Trimmed::Both) => "TRIM BOTH",
     }
 }
 

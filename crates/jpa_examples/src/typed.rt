@@ -7,6 +7,7 @@ use jpa_mapping::read_mapping;
 use jpa_model::Metamodel;
 use jpa_value::{Argument, Cause, Kind, Seq, Text};
 use jpql_text::read_query;
+use jpql_tree::Language;
 use jpql_types::{ParamType, Typed, check_query};
 use std::alloc::Global;
 
@@ -40,7 +41,7 @@ fn typed(
     parameters: &[(Text, ParamType)],
     text: &str,
 ) -> Result<Typed, Cause> {
-    let query = read_query(alloc, text)?;
+    let query = read_query(alloc, Language::Profile, text)?;
     check_query(alloc, metamodel, query, parameters)
 }
 

@@ -14,6 +14,7 @@ use Rattle.jpa_context.specs.Steps.{Op, Outcome, Done, Refused, after}
 use Rattle.jpa_fetch.specs.Load.{reach}
 use Rattle.jpa_fetch.specs.Members.{collect}
 use Rattle.jpa_flush.specs.Flush.{flush}
+use Rattle.jpql_tree.specs.declared.Language.{Language}
 use Rattle.jpql_tree.specs.declared.Query.{Query}
 use Rattle.jpql_tree.specs.Grammar.{Text}
 use Rattle.jpql_types.specs.Statements.{checked}
@@ -51,10 +52,10 @@ pub given_reads : {A : Type 0} (o : Result A Cause) → IsRead (given o)
 given_reads (Ok a) w = refl
 given_reads (Err r) w = tt
 
-pub read_of_reads : (text : Text) → IsRead (read_of text)
-read_of_reads text w =
+pub read_of_reads : (l : Language) (text : Text) → IsRead (read_of l text)
+read_of_reads l text w =
     let K : Option Query → Work → Type 0 = λ a v. v ≡ w in
-    require_holds K (is_within text) Cause.Limit w _ (λ within. require_holds K (declares_few (query_of text)) Cause.Limit w _ (λ few. refl))
+    require_holds K (is_within text) Cause.Limit w _ (λ within. require_holds K (declares_few (query_of l text)) Cause.Limit w _ (λ few. refl))
 
 pub statement_of_reads : (m : PersistenceUnit) (tree : Option Query) (bindings : List Binding) → IsRead (statement_of m tree bindings)
 statement_of_reads m tree bindings w =
@@ -67,7 +68,7 @@ statement_of_reads m tree bindings w =
 judged_reads : (m : PersistenceUnit) (call : Asked) → IsRead (judged m call)
 judged_reads m call w =
     let K : TypedSelect × List Datum → Work → Type 0 = λ q v. v ≡ w in
-    then_read K (read_of call.text) _ w (read_of_reads call.text) (λ tree.
+    then_read K (read_of call.language call.text) _ w (read_of_reads call.language call.text) (λ tree.
     require_holds K (is_count call.first && is_count call.max) (Cause.IllegalArgument Argument.Range) w _ (λ counts.
     then_read K (statement_of m tree call.bindings) _ w (statement_of_reads m tree call.bindings) (λ statement.
     then_read K (give_or (Cause.IllegalState State.Statement) (select_in statement.typed)) _ w (given_or_reads (Cause.IllegalState State.Statement) (select_in statement.typed)) (λ select. refl))))

@@ -19,6 +19,7 @@ use Rattle.jpa_heap.specs.Shape.{IsInHeap}
 use Rattle.jpa_context.specs.Work.{Work}
 use Rattle.jpa_context.specs.Steps.{Outcome, Done, Refused, Meets, after, require}
 use Rattle.jpa_flush.specs.Flush.{flush}
+use Rattle.jpql_tree.specs.declared.Language.{Language}
 use Rattle.jpql_tree.specs.Grammar.{Text}
 use Rattle.jpql_kept.specs.Fits.{AreInherited}
 use Rattle.jpa_asked.specs.declared.asked.Binding.{Binding}
@@ -87,13 +88,13 @@ module _ {world : World} {P : Work → Type 0} (steps : Steps world P) (converti
   flush_if_goes false w p = p
 
   update_holds : (is_active flushes : Bool) (text : Text) (bs : List Binding) (w : Work) → P w → AreInHeap w.objects bs →
-      HoldsAfter (λ (n : ℕ) v. all_representable v.view ≡ true → P v) (execute_update world is_active flushes text bs w)
-  update_holds is_active flushes text bs w p within = by_outcome (execute_update world is_active flushes text bs w) refl
+      HoldsAfter (λ (n : ℕ) v. all_representable v.view ≡ true → P v) (execute_update world is_active flushes Language.Profile text bs w)
+  update_holds is_active flushes text bs w p within = by_outcome (execute_update world is_active flushes Language.Profile text bs w) refl
     where
-      by_outcome : (o : Outcome ℕ) → execute_update world is_active flushes text bs w ≡ o → HoldsAfter (λ (n : ℕ) v. all_representable v.view ≡ true → P v) o
+      by_outcome : (o : Outcome ℕ) → execute_update world is_active flushes Language.Profile text bs w ≡ o → HoldsAfter (λ (n : ℕ) v. all_representable v.view ≡ true → P v) o
       by_outcome (Refused r events) e = tt
       by_outcome (Done k v) e = λ values.
-          let x = executed world is_active flushes text bs w v k convertible inherited (keys w p) within e in
+          let x = executed world is_active flushes Language.Profile text bs w v k convertible inherited (keys w p) within e in
           let q : P x.flushed = subst (HoldsAfter (λ u t. P t)) x.flush (flush_if_goes flushes w p) in
           let held = x.kept (steps.stands x.flushed q).view values in
           subst P (sym held.others) (viewed x.flushed v.view q (subst (λ (u : Work). CanBeHeld world v.view u.numbers) held.others held.set))
@@ -102,8 +103,8 @@ module _ {world : World} {P : Work → Type 0} (steps : Steps world P) (converti
   update_call_holds text ps is_active flushes w p =
       let K : Answer → Work → Type 0 = λ a v. all_representable v.view ≡ true → P v in
       after_holds K (IsBound w) (bound ps w) _ (bound_holds ps w) (λ bs v f.
-      subst (λ v'. HoldsAfter K (after (execute_update world is_active flushes text bs v') (λ n u. Done (Answer.Number n) u))) (sym f.1)
-      (told_holds (λ v'. all_representable v'.view ≡ true → P v') Answer.Number (execute_update world is_active flushes text bs w) (update_holds is_active flushes text bs w p f.0)))
+      subst (λ v'. HoldsAfter K (after (execute_update world is_active flushes Language.Profile text bs v') (λ n u. Done (Answer.Number n) u))) (sym f.1)
+      (told_holds (λ v'. all_representable v'.view ≡ true → P v') Answer.Number (execute_update world is_active flushes Language.Profile text bs w) (update_holds is_active flushes text bs w p f.0)))
 
   -- where what it puts are values of the program
   pub update_call_goes : (text : List ℕ) (ps : List Parameter) (is_active flushes : Bool) (w : Work) → P w →
@@ -132,13 +133,13 @@ flushed_first : (world : World) (text : List ℕ) (ps : List Parameter) (is_acti
 flushed_first world text ps is_active flushes w =
     let X = IsFlushed world flushes w in
     then_read (λ a v. X) (bound ps) _ w (bound_reads ps) (λ bs.
-    told_holds (λ v. X) Answer.Number (execute_update world is_active flushes text bs w)
-    (then_read (λ n v. X) (judged_bulk world.model is_active text bs) _ w (judged_reads world.model is_active text bs) (λ s.
+    told_holds (λ v. X) Answer.Number (execute_update world is_active flushes Language.Profile text bs w)
+    (then_read (λ n v. X) (judged_bulk world.model is_active Language.Profile text bs) _ w (judged_reads world.model is_active text bs) (λ s.
     after_holds (λ n v. X) (λ u v. flush_if flushes world w ≡ Done u v) (flush_if flushes world w) _ (self_holds (flush_if flushes world w)) (λ u v e. anyway (run_bulk world s v) (v, e)))))
   where
-    judged_reads : (m : PersistenceUnit) (is_active : Bool) (text : Text) (bs : List Binding) → IsRead (judged_bulk m is_active text bs)
+    judged_reads : (m : PersistenceUnit) (is_active : Bool) (text : Text) (bs : List Binding) → IsRead (judged_bulk m is_active Language.Profile text bs)
     judged_reads m is_active text bs v =
-        then_read (λ s u. u ≡ v) (read_of text) _ v (read_of_reads text) (λ tree.
+        then_read (λ s u. u ≡ v) (read_of Language.Profile text) _ v (read_of_reads Language.Profile text) (λ tree.
         require_holds (λ s u. u ≡ v) is_active Cause.TransactionRequired v _ (λ active.
         then_read (λ s u. u ≡ v) (statement_of m tree bs) _ v (statement_of_reads m tree bs) (λ s.
         require_holds (λ t u. u ≡ v) (is_bulk s.typed) (Cause.IllegalState State.Statement) v _ (λ bulk. refl))))

@@ -10,6 +10,7 @@ use Rattle.jpa_context.specs.Steps.{◌>>=◌, ◌>>◌, Op, give, read, require
 use Rattle.jpa_protocol.specs.declared.call.Given.{Given}
 use Rattle.jpa_protocol.specs.declared.call.Parameter.{Parameter}
 use Rattle.jpa_protocol.specs.declared.reply.Answer.{Answer}
+use Rattle.jpql_tree.specs.declared.Language.{Language}
 use Rattle.jpa_asked.specs.declared.asked.Asked.{Asked}
 use Rattle.jpa_asked.specs.declared.asked.Binding.{Binding}
 use Rattle.jpa_queries.specs.Queries.{query, query_single}
@@ -58,7 +59,7 @@ bound parameters = do
 abbrev pub asked_of : List ℕ → List Parameter → Option ℤ → Option ℤ → Op Asked
 asked_of text parameters first max = do
   bindings ← bound parameters
-  give (record { text = text; bindings = bindings; first = first; max = max })
+  give (record { language = Language.Profile; text = text; bindings = bindings; first = first; max = max })
 
 -- the call query: the rows of a SELECT (chapter 3.10.1)
 abbrev pub query_call : List ℕ → List Parameter → Option ℤ → Option ℤ → Bool → World → Op Answer
@@ -76,4 +77,4 @@ query_single_call text parameters first max flushes world = do
 abbrev pub update_call : List ℕ → List Parameter → Bool → Bool → World → Op Answer
 update_call text parameters is_active flushes world = do
   bindings ← bound parameters
-  told_as Answer.Number (execute_update world is_active flushes text bindings)
+  told_as Answer.Number (execute_update world is_active flushes Language.Profile text bindings)

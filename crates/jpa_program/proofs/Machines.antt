@@ -9,19 +9,15 @@ use Rattle.jpa_lines.specs.declared.run.RunFault.{RunFault}
 use Rattle.jpa_lines.specs.Run.{Served, Broken, AnswersRead}
 use Rattle.jpa_provider.specs.Provided.{Provided, Steps, world_in}
 use Rattle.jpa_machine.specs.Step.{Step}
+use Rattle.jpa_program.specs.Run.{EndsAs, ServesSame}
 use Rattle.jpa_program.proofs.Mapped as mapped
 
 module _ {R L C : Type 0} (meaning : Meaning L C) (store : Ghosts R) where
-  -- it serves the same as the provider did at first
-  pub record IsOf (first p : Provided R L C) : Type 0 where
-    pub model : p.model ≡ first.model
-    pub registry : p.registry ≡ first.registry
-
-  itself : (p : Provided R L C) → IsOf p p
+  itself : (p : Provided R L C) → ServesSame p p
   itself p = record { model = refl; registry = refl }
 
-  stepped : (first old : Provided R L C) (call : Call) (reply : Reply) (new : Provided R L C) → Steps meaning store old call reply new → IsOf first old
-      → Step (world_in meaning first) old.machine call reply new.machine × IsOf first new
+  stepped : (first old : Provided R L C) (call : Call) (reply : Reply) (new : Provided R L C) → Steps meaning store old call reply new → ServesSame first old
+      → Step (world_in meaning first) old.machine call reply new.machine × ServesSame first new
   stepped first old call reply new s e = (
     subst (λ (r : Registered L C). Step (world_of meaning first.model r) old.machine call reply new.machine) e.registry
         (subst (λ (m : PersistenceUnit). Step (world_of meaning m old.registry) old.machine call reply new.machine) e.model s.step),
@@ -30,31 +26,34 @@ module _ {R L C : Type 0} (meaning : Meaning L C) (store : Ghosts R) where
 
   module _ (old new : Provided R L C) (known before after : Option (List ℕ)) where
     served : Served (Steps meaning store) old new known before after → Served (Step (world_in meaning old)) old.machine new.machine known before after
-    served h = mapped.served (λ p. p.machine) (IsOf old) (Steps meaning store) (Step (world_in meaning old)) (stepped old) old new known before after h (itself old)
+    served h = mapped.served (λ p. p.machine) (ServesSame old) (Steps meaning store) (Step (world_in meaning old)) (stepped old) old new known before after h (itself old)
 
     broken : (fault : RunFault) → Broken (Steps meaning store) old new fault known before after → Broken (Step (world_in meaning old)) old.machine new.machine fault known before after
-    broken fault h = mapped.broken (λ p. p.machine) (IsOf old) (Steps meaning store) (Step (world_in meaning old)) (stepped old) old new fault known before after h (itself old)
+    broken fault h = mapped.broken (λ p. p.machine) (ServesSame old) (Steps meaning store) (Step (world_in meaning old)) (stepped old) old new fault known before after h (itself old)
 
     answers_read : (fault : RunFault) (left : Option (List ℕ)) → AnswersRead (Steps meaning store) old new fault known left before after
         → AnswersRead (Step (world_in meaning old)) old.machine new.machine fault known left before after
     answers_read fault left h =
-        mapped.answers_read (λ p. p.machine) (IsOf old) (Steps meaning store) (Step (world_in meaning old)) (stepped old) old new fault known left before after h (itself old)
+        mapped.answers_read (λ p. p.machine) (ServesSame old) (Steps meaning store) (Step (world_in meaning old)) (stepped old) old new fault known left before after h (itself old)
 
     -- however the run ended
-    pub ended_ok : (r : Result (Unit {0}) RunFault) → OnOk r (Served (Steps meaning store) old new known before after) → OnOk r (Served (Step (world_in meaning old)) old.machine new.machine known before after)
+    ended_ok : (r : Result (Unit {0}) RunFault) → OnOk r (Served (Steps meaning store) old new known before after) → OnOk r (Served (Step (world_in meaning old)) old.machine new.machine known before after)
     ended_ok (Ok u) h = served h
     ended_ok (Err fault) h = h
 
-    pub ended_err : (r : Result (Unit {0}) RunFault) → IfErr r (λ fault. Broken (Steps meaning store) old new fault known before after)
+    ended_err : (r : Result (Unit {0}) RunFault) → IfErr r (λ fault. Broken (Steps meaning store) old new fault known before after)
         → IfErr r (λ fault. Broken (Step (world_in meaning old)) old.machine new.machine fault known before after)
     ended_err (Ok u) h = h
     ended_err (Err fault) h = broken fault h
 
-    pub ended_read : (left : Option (List ℕ)) (r : Result (Unit {0}) RunFault) → IfErr r (λ fault. AnswersRead (Steps meaning store) old new fault known left before after)
+    ended_read : (left : Option (List ℕ)) (r : Result (Unit {0}) RunFault) → IfErr r (λ fault. AnswersRead (Steps meaning store) old new fault known left before after)
         → IfErr r (λ fault. AnswersRead (Step (world_in meaning old)) old.machine new.machine fault known left before after)
     ended_read left (Ok u) h = h
     ended_read left (Err fault) h = answers_read fault left h
 
-    pub of_first : (r : Result (Unit {0}) RunFault) → OnOk r (Served (Steps meaning store) old new known before after)
-        → IfErr r (λ fault. Broken (Steps meaning store) old new fault known before after) → IsOf old new
-    of_first r ok err = mapped.kept (λ p. p.machine) (IsOf old) (Steps meaning store) (Step (world_in meaning old)) (stepped old) old new known before after r ok err (itself old)
+    pub ended : (r : Result (Unit {0}) RunFault) (left : Option (List ℕ)) → EndsAs (Steps meaning store) old new r known left before after
+        → EndsAs (Step (world_in meaning old)) old.machine new.machine r known left before after
+    ended r left h = record { ok = ended_ok r h.ok; err = ended_err r h.err; read = ended_read left r h.read }
+
+    pub same_unit : (r : Result (Unit {0}) RunFault) (left : Option (List ℕ)) → EndsAs (Steps meaning store) old new r known left before after → ServesSame old new
+    same_unit r left h = mapped.kept (λ p. p.machine) (ServesSame old) (Steps meaning store) (Step (world_in meaning old)) (stepped old) old new known before after r h.ok h.err (itself old)

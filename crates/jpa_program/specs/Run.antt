@@ -1,5 +1,5 @@
--- What the store of a provider over cells is, and what it holds.
-use Rattle.std.specs.Prelude.{◌≡◌, ◌+◌}
+-- What the store of a provider over cells is, and what it holds; how a run ends.
+use Rattle.std.specs.Prelude.{◌≡◌, ◌+◌, ℕ, List, Option, Result, OnOk, IfErr}
 use Rattle.std.proofs.Common.{subst}
 use Rattle.sqlite_trees.specs.declared.store.Store.{Ghosts}
 use Rattle.jpa_behaviour.specs.Registered.{Meaning}
@@ -10,6 +10,10 @@ use Rattle.jpa_rows.specs.Cells.{CanBeHeld}
 use Rattle.jpa_cells_meaning.specs.Store.{up_to_greatest, IsClean}
 use Rattle.jpa_rowspace.specs.Enduring.{EnduresRows, rows_then, rows_wider}
 use Rattle.jpa_rowspace.specs.Space.{Space, HoldsRows}
+use Rattle.jpa_protocol.specs.declared.call.Call.{Call}
+use Rattle.jpa_protocol.specs.declared.reply.Reply.{Reply}
+use Rattle.jpa_lines.specs.declared.run.RunFault.{RunFault}
+use Rattle.jpa_lines.specs.Run.{Served, Broken, AnswersRead}
 use Rattle.jpa_machine.specs.Machine.{opened}
 use Rattle.jpa_provider.specs.Provided.{Provided, world_in}
 use Rattle.jpa_program.specs.Opening.{HoldsCells}
@@ -30,6 +34,19 @@ rows_over g =
       then = λ first second third P Q same a b. rows_then g first.schema first.store.conn second.store.conn
           third.store.conn P Q a (subst (λ schema. EnduresRows g schema second.store.conn third.store.conn Q) same b);
     }
+
+-- How a run over lines ends: all of them are answered. Where a fault ends it a front of them is, and
+-- after a failed read all whole lines that were read
+pub record EndsAs {M : Type 0} (steps : M → Call → Reply → M → Type 0) (old new : M)
+    (result : Result (Unit {0}) RunFault) (known left before after : Option (List ℕ)) : Type 0 where
+  pub ok : OnOk result (Served steps old new known before after)
+  pub err : IfErr result (λ fault. Broken steps old new fault known before after)
+  pub read : IfErr result (λ fault. AnswersRead steps old new fault known left before after)
+
+-- it serves the same unit as at first
+pub record ServesSame {R L C : Type 0} (first p : Provided R L C) : Type 0 where
+  pub model : p.model ≡ first.model
+  pub registry : p.registry ≡ first.registry
 
 module _ {S L C : Type 0} (g : Ghosts S) (meaning : Meaning L C) where
   -- where the connection is open and its disk clean, the unit's tables have the cells of the

@@ -1,10 +1,8 @@
 //! The run over lines.
-ghost use Rattle.std.specs.Prelude.{◌≡◌, OnOk, IfErr};
-ghost use Rattle.jpa_lines.specs.Run.{Served, Broken, AnswersRead};
 ghost use Rattle.jpa_provider.specs.Provided.{Steps, world_in};
 ghost use Rattle.jpa_machine.specs.Step.{Step};
 ghost use Rattle.jpa_program.specs.Isolation.{IsolatesRuns};
-ghost use Rattle.jpa_program.specs.Run.{HoldsCommitted, rows_over};
+ghost use Rattle.jpa_program.specs.Run.{EndsAs, HoldsCommitted, ServesSame, rows_over};
 
 use jpa_behaviour::Behaviour;
 use jpa_lines::RunFault;
@@ -40,26 +38,14 @@ pub fn run<S: Alter, B: Behaviour, R: Read, W: Write>(
     writer: &mut W,
     provider: &mut Provider<RowSpace<S>, B>,
 ) -> Result<(), RunFault>
-    ensures ok { OnOk result (Served (Step (world_in B.meaning provider.old)) provider.old.machine
-        provider.new.machine (R.remaining reader.old) (W.contents writer.old)
-        (W.contents writer.new)) }
-    ensures err { IfErr result (λ fault. Broken (Step (world_in B.meaning provider.old))
-        provider.old.machine provider.new.machine fault (R.remaining reader.old)
-        (W.contents writer.old) (W.contents writer.new)) }
-    ensures read { IfErr result (λ fault. AnswersRead (Step (world_in B.meaning provider.old))
-        provider.old.machine provider.new.machine fault (R.remaining reader.old)
-        (R.remaining reader.new) (W.contents writer.old) (W.contents writer.new)) }
-    ensures calls { OnOk result (Served (Steps B.meaning (rows_over S.Store)) provider.old
-        provider.new (R.remaining reader.old) (W.contents writer.old) (W.contents writer.new)) }
-    ensures calls_err { IfErr result (λ fault. Broken (Steps B.meaning (rows_over S.Store))
-        provider.old provider.new fault (R.remaining reader.old) (W.contents writer.old)
-        (W.contents writer.new)) }
-    ensures calls_read { IfErr result (λ fault. AnswersRead (Steps B.meaning (rows_over S.Store))
-        provider.old provider.new fault (R.remaining reader.old) (R.remaining reader.new)
-        (W.contents writer.old) (W.contents writer.new)) }
+    ensures machine { EndsAs (Step (world_in B.meaning provider.old)) provider.old.machine
+        provider.new.machine result (R.remaining reader.old) (R.remaining reader.new)
+        (W.contents writer.old) (W.contents writer.new) }
+    ensures calls { EndsAs (Steps B.meaning (rows_over S.Store)) provider.old provider.new result
+        (R.remaining reader.old) (R.remaining reader.new) (W.contents writer.old)
+        (W.contents writer.new) }
     ensures isolated { IsolatesRuns B.meaning (rows_over S.Store) provider.old }
-    ensures model { provider.new.model ≡ provider.old.model }
-    ensures registry { provider.new.registry ≡ provider.old.registry }
+    ensures unit { ServesSame provider.old provider.new }
     ensures cells { HoldsCommitted S.Store B.meaning provider.new }
 {
     let ran = run_lines(alloc, reader, writer, provider);

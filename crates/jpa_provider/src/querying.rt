@@ -34,6 +34,7 @@ use jpa_protocol::{Answer, Call, FlushMode, Given, Parameter, Reply};
 use jpa_queries::{query, query_single};
 use jpa_updates::execute_update;
 use jpa_value::{Cause, Seq, Text, TryCopy};
+use jpql_tree::Language;
 use std::alloc::Global;
 
 /// What is handed in for a parameter; none where a number names no object.
@@ -119,6 +120,7 @@ fn asked_of(
 {
     let bindings = bound(alloc, work, parameters.as_slice())?;
     Ok(Asked {
+        language: Language::Profile,
         text,
         bindings,
         first,
@@ -240,7 +242,16 @@ fn update_work<B: Behaviour>(
     let bindings = bound(alloc, work, parameters.as_slice())?;
     let bindings = bindings.as_slice();
     let text = text.as_str();
-    let count = execute_update(alloc, unit, work, is_active, flushes, text, bindings)?;
+    let count = execute_update(
+        alloc,
+        unit,
+        work,
+        is_active,
+        flushes,
+        Language::Profile,
+        text,
+        bindings,
+    )?;
     Ok(Answer::Number(count as u64))
 }
 

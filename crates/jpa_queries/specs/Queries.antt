@@ -53,7 +53,7 @@ answer overflows = refuse Cause.Overflow
 -- a SELECT, with what stands for its parameters
 abbrev pub judged : PersistenceUnit → Asked → Op (TypedSelect × List Datum)
 judged m call = do
-  tree ← read_of call.text
+  tree ← read_of call.language call.text
   require (is_count call.first && is_count call.max) (Cause.IllegalArgument Argument.Range)
   statement ← statement_of m tree call.bindings
   select ← give_or (Cause.IllegalState State.Statement) (select_in statement.typed)

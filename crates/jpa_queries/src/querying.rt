@@ -39,7 +39,7 @@ fn judged(
     ensures meets { Meets result (now work.now)
         (queries.judged metamodel.now asked.now (now work.now)) }
 {
-    let tree = read_of(alloc, asked.text.as_str())?;
+    let tree = read_of(alloc, asked.language, asked.text.as_str())?;
     if !is_count(asked.first) || !is_count(asked.max) {
         return Err(Cause::IllegalArgument(Argument::Range));
     }

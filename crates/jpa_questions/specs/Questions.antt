@@ -9,6 +9,7 @@ use Rattle.jpa_value.specs.declared.refusal.State.{State}
 use Rattle.jpa_model.specs.declared.unit.PersistenceUnit.{PersistenceUnit}
 use Rattle.jpa_behaviour.specs.Behaviour.{is_short}
 use Rattle.jpa_json.specs.Outcome.{and_then}
+use Rattle.jpql_tree.specs.declared.Language.{Language}
 use Rattle.jpql_tree.specs.declared.Query.{Query}
 use Rattle.jpql_tree.specs.Grammar.{Text}
 use Rattle.jpql_text.specs.Answers.{IsRead, IsRefused}
@@ -45,18 +46,18 @@ select_in (Typed.Delete class is_named filter) = Err (Cause.IllegalState State.S
 abbrev pub are_short : List Parameter → Bool
 are_short = list_all (λ (p : Parameter). is_short p.value)
 
-module _ (m : PersistenceUnit) (text : Text) (ps : List Parameter) where
+module _ (m : PersistenceUnit) (l : Language) (text : Text) (ps : List Parameter) where
   -- what a tree asks with the parameters: a well-typed SELECT, or the refusal
   abbrev pub select_of : Query → Result TypedSelect Cause
   select_of tree = and_then (checked m tree (map named_sort ps)) select_in
 
-  -- the text has a tree, whose SELECT this is
+  -- the text has a tree in the language, whose SELECT this is
   abbrev pub Selects : TypedSelect → Type 0
-  Selects q = (tree : Query) × IsRead text tree × (select_of tree ≡ Ok q)
+  Selects q = (tree : Query) × IsRead l text tree × (select_of tree ≡ Ok q)
 
   -- the text is refused, or what its tree asks is
   abbrev pub IsTextRefused : Cause → Type 0
-  IsTextRefused cause = IsRefused text cause ⊎ ((tree : Query) × IsRead text tree × (select_of tree ≡ Err cause))
+  IsTextRefused cause = IsRefused l text cause ⊎ ((tree : Query) × IsRead l text tree × (select_of tree ≡ Err cause))
 
   -- the parameters are short enough, the text asks this SELECT, and these stand for its parameters
   -- by place

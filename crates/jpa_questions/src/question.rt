@@ -9,6 +9,7 @@ use jpa_rows::is_short;
 use jpa_value::{Cause, Kind, Seq, State, Text, TryCopy, Value};
 use jpql_eval::Datum;
 use jpql_text::read_query;
+use jpql_tree::Language;
 use jpql_types::{ParamType, Sort, Typed, TypedSelect, check_query};
 use std::alloc::Global;
 
@@ -79,21 +80,22 @@ fn select_in(typed: Typed) -> Result<TypedSelect, Cause>
 fn read_select(
     alloc: Global,
     metamodel: &Metamodel,
+    language: Language,
     text: &str,
     parameters: &[Parameter],
 ) -> Result<TypedSelect, Cause>
-    ensures asked { IfOk result (spec.Selects metamodel.now text.now parameters.now) }
+    ensures asked { IfOk result (spec.Selects metamodel.now language text.now parameters.now) }
     ensures refused { IfErr result (λ cause. (cause ≡ Cause.OutOfMemory)
-        ⊎ spec.IsTextRefused metamodel.now text.now parameters.now cause) }
+        ⊎ spec.IsTextRefused metamodel.now language text.now parameters.now cause) }
 {
-    let tree = read_query(alloc, text)?;
+    let tree = read_query(alloc, language, text)?;
     let sorts = sorts_of(alloc, parameters)?;
     let typed = check_query(alloc, metamodel, tree, sorts.as_slice())?;
     select_in(typed)
 }
 
-/// The question that a text asks with these parameters, judged as a provider's query is (Jakarta
-/// Persistence 3.1, chapters 3.10.1, 3.10.12 and 4).
+/// The question that a text of a language asks with these parameters, judged as a provider's query
+/// is (Jakarta Persistence 3.1, chapters 3.10.1, 3.10.12 and 4).
 ///
 /// In this order: `Limit` for a parameter of more than 65,535 bytes, then for a text that is too
 /// long, nests too deep or declares too many variables; `IllegalArgument` with `Syntax` for a text
@@ -103,16 +105,18 @@ fn read_select(
 pub fn read_question(
     alloc: Global,
     metamodel: &Metamodel,
+    language: Language,
     text: &str,
     parameters: &[Parameter],
 ) -> Result<Question, Cause>
-    ensures asked { IfOk result (spec.IsAsked metamodel.now text.now parameters.now) }
-    ensures refused { IfErr result (spec.IsUnasked metamodel.now text.now parameters.now) }
+    ensures asked { IfOk result (spec.IsAsked metamodel.now language text.now parameters.now) }
+    ensures refused { IfErr result (spec.IsUnasked metamodel.now language text.now
+        parameters.now) }
 {
     if !are_short(parameters) {
         return Err(Cause::Limit);
     }
-    let select = read_select(alloc, metamodel, text, parameters)?;
+    let select = read_select(alloc, metamodel, language, text, parameters)?;
     let arguments = arguments_of(alloc, parameters)?;
     Ok(Question { select, arguments })
 }

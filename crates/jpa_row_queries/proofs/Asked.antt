@@ -1,22 +1,17 @@
 -- What a statement gives over the set that decides it.
-use Rattle.std.specs.Prelude.{◌≡◌, ℕ, ◌⊎◌, ◌++◌, true, not, List, [], ◌∷◌, Option, Some, None, Result, Ok, Err, IfSome, IfOk, IfErr, MatchResult}
-use Rattle.std.specs.List.{list_all}
+use Rattle.std.specs.Prelude.{◌≡◌, ℕ, ◌⊎◌, true, List, Option, Some, None, option_map, Result, Ok, Err, IfSome, IfOk, IfErr, MatchResult}
 use Rattle.std.proofs.Common.{refl, sym, ap, subst, ◌∙◌, inl, inr}
 use Rattle.jpa_value.specs.declared.value.Identity.{Identity}
 use Rattle.jpa_value.specs.declared.refusal.Cause.{Cause}
 use Rattle.jpa_value.specs.declared.refusal.Cause.TheVariants as cause
 use Rattle.jpa_model.specs.declared.unit.PersistenceUnit.{PersistenceUnit}
-use Rattle.jpa_model.specs.declared.unit.Relation.{Relation}
-use Rattle.jpa_model.specs.declared.unit.Side.{Side}
-use Rattle.jpa_model.specs.Chains.{relations_of}
 use Rattle.jpa_behaviour.specs.Behaviour.{World}
 use Rattle.jpa_stored.specs.declared.stored.Stored.{Stored}
 use Rattle.jpa_stored.specs.Sets.{StoredSet, is_shaped, stored_at}
-use Rattle.jpa_row_laws.proofs.Facts.{and_both, and_first, and_second, true_false}
-use Rattle.jpa_rows.specs.Cells.{CanBeHeld, join_tables}
+use Rattle.jpa_row_laws.proofs.Facts.{and_both}
+use Rattle.jpa_rows.specs.Cells.{CanBeHeld}
 use Rattle.jpa_rows.specs.Faults.{IsStoreCause}
-use Rattle.jpa_object_rows.specs.Unambiguous.{joins_of}
-use Rattle.jpql_by_key.specs.ByKey.{has_pairs, only}
+use Rattle.jpql_by_key.specs.ByKey.{only, pairless}
 use Rattle.jpql_by_key.specs.Laws.{KeyLaws}
 use Rattle.jpa_open.specs.Opened.{Opened, now, unwritten}
 use Rattle.jpql_eval.specs.Answers.{Answer, gives}
@@ -25,7 +20,6 @@ use Rattle.jpql_plan.specs.Selection.{selected}
 use Rattle.jpql_run.specs.Keys.{CanBeLookedUp}
 use Rattle.jpql_types.specs.declared.typed.TypedSelect.{TypedSelect}
 use Rattle.jpa_row_queries.specs.Unread.{IsReadingCause}
-use Rattle.jpa_row_queries.specs.Seen.{StandsAlone}
 use Rattle.jpa_row_queries.proofs.Looks.{IsOwnCause}
 use Rattle.jpa_row_queries.specs.Answered.{Answers, IsAskingCause, Refuses}
 
@@ -37,22 +31,6 @@ held_looked_up held = record { rising = held.rising; shaped = held.shaped }
 pub alone_looked_up : (m : PersistenceUnit) (id : Identity) (object : Option Stored) → IfSome object (λ x. is_shaped m id x ≡ true) → CanBeLookedUp m (only id object)
 alone_looked_up m id None h = record { rising = tt; shaped = refl }
 alone_looked_up m id (Some x) h = record { rising = tt; shaped = and_both (is_shaped m id x) true h refl }
-
--- whose class owns no pairs has no join tables
-no_join : (side : Side) → not (has_pairs side) ≡ true → join_tables side ≡ []
-no_join (Side.ManyToOne c) h = refl
-no_join (Side.OneToOne c) h = refl
-no_join (Side.OneToOneInverse owner) h = refl
-no_join (Side.OneToMany owner) h = refl
-no_join (Side.ManyToMany join) h = absurd (true_false (sym h))
-no_join (Side.ManyToManyInverse owner) h = refl
-
-no_joins : (relations : List Relation) → list_all (λ (r : Relation). not (has_pairs r.side)) relations ≡ true → joins_of relations ≡ []
-no_joins [] h = refl
-no_joins (r ∷ relations) h = λ i. no_join r.side (and_first (not (has_pairs r.side)) _ h) i ++ no_joins relations (and_second (not (has_pairs r.side)) _ h) i
-
-pub stands_alone : (m : PersistenceUnit) (ps : List Datum) (q : TypedSelect) (id : Identity) → KeyLaws m ps q id → StandsAlone m id
-stands_alone m ps q id laws = record { rooted = laws.rooted; unpaired = λ x shaped. no_joins (relations_of m x.class) (laws.unpaired x shaped) }
 
 -- ---- the set as it is opened
 
@@ -76,7 +54,8 @@ module _ (m : PersistenceUnit) (ps : List Datum) (q : TypedSelect) (set : Stored
   asked_whole (Ok o) h = ap (λ s. selected m s ps q) h
   asked_whole (Err e) h = h
 
-  pub asked_alone : (id : Identity) → KeyLaws m ps q id → CanBeLookedUp m set → (r : Result Opened Cause) → MatchResult r (λ o. now o ≡ only id (stored_at set id)) IsStoreCause → MatchResult r GivesSame IsStoreCause
+  pub asked_alone : (id : Identity) → KeyLaws m ps q id → CanBeLookedUp m set → (r : Result Opened Cause) → MatchResult r (λ o. now o ≡ only id (option_map (pairless m) (stored_at set id))) IsStoreCause
+      → MatchResult r GivesSame IsStoreCause
   asked_alone id laws there (Ok o) h = ap (λ s. selected m s ps q) h ∙ sym (laws.alone set there)
   asked_alone id laws there (Err e) h = h
 

@@ -1,16 +1,12 @@
 -- The set that is seen: the one whose rows a store holds under changes.
-use Rattle.std.specs.Prelude.{◌≡◌, ◌<◌, ℕ, true, List, [], length}
-use Rattle.jpa_value.specs.declared.value.Identity.{Identity}
+use Rattle.std.specs.Prelude.{ℕ, List}
 use Rattle.jpa_model.specs.declared.unit.PersistenceUnit.{PersistenceUnit}
-use Rattle.jpa_model.specs.Chains.{relations_of, root_of}
 use Rattle.jpa_behaviour.specs.Behaviour.{World}
-use Rattle.jpa_stored.specs.declared.stored.Stored.{Stored}
-use Rattle.jpa_stored.specs.Sets.{StoredSet, is_shaped}
+use Rattle.jpa_stored.specs.Sets.{StoredSet}
 use Rattle.jpa_rows.specs.declared.reader.RowReader.{Ghosts}
 use Rattle.jpa_rows.specs.Rows.{Rows, AreRising}
 use Rattle.jpa_rows.specs.Tables.{schema_of}
 use Rattle.jpa_object_rows.specs.Raw.{AreRowsOf}
-use Rattle.jpa_object_rows.specs.Unambiguous.{joins_of}
 use Rattle.jpa_overlay.specs.Overlay.{Changes, rows_under}
 use Rattle.jpa_store_reader.specs.OfSet.{AreOf}
 
@@ -33,9 +29,3 @@ pub record SeesRows {S : Type 0} (store : Ghosts S) (m : PersistenceUnit) (chang
 -- the rows are just those of this set, with some next numbers
 abbrev pub AreJustOf : World → Rows → StoredSet → Type 0
 AreJustOf world rows set = (numbers : List ℕ) × AreOf world rows set numbers
-
--- an object under the identity is one row: the table is a class's, and its relations have no join
--- tables (chapter 2.10)
-pub record StandsAlone (m : PersistenceUnit) (id : Identity) : Type 0 where
-  pub rooted : (class : ℕ) × (class < length m.entities) × ((root_of m class).table ≡ id.table)
-  pub unpaired : (x : Stored) → is_shaped m id x ≡ true → joins_of (relations_of m x.class) ≡ []

@@ -1,5 +1,5 @@
 //! One object, read off its row.
-ghost use Rattle.std.specs.Prelude.{◌≡◌, ◌⊎◌, ℕ, List, true, IfOk, IfErr, IfSome, MatchResult};
+ghost use Rattle.std.specs.Prelude.{◌≡◌, ◌⊎◌, ℕ, List, true, option_map, IfOk, IfErr, IfSome, MatchResult};
 ghost use Rattle.std.specs.FinMap.{find};
 ghost use Rattle.jpa_value.specs.declared.refusal.Cause.{Cause};
 ghost use Rattle.jpa_value.specs.Value.{identity_cmp};
@@ -10,7 +10,9 @@ ghost use Rattle.jpa_rows.specs.Rows.{Rows};
 ghost use Rattle.jpa_stored.specs.Sets.{StoredSet, is_shaped, stored_at};
 ghost use Rattle.jpa_row_queries.specs.Unread.{IsDamage, IsReadingCause};
 ghost use Rattle.jpa_rows.specs.Looks.{LooksAtOneRow, LooksOnly};
-ghost use Rattle.jpa_row_queries.specs.Seen.{SeesSet, StandsAlone};
+ghost use Rattle.jpa_row_queries.specs.Seen.{SeesSet};
+ghost use Rattle.jpql_by_key.specs.ByKey.{pairless};
+ghost use Rattle.jpql_by_key.specs.Laws.{IsRooted};
 
 use jpa_behaviour::{Behaviour, Registry};
 use jpa_mapper::{discriminator_law, from_rows_by_id};
@@ -21,8 +23,8 @@ use jpa_stored::Stored;
 use jpa_value::{Cause, Identity};
 use std::alloc::Global;
 
-/// The object that the row under its identity says, if there is a row. Objects under the identity
-/// own no pairs. A row that is no object's is `Damaged`.
+/// The object that the row under its identity says, if there is a row, without the pairs that it
+/// owns, which are other rows. A row that is no object's is `Damaged`.
 fn object_of<B: Behaviour>(
     alloc: Global,
     metamodel: &Metamodel,
@@ -30,10 +32,11 @@ fn object_of<B: Behaviour>(
     id: &Identity,
     row: &Option<Row>,
 ) -> Result<Option<Stored>, Cause>
-    ensures object { StandsAlone metamodel.now id.now → (rows : Rows) →
+    ensures object { IsRooted metamodel.now id.now → (rows : Rows) →
         row.now ≡ find identity_cmp id.now rows → (set : StoredSet) (numbers : List ℕ) →
         AreOf (world_of B.meaning metamodel.now registry.now) rows set numbers →
-        MatchResult result (λ found. found ≡ stored_at set id.now) IsStoreCause }
+        MatchResult result
+        (λ found. found ≡ option_map (pairless metamodel.now) (stored_at set id.now)) IsStoreCause }
     ensures shaped { IfOk result
         (λ found. IfSome found (λ x. is_shaped metamodel.now id.now x ≡ true)) }
     ensures err { IfErr result (λ cause. (cause ≡ Cause.OutOfMemory) ⊎ IsDamage cause) }
@@ -51,9 +54,9 @@ fn object_of<B: Behaviour>(
     }
 }
 
-/// The object that is seen under an identity: that of the set whose rows the store holds under
-/// changes, by one look at its row. Objects under the identity own no pairs (`StandsAlone`). What
-/// is answered has the shape of its class in any case.
+/// The object that is seen under an identity, without the pairs that it owns: that of the set whose
+/// rows the store holds under changes, by one look at its row. The identity's table is a class's
+/// (`IsRooted`). What is answered has the shape of its class in any case.
 ///
 /// A row that is no object's is `Damaged`, told by its table and its bytes. `OutOfMemory` where a
 /// growth was refused, and `StoreFault` as the store answers it. Nothing is written.
@@ -65,11 +68,11 @@ pub fn object_under<R: RowReader, B: Behaviour>(
     source: &mut R,
     id: &Identity,
 ) -> Result<Option<Stored>, Cause>
-    ensures object { R.clean source.new → StandsAlone metamodel.now id.now →
+    ensures object { R.clean source.new → IsRooted metamodel.now id.now →
         (set : StoredSet) (numbers : List ℕ) →
         SeesSet R.RowReader (world_of B.meaning metamodel.now registry.now) overlay.now
-        source.old set numbers →
-        MatchResult result (λ found. found ≡ stored_at set id.now) IsStoreCause }
+        source.old set numbers → MatchResult result
+        (λ found. found ≡ option_map (pairless metamodel.now) (stored_at set id.now)) IsStoreCause }
     ensures shaped { IfOk result
         (λ found. IfSome found (λ x. is_shaped metamodel.now id.now x ≡ true)) }
     ensures err { R.clean source.new → (rows : Rows) → R.holds source.old rows →

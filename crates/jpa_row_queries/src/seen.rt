@@ -1,16 +1,17 @@
 //! What is seen of a store, for statements to run over.
-ghost use Rattle.std.specs.Prelude.{◌≡◌, ℕ, List, IfOk, IfErr, MatchResult};
+ghost use Rattle.std.specs.Prelude.{◌≡◌, ℕ, List, option_map, IfOk, IfErr, MatchResult};
 ghost use Rattle.jpa_behaviour.specs.Registered.{world_of};
 ghost use Rattle.jpa_open.specs.Opened.{now};
 ghost use Rattle.jpa_rows.specs.Faults.{IsStoreCause};
 ghost use Rattle.jpa_rows.specs.Rows.{Rows, AreRising};
 ghost use Rattle.jpa_overlay.specs.Overlay.{rows_under};
 ghost use Rattle.jpa_stored.specs.Sets.{StoredSet, stored_at};
-ghost use Rattle.jpql_by_key.specs.ByKey.{only};
+ghost use Rattle.jpql_by_key.specs.ByKey.{only, pairless};
+ghost use Rattle.jpql_by_key.specs.Laws.{IsRooted};
 ghost use Rattle.jpql_run.specs.Keys.{CanBeLookedUp};
 ghost use Rattle.jpa_row_queries.specs.Unread.{IsReadingCause};
 ghost use Rattle.jpa_rows.specs.Looks.{LooksAtOneRow, LooksOnly};
-ghost use Rattle.jpa_row_queries.specs.Seen.{AreJustOf, SeesRows, SeesSet, StandsAlone};
+ghost use Rattle.jpa_row_queries.specs.Seen.{AreJustOf, SeesRows, SeesSet};
 
 use crate::alone::object_under;
 use crate::gathering::set_seen;
@@ -23,7 +24,7 @@ use jpa_rows::RowReader;
 use jpa_value::{Cause, Identity};
 use std::alloc::Global;
 
-/// The set of what is seen under an identity, by one look at its row.
+/// The set of what is seen under an identity, without its pairs, by one look at its row.
 pub(crate) fn alone_seen<R: RowReader, B: Behaviour>(
     alloc: Global,
     metamodel: &Metamodel,
@@ -32,11 +33,12 @@ pub(crate) fn alone_seen<R: RowReader, B: Behaviour>(
     source: &mut R,
     id: Identity,
 ) -> Result<OpenSet, Cause>
-    ensures seen { R.clean source.new → StandsAlone metamodel.now id →
+    ensures seen { R.clean source.new → IsRooted metamodel.now id →
         (set : StoredSet) (numbers : List ℕ) →
         SeesSet R.RowReader (world_of B.meaning metamodel.now registry.now) overlay.now
-        source.old set numbers →
-        MatchResult result (λ found. now found ≡ only id (stored_at set id)) IsStoreCause }
+        source.old set numbers → MatchResult result
+        (λ found. now found ≡ only id (option_map (pairless metamodel.now) (stored_at set id)))
+        IsStoreCause }
     ensures looked_up { IfOk result (λ found. CanBeLookedUp metamodel.now (now found)) }
     ensures err { R.clean source.new → (rows : Rows) → R.holds source.old rows →
         IfErr result IsReadingCause }

@@ -10,3 +10,4 @@ pub mod SubclassesHold
 pub mod Related
 pub mod Orphans
 pub mod OwnCalls
+pub mod Letters

@@ -10,7 +10,7 @@ use Rattle.clap.proofs.OnLiterals.{clap_on_literals}
 use Rattle.jpa_value.specs.declared.refusal.Cause.{Cause}
 use Rattle.jpa_value.specs.declared.refusal.Refusal.{Refusal}
 use Rattle.jpa_settings.specs.declared.stop.Stop.{Stop}
-use Rattle.jpa_settings.specs.Words.{Asks, SaysWords, Tells, TellsOf, command, is_set, lack_of, lacking, value_of, values_of}
+use Rattle.jpa_settings.specs.Words.{Asks, SaysWords, Tells, TellsOf, command, has_flag, is_set, lack_of, lacking, value_of, values_of}
 use Rattle.jpa_settings.specs.declared.settings.Settings.{Settings}
 use Rattle.jpa_settings.proofs.OneFault.{one_fault}
 
@@ -50,21 +50,23 @@ told_words c words error stop is kinds memory tells =
 
 module _ (c : App) (words : List Text) (m : ArgMatches) (s : Settings) (is : c ≡ command) (h : HasMatchesOf c words m)
     (query : s.query ≡ first_value (found_of m) (codes "query")) (params : s.params ≡ unwrap_or (option_map raw_values (matched_of (found_of m) (codes "param"))) [])
-    (explain : s.explain ≡ is_set (first_value (found_of m) (codes "explain"))) where
+    (explain : s.explain ≡ is_set (first_value (found_of m) (codes "explain"))) (language : s.language ≡ first_value (found_of m) (codes "language")) where
   pub asked : Asks words s
   asked = record {
     query = query ∙ value_read c words m (codes "query") is h;
     params = params ∙ values_read c words m (codes "param") is h;
     explain = explain ∙ ap is_set (value_read c words m (codes "explain") is h);
+    language = language ∙ value_read c words m (codes "language") is h;
   }
 
   -- what the settings lack is what the words lack
-  pub lack_read : (db : Option Text) → db ≡ first_value (found_of m) (codes "db") → lacking s.query db s.params s.explain ≡ lack_of words
+  pub lack_read : (db : Option Text) → db ≡ first_value (found_of m) (codes "db") → lacking s.query db s.params s.explain s.language ≡ lack_of words
   lack_read db of_db =
-      ap (λ q. lacking q db s.params s.explain) asked.query
-      ∙ ap (λ d. lacking (value_of (codes "query") words) d s.params s.explain) (of_db ∙ value_read c words m (codes "db") is h)
-      ∙ ap (λ ps. lacking (value_of (codes "query") words) (value_of (codes "db") words) ps s.explain) asked.params
-      ∙ ap (λ e. lacking (value_of (codes "query") words) (value_of (codes "db") words) (values_of (codes "param") words) e) asked.explain
+      ap (λ q. lacking q db s.params s.explain s.language) asked.query
+      ∙ ap (λ d. lacking (value_of (codes "query") words) d s.params s.explain s.language) (of_db ∙ value_read c words m (codes "db") is h)
+      ∙ ap (λ ps. lacking (value_of (codes "query") words) (value_of (codes "db") words) ps s.explain s.language) asked.params
+      ∙ ap (λ e. lacking (value_of (codes "query") words) (value_of (codes "db") words) (values_of (codes "param") words) e s.language) asked.explain
+      ∙ ap (lacking (value_of (codes "query") words) (value_of (codes "db") words) (values_of (codes "param") words) (has_flag (codes "explain") words)) asked.language
 
 -- words that lack an option are refused in these words, or for want of memory
 pub told_lack : (words : List Text) (said : Text) (stop : Stop) → fault_of command words ≡ [] → lack_of words ≡ Some said

@@ -1,6 +1,6 @@
 -- The command line: options with values, and a flag. How words are read is clap's, and so are the
 -- faults of words.
-use Rattle.std.specs.Prelude.{◌≡◌, ◌⊎◌, Bool, List, [], ◌∷◌, ◌++◌, Option, Some, None, true, false, codes}
+use Rattle.std.specs.Prelude.{◌≡◌, ◌⊎◌, ◌||◌, Bool, List, [], ◌∷◌, ◌++◌, Option, Some, None, true, false, codes}
 use Rattle.std.specs.Prelude.{if◌then◌else◌, is_some, unwrap_or}
 use Rattle.std.specs.Str.{bytes_eq}
 use Rattle.std.specs.String.{string_bytes}
@@ -34,11 +34,11 @@ plain = let bare = new_app (codes "jpa") in record bare { top = record bare.top 
 abbrev pub with_files : App
 with_files = with_rule (with_rule plain (option_rule (codes "mapping"))) (option_rule (codes "db"))
 
--- the program with its files, and with a question: --query, --param and --explain
+-- the program with its files, and with a question: --query, --param, --explain and --language
 abbrev pub command : App
 command =
-    with_rule (with_rule (with_rule with_files (option_rule (codes "query"))) (repeated_rule (codes "param")))
-    (flag_rule (codes "explain"))
+    let asked = with_rule (with_rule with_files (option_rule (codes "query"))) (repeated_rule (codes "param")) in
+    with_rule (with_rule asked (flag_rule (codes "explain"))) (option_rule (codes "language"))
 
 -- the value that the words give an option, if they give one; the first word is the program's own
 -- name
@@ -94,27 +94,48 @@ param_needs_query = codes "error: '--param <NAME=VALUE>' needs '--query <TEXT>'"
 abbrev pub explain_needs_query : Text
 explain_needs_query = codes "error: '--explain' needs '--query <TEXT>'" ++ hint
 
--- what is said of parameters, or of a plan, without a query
-abbrev pub stray : List Text → Bool → Option Text
-stray (param ∷ params) explain = Some param_needs_query
-stray [] explain = if explain then Some explain_needs_query else None
+-- what is said of a language without a query
+abbrev pub language_needs_query : Text
+language_needs_query = codes "error: '--language <NAME>' needs '--query <TEXT>'" ++ hint
 
--- a query asks a store's file, and parameters and a plan are those of a query; what is said else
-abbrev pub lacking : Option Text → Option Text → List Text → Bool → Option Text
-lacking (Some query) db params explain = if is_some db then None else Some query_needs_db
-lacking None db params explain = stray params explain
+-- what is said of a language that there isn't
+abbrev pub language_is_unknown : Text
+language_is_unknown = codes "error: '--language <NAME>' is 'profile' or 'wide'" ++ hint
+
+-- whether this names a language of queries
+abbrev pub is_language : Text → Bool
+is_language name = bytes_eq name (codes "profile") || bytes_eq name (codes "wide")
+
+-- what is said of the language of a query
+abbrev pub unknown : Option Text → Option Text
+unknown None = None
+unknown (Some name) = if is_language name then None else Some language_is_unknown
+
+-- what is said of parameters, of a plan, or of a language, without a query
+abbrev pub stray : List Text → Bool → Option Text → Option Text
+stray (param ∷ params) explain language = Some param_needs_query
+stray [] explain None = if explain then Some explain_needs_query else None
+stray [] explain (Some name) = if explain then Some explain_needs_query else Some language_needs_query
+
+-- a query asks a store's file, and its language is one; parameters, a plan and a language are those of
+-- a query; what is said else
+abbrev pub lacking : Option Text → Option Text → List Text → Bool → Option Text → Option Text
+lacking (Some query) db params explain language = if is_some db then unknown language else Some query_needs_db
+lacking None db params explain language = stray params explain language
 
 -- what the words lack
 abbrev pub lack_of : List Text → Option Text
 lack_of words =
     lacking (value_of (codes "query") words) (value_of (codes "db") words) (values_of (codes "param") words)
-    (has_flag (codes "explain") words)
+    (has_flag (codes "explain") words) (value_of (codes "language") words)
 
--- the settings ask what the words say: the query, its parameters and whether its plan is asked
+-- the settings ask what the words say: the query, its parameters, whether its plan is asked, and its
+-- language
 pub record Asks (words : List Text) (settings : Settings) : Type 0 where
   pub query : settings.query ≡ value_of (codes "query") words
   pub params : settings.params ≡ values_of (codes "param") words
   pub explain : settings.explain ≡ has_flag (codes "explain") words
+  pub language : settings.language ≡ value_of (codes "language") words
 
 -- clap finds no fault in the words, and they lack no option
 pub record AreTaken (words : List Text) : Type 0 where

@@ -28,6 +28,8 @@ pub struct Settings {
     pub params: Seq<Text>,
     /// Whether its plan is asked, in place of its rows.
     pub explain: bool,
+    /// The language of its text, where it is said: `profile` or `wide`.
+    pub language: Option<Text>,
 }
 
 /// The program with its files, as clap reads it.
@@ -82,6 +84,17 @@ fn explain_flag<'a>(alloc: Global) -> Arg<'a>
         .help("Tells how the query is answered, in place of its rows")
 }
 
+/// The option of the SELECT's language.
+fn language_option<'a>(alloc: Global) -> Arg<'a>
+    ensures rule { rule_of result ≡ words.option_rule (codes "language") }
+    ensures local { result.global ≡ false }
+{
+    Arg::new(alloc, "language")
+        .long("language")
+        .value_name("NAME")
+        .help("The language of the query: profile, or wide with UPPER, LOWER and TRIM")
+}
+
 /// The command as clap reads it.
 fn jpa<'a>(alloc: Global) -> Result<Command<'a>, AllocError>
     ensures { IfOk result (λ c. app_of c ≡ command) }
@@ -89,9 +102,11 @@ fn jpa<'a>(alloc: Global) -> Result<Command<'a>, AllocError>
     let query = query_option(alloc);
     let param = param_option(alloc);
     let explain = explain_flag(alloc);
+    let language = language_option(alloc);
     let with_query = with_files(alloc)?.arg(query)?;
     let with_param = with_query.arg(param)?;
-    Ok(with_param.arg(explain)?)
+    let with_explain = with_param.arg(explain)?;
+    Ok(with_explain.arg(language)?)
 }
 
 /// What clap answers in place of values: a request's text, or what it says of a fault.
@@ -170,6 +185,8 @@ fn settings_in(alloc: Global, matches: &ArgMatches<'_>) -> Result<Settings, Stop
         ≡ unwrap_or (option_map raw_values (matched_of (found_of matches.now) (codes "param"))) []) }
     ensures explain { IfOk result (λ s. s.explain
         ≡ words.is_set (first_value (found_of matches.now) (codes "explain"))) }
+    ensures language { IfOk result (λ s. s.language
+        ≡ first_value (found_of matches.now) (codes "language")) }
     ensures err { IfErr result (λ stop. stop ≡ Stop.Refused
         (Refusal.Because Cause.OutOfMemory)) }
 {
@@ -179,6 +196,7 @@ fn settings_in(alloc: Global, matches: &ArgMatches<'_>) -> Result<Settings, Stop
         query: copied(alloc, matches.get_str("query"))?,
         params: copies(alloc, matches.get_strs("param"))?,
         explain: is_set(matches.get_str("explain")),
+        language: copied(alloc, matches.get_str("language"))?,
     })
 }
 
@@ -191,21 +209,55 @@ const PARAM_NEEDS_QUERY: &str =
 const EXPLAIN_NEEDS_QUERY: &str =
     "error: '--explain' needs '--query <TEXT>'\n\nFor more information, try '--help'.\n";
 
-/// What is said of an option that stands without the one that it needs.
+const LANGUAGE_NEEDS_QUERY: &str =
+    "error: '--language <NAME>' needs '--query <TEXT>'\n\nFor more information, try '--help'.\n";
+
+const LANGUAGE_IS_UNKNOWN: &str =
+    "error: '--language <NAME>' is 'profile' or 'wide'\n\nFor more information, try '--help'.\n";
+
+/// Whether this names a language of queries.
+fn is_language(name: &str) -> bool
+    ensures { result ≡ words.is_language name.now }
+{
+    name == "profile" || name == "wide"
+}
+
+/// What is said of the language of a query.
+fn unknown(language: &Option<Text>) -> Option<&'static str>
+    ensures { option_map (λ v. v.now) result ≡ words.unknown language.now }
+{
+    match language {
+        Some(name) if !is_language(name.as_str()) => Some(LANGUAGE_IS_UNKNOWN),
+        _ => None,
+    }
+}
+
+/// What is said of parameters, of a plan, or of a language, without a query.
+fn stray(settings: &Settings) -> Option<&'static str>
+    ensures { option_map (λ v. v.now) result
+        ≡ words.stray settings.now.params settings.now.explain settings.now.language }
+{
+    match (settings.params.as_slice(), &settings.language) {
+        ([_, ..], _) => Some(PARAM_NEEDS_QUERY),
+        ([], _) if settings.explain => Some(EXPLAIN_NEEDS_QUERY),
+        ([], Some(_)) => Some(LANGUAGE_NEEDS_QUERY),
+        ([], None) => None,
+    }
+}
+
+/// What is said of an option that stands without the one that it needs, or of a language that there
+/// isn't.
 fn lacking(settings: &Settings) -> Option<&'static str>
     ensures { option_map (λ v. v.now) result
-        ≡ words.lacking settings.now.query settings.now.db settings.now.params settings.now.explain }
+        ≡ words.lacking settings.now.query settings.now.db settings.now.params
+        settings.now.explain settings.now.language }
 {
-    if settings.query.is_some() {
-        return match &settings.db {
-            Some(_) => None,
-            None => Some(QUERY_NEEDS_DB),
-        };
+    if settings.query.is_none() {
+        return stray(settings);
     }
-    match settings.params.as_slice() {
-        [_, ..] => Some(PARAM_NEEDS_QUERY),
-        [] if settings.explain => Some(EXPLAIN_NEEDS_QUERY),
-        [] => None,
+    match &settings.db {
+        Some(_) => unknown(&settings.language),
+        None => Some(QUERY_NEEDS_DB),
     }
 }
 
@@ -221,14 +273,14 @@ fn refused(alloc: Global, said: &str) -> Stop
 }
 
 /// What the words of a command line say, of which the first is the program's own name: `--mapping
-/// FILE`, `--db FILE`, `--query TEXT` and `--explain`, each at most once, and `--param NAME=VALUE`
-/// as often as it stands there, in any order, as clap reads them.
+/// FILE`, `--db FILE`, `--query TEXT`, `--explain` and `--language NAME`, each at most once, and
+/// `--param NAME=VALUE` as often as it stands there, in any order, as clap reads them.
 ///
 /// `Ok` only where clap finds no fault in the words, and they lack no option: a query needs a
-/// store's file, and parameters and a plan need a query. Where clap finds a fault, that is the only
+/// store's file, parameters, a plan and a language need a query, and the language is one. Where clap finds a fault, that is the only
 /// one: `Shown` with the text that was asked for, where the fault is a request for the help or the
 /// version, and `Words` with what clap says of any other. `Words` also where an option lacks the
-/// one that it needs. For want of memory it is `Refused` with `OutOfMemory`, and so is each `Err`
+/// one that it needs, and for a language that there isn't. For want of memory it is `Refused` with `OutOfMemory`, and so is each `Err`
 /// of words that clap takes and that lack no option.
 #[tactic(auto, using(crate::proofs::Found::value_read, crate::proofs::Found::values_read))]
 pub fn read_settings(alloc: Global, words: &[String]) -> Result<Settings, Stop>

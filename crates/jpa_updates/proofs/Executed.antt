@@ -8,6 +8,7 @@ use Rattle.jpa_model.specs.declared.unit.PersistenceUnit.{PersistenceUnit}
 use Rattle.jpa_behaviour.specs.Behaviour.{World, AnswersConvertible}
 use Rattle.jpa_context.specs.Work.{Work}
 use Rattle.jpa_context.specs.Steps.{Outcome, Done, Refused, Op, after, give, require}
+use Rattle.jpql_tree.specs.declared.Language.{Language}
 use Rattle.jpql_tree.specs.declared.Query.{Query}
 use Rattle.jpql_tree.specs.Grammar.{Text}
 use Rattle.jpql_types.specs.Statements.{checked}
@@ -79,28 +80,28 @@ module _ (m : PersistenceUnit) (bindings : List Binding) where
         typed.1 ∙ found.1 ∙ last.1,
       )
 
-  read_only : (text : Text) (tree : Option Query) (w v : Work) → read_of text w ≡ Done tree v → w ≡ v
-  read_only text tree w v h = by_limits (is_within text) (declares_few (query_of text)) (query_of text) tree w v h
+  read_only : (l : Language) (text : Text) (tree : Option Query) (w v : Work) → read_of l text w ≡ Done tree v → w ≡ v
+  read_only l text tree w v h = by_limits (is_within text) (declares_few (query_of l text)) (query_of l text) tree w v h
 
-  judged : (is_active : Bool) (text : Text) (q : Statement) (w v : Work) → judged_bulk m is_active text bindings w ≡ Done q v → IsStatement m bindings w q × (w ≡ v)
-  judged is_active text q w v h =
-      let a = steps_of (read_of text w) _ q v h in
+  judged : (is_active : Bool) (l : Language) (text : Text) (q : Statement) (w v : Work) → judged_bulk m is_active l text bindings w ≡ Done q v → IsStatement m bindings w q × (w ≡ v)
+  judged is_active l text q w v h =
+      let a = steps_of (read_of l text w) _ q v h in
       let b = steps_of (require is_active Cause.TransactionRequired a.between) _ q v a.second in
       let c = steps_of (statement_of m a.answer bindings b.between) _ q v b.second in
       let d = steps_of (require (is_bulk c.answer.typed) (Cause.IllegalState State.Statement) c.between) _ q v c.second in
-      let so_far = read_only text a.answer w a.between a.first ∙ required is_active Cause.TransactionRequired a.between b.between b.first in
+      let so_far = read_only l text a.answer w a.between a.first ∙ required is_active Cause.TransactionRequired a.between b.between b.first in
       let s = stated a.answer c.answer b.between c.between c.first in
       let last = same_done c.answer q d.between v d.second in (
         subst (λ (u : Work). IsStatement m bindings u q) (sym so_far) (subst (IsStatement m bindings b.between) last.0 s.0),
         so_far ∙ s.1 ∙ required (is_bulk c.answer.typed) (Cause.IllegalState State.Statement) c.between d.between d.first ∙ last.1,
       )
 
-pub executed : (world : World) (is_active flushes : Bool) (text : Text) (bindings : List Binding) (w v : Work) (k : ℕ) → AnswersConvertible world → AreInherited world.model
-    → HaveKeys world.model w → AreInHeap w.objects bindings → execute_update world is_active flushes text bindings w ≡ Done k v → IsExecuted world flushes w v
-executed world is_active flushes text bindings w v k convertible inherited keys bound h =
+pub executed : (world : World) (is_active flushes : Bool) (language : Language) (text : Text) (bindings : List Binding) (w v : Work) (k : ℕ) → AnswersConvertible world → AreInherited world.model
+    → HaveKeys world.model w → AreInHeap w.objects bindings → execute_update world is_active flushes language text bindings w ≡ Done k v → IsExecuted world flushes w v
+executed world is_active flushes language text bindings w v k convertible inherited keys bound h =
     let m = world.model in
-    let a = steps_of (judged_bulk m is_active text bindings w) _ k v h in
-    let s = judged m bindings is_active text a.answer w a.between a.first in
+    let a = steps_of (judged_bulk m is_active language text bindings w) _ k v h in
+    let s = judged m bindings is_active language text a.answer w a.between a.first in
     let b = steps_of (flush_if flushes world a.between) _ k v a.second in
     let statement = s.0 in
     record {

@@ -21,6 +21,7 @@ use jpa_flush::flush_if;
 use jpa_model::Metamodel;
 use jpa_value::{Boxed, Cause, State};
 use jpql_eval::Datum;
+use jpql_tree::Language;
 use jpql_types::{Typed, TypedAssignment, TypedCondition};
 use std::alloc::Global;
 
@@ -43,15 +44,17 @@ fn judged(
     metamodel: &Metamodel,
     work: &UnitOfWork,
     is_active: bool,
+    language: Language,
     text: &str,
     bindings: &[Binding],
 ) -> Result<Statement, Cause>
     requires ready { IsReady metamodel.now (now work.now) }
     requires bound { AreInHeap work.now.objects.now bindings.now }
     ensures meets { Meets result (now work.now)
-        (updates.judged_bulk metamodel.now is_active text.now bindings.now (now work.now)) }
+        (updates.judged_bulk metamodel.now is_active language text.now bindings.now
+        (now work.now)) }
 {
-    let tree = read_of(alloc, text)?;
+    let tree = read_of(alloc, language, text)?;
     if !is_active {
         return Err(Cause::TransactionRequired);
     }
@@ -183,6 +186,7 @@ pub fn execute_update<B: Behaviour>(
     work: &mut UnitOfWork,
     is_active: bool,
     flushes: bool,
+    language: Language,
     text: &str,
     bindings: &[Binding],
 ) -> Result<usize, Cause>
@@ -192,14 +196,22 @@ pub fn execute_update<B: Behaviour>(
         (world_of_unit B.meaning unit.now) (now work.old) }
     requires bound { AreInHeap work.old.objects.now bindings.now }
     ensures executes { let world = world_of_unit B.meaning unit.now in
-        Performs (updates.execute_update world is_active flushes text.now bindings.now)
+        Performs (updates.execute_update world is_active flushes language text.now bindings.now)
         result work.old work.new }
     ensures representable { OnOk result ((v : Work)
         → flush_if flushes (world_of_unit B.meaning unit.now) (now work.old)
         ≡ Done tt v → all_representable v.view ≡ true
         → all_representable (now work.new).view ≡ true) }
 {
-    let statement = judged(alloc, &unit.metamodel, work, is_active, text, bindings)?;
+    let statement = judged(
+        alloc,
+        &unit.metamodel,
+        work,
+        is_active,
+        language,
+        text,
+        bindings,
+    )?;
     flush_if(alloc, unit, work, flushes)?;
     run(alloc, unit, work, &statement)
 }

@@ -1,4 +1,4 @@
--- A statement that asks one object by its key gives over a set what it gives over that object alone, or over none.
+-- A statement that asks one object by its key gives over a set what it gives over that object's row alone, or over none.
 use Rattle.std.proofs.Common.{rules, ◌≡◌, ◌∙◌, refl, ap, sym, subst, Bool, true, false, cond, List, [], ◌∷◌, map, Option, Some, None, option_map, inl, inr}
 use Rattle.std.specs.Prelude.{◌&&◌, ◌⊎◌, T, is_some, not}
 use Rattle.std.specs.Cmp.{tied_itself}
@@ -38,10 +38,11 @@ use Rattle.jpql_run.proofs.Found.{found_of_kind, same_is, with_it}
 use Rattle.jpql_run.proofs.Lookups.{by_key}
 use Rattle.jpql_run.proofs.Refused.{leaving_out}
 use Rattle.jpql_run.proofs.Told.{told_compare}
-use Rattle.jpql_by_key.specs.ByKey.{identity_with, only}
+use Rattle.jpql_by_key.specs.ByKey.{identity_with, only, pairless}
 use Rattle.jpql_by_key.specs.Laws.{LawsOfKeys}
-use Rattle.jpql_by_key.proofs.Asked.{Asks, AsksKey, asks_key, keyed_as, part_of, unpaired}
-use Rattle.jpql_by_key.proofs.Conditions.{same_if_any}
+use Rattle.jpql_by_key.proofs.Asked.{Asks, AsksKey, asks_key, keyed_as, part_of}
+use Rattle.jpql_by_key.proofs.Conditions.{truth_if_any}
+use Rattle.jpql_by_key.proofs.Pairless.{each_pairless, filter_made, kept_made, pairless_entry, pairless_shaped, pairless_tuple, under_then}
 use Rattle.jpql_by_key.proofs.Selected.{drops_same, made_same, own_parts}
 
 -- ---- the set of what stands under an identity
@@ -70,7 +71,16 @@ only_there : (id : Identity) (o : Option Stored) → stored_at (only id o) id �
 only_there id None = refl
 only_there id (Some x) = ap (λ b. cond b (Some x) None) (ap is_eq (tied_itself identity_total id))
 
+left_shaped : (m : PersistenceUnit) (id : Identity) (o : Option Stored) → ((x : Stored) → o ≡ Some x → is_shaped m id x ≡ true) → (y : Stored) → option_map (pairless m) o ≡ Some y → is_shaped m id y ≡ true
+left_shaped m id None k y e = absurd (false≢true (ap is_some e))
+left_shaped m id (Some x) k y e = subst (λ z. is_shaped m id z ≡ true) (ap (λ o. unwrap_or o y) e) (pairless_shaped m id x (k x refl))
+
 -- ---- tuples
+
+-- without anything that goes on, they stay
+stay : (ts : List Tuple) → each (in_turn []) ts ≡ gives ts
+stay [] = refl
+stay (t ∷ ts) = ap (under (λ all. t ∷ all)) (stay ts)
 
 never_path : (p : TypedPath) → NeverOverflows (v.Path p)
 never_path p m s ps at = ap is_given by
@@ -131,7 +141,7 @@ module _ (m : PersistenceUnit) (ps : List Datum) (q : TypedSelect) (id : Identit
     test t = truth_of_any (option_map (condition m s ps) q.filter) (alone t)
 
     -- WHERE is asked of the tuple of the one object
-    pub tuples_there : selected_tuples m s ps q ≡ (each (in_turn []) (with_each [] (those s)) >>= λ ts. each (in_turn []) ts >>= λ all. kept test (filter (λ t. not (select_drops m s ps q t)) all))
+    tuples_there : selected_tuples m s ps q ≡ (each (in_turn []) (with_each [] (those s)) >>= λ ts. each (in_turn []) ts >>= λ all. kept test (filter (λ t. not (select_drops m s ps q t)) all))
     tuples_there =
         ap (λ xs. left_from m s ps [] xs q.filter (select_drops m s ps q)) (h.range).only
         ∙ ap (λ c. left_from m s ps [] (x ∷ []) c (select_drops m s ps q)) h.filter
@@ -139,32 +149,66 @@ module _ (m : PersistenceUnit) (ps : List Datum) (q : TypedSelect) (id : Identit
         ∙ ap (λ c. left_behind m s ps [] c (select_drops m s ps q) (joined_from m s ps x [] (those s))) (sym h.filter)
         ∙ ap (λ js. left_behind m s ps [] q.filter (select_drops m s ps q) (each (in_turn (map (join m s ps) js)) (with_each [] (those s)))) (h.range).joins
 
+    -- and of no other
+    pub tuples_are : selected_tuples m s ps q ≡ kept test (filter (λ t. not (select_drops m s ps q t)) (with_each [] (those s)))
+    tuples_are =
+        let left = λ (all : List Tuple). kept test (filter (λ t. not (select_drops m s ps q t)) all) in
+        tuples_there ∙ ap (λ begun. begun >>= λ ts. each (in_turn []) ts >>= left) (stay (with_each [] (those s))) ∙ ap (λ begun. begun >>= left) (stay (with_each [] (those s)))
+
   module _ (s : StoredSet) (there : CanBeLookedUp m s) where
+    abbrev found : Option Stored
+    found = stored_at s id
+
     abbrev one : StoredSet
-    one = only id (stored_at s id)
+    one = only id (option_map (pairless m) found)
 
     one_there : CanBeLookedUp m one
-    one_there = record { rising = only_rises id (stored_at s id); shaped = only_shaped m id (stored_at s id) (λ y e. shaped_there m s id y there.shaped e) }
+    one_there = record {
+      rising = only_rises id (option_map (pairless m) found);
+      shaped = only_shaped m id (option_map (pairless m) found) (left_shaped m id found (λ y e. shaped_there m s id y there.shaped e));
+    }
 
-    -- the object itself
-    same_those : those s ≡ those one
+    abbrev kind : Entry → Bool
+    kind e = is_kind_of m (e.1).class h.class
+
+    left_of : (o : Option Stored) → filter kind (option_to_list (option_map (with_it id) (option_map (pairless m) o))) ≡ map (pairless_entry m) (filter kind (option_to_list (option_map (with_it id) o)))
+    left_of None = refl
+    left_of (Some y) = by (is_kind_of m y.class h.class)
+      where
+        by : (b : Bool) → cond b ((id, pairless m y) ∷ []) [] ≡ map (pairless_entry m) (cond b ((id, y) ∷ []) [])
+        by true = refl
+        by false = refl
+
+    -- the object itself, without its pairs
+    same_those : those one ≡ map (pairless_entry m) (those s)
     same_those =
-        let kind = λ (e : Entry). is_kind_of m (e.1).class h.class in
-        found_of_kind id kind s there.rising
-        ∙ ap (λ o. filter kind (option_to_list (option_map (with_it id) o))) (sym (only_there id (stored_at s id)))
-        ∙ sym (found_of_kind id kind one one_there.rising)
+        found_of_kind id kind one one_there.rising
+        ∙ ap (λ o. filter kind (option_to_list (option_map (with_it id) o))) (only_there id (option_map (pairless m) found))
+        ∙ left_of found
+        ∙ ap (map (pairless_entry m)) (sym (found_of_kind id kind s there.rising))
 
-    same_tuples : selected_tuples m s ps q ≡ selected_tuples m one ps q
+    same_tuples : selected_tuples m one ps q ≡ under (map (pairless_tuple m)) (selected_tuples m s ps q)
     same_tuples =
         let own = own_parts m q h.own in
-        tuples_there s there
-        ∙ (λ i. each (in_turn []) (with_each [] (same_those i)) >>= λ ts. each (in_turn []) ts >>= λ all. kept (λ t. truth_of_any (same_if_any m s one ps q.filter own.filter i) (alone t)) (filter (λ t. not (drops_same m s one ps q own t i)) all))
-        ∙ sym (tuples_there one one_there)
+        let ts = with_each [] (those s) in
+        let g = pairless_tuple m in
+        let tested = test one one_there in
+        let dropped = select_drops m one ps q in
+        tuples_are one one_there
+        ∙ ap (λ es. kept tested (filter (λ t. not (dropped t)) (with_each [] es))) same_those
+        ∙ ap (λ all. kept tested (filter (λ t. not (dropped t)) all)) (each_pairless m (those s))
+        ∙ ap (kept tested) (filter_made g (λ t. not (dropped t)) ts)
+        ∙ kept_made g tested (filter (λ t. not (dropped (g t))) ts)
+        ∙ (λ i. under (map g) (kept (λ t. sym (truth_if_any m s one ps q.filter own.filter (alone t)) i) (filter (λ t. not (sym (drops_same m s one ps q own t) i)) ts)))
+        ∙ ap (under (map g)) (sym (tuples_are s there))
 
     pub alone_gives : selected m s ps q ≡ selected m one ps q
     alone_gives =
-        ap (λ ts. ts >>= λ all. under (λ rows. map (λ (r : Row). r.items) (in_order q.order (distinct m s ps q.is_distinct rows))) (rows_of m s ps q (cases_of m s ps q all))) same_tuples
-        ∙ (λ i. selected_tuples m one ps q >>= λ all. made_same m s one ps q (own_parts m q h.own) all i)
+        let own = own_parts m q h.own in
+        let made = λ (all : List Tuple). under (λ rows. map (λ (r : Row). r.items) (in_order q.order (distinct m one ps q.is_distinct rows))) (rows_of m one ps q (cases_of m one ps q all)) in
+        (λ i. selected_tuples m s ps q >>= λ all. made_same m s one ps q own all i)
+        ∙ sym (under_then (map (pairless_tuple m)) made (selected_tuples m s ps q))
+        ∙ ap (λ ts. ts >>= made) (sym same_tuples)
 
 pub laws_of_keys : LawsOfKeys
 laws_of_keys m ps q id e =
@@ -172,5 +216,4 @@ laws_of_keys m ps q id e =
     record {
       alone = λ s there. alone_gives m ps q id h s there;
       rooted = (h.class, h.within, h.of_root ∙ ap (λ i. i.table) (sym h.identity));
-      unpaired = λ x shaped. unpaired m h.class h.table h.keyed h.part x (subst (λ i. is_shaped m i x ≡ true) h.identity shaped);
     }

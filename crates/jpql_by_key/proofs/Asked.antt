@@ -1,6 +1,6 @@
 -- What a statement is that asks one object by its key.
-use Rattle.std.proofs.Common.{rules, ◌≡◌, ◌∙◌, refl, ap, sym, subst, ℕ, ◌<◌, Bool, true, false, cond, slice_index_or, List, [], ◌∷◌, length, map, Option, Some, None, inl, inr}
-use Rattle.std.specs.Prelude.{◌==◌, ◌&&◌, ◌||◌, ◌⊎◌, not, nat_lt, is_some, option_and_then}
+use Rattle.std.proofs.Common.{◌≡◌, ◌∙◌, refl, ap, sym, subst, ℕ, ◌<◌, Bool, true, false, cond, slice_index_or, List, [], ◌∷◌, length, map, Option, Some, None, inl, inr}
+use Rattle.std.specs.Prelude.{◌==◌, ◌&&◌, ◌⊎◌, nat_lt, is_some, option_and_then}
 use Rattle.std.specs.Option.{unwrap_or}
 use Rattle.std.proofs.lemmas.Bool.{and_parts, eqb-true, false≢true, ltb-true}
 use Rattle.jpa_value.specs.declared.value.Identity.{Identity}
@@ -8,8 +8,7 @@ use Rattle.jpa_value.specs.declared.value.Value.{Value}
 use Rattle.jpa_model.specs.declared.unit.Member.{Member}
 use Rattle.jpa_model.specs.declared.unit.PersistenceUnit.{PersistenceUnit}
 use Rattle.jpa_model.specs.Chains.{is_kind_of, root_of}
-use Rattle.jpa_stored.specs.declared.stored.Stored.{Stored}
-use Rattle.jpa_stored.specs.Sets.{StoredSet, is_identity_of, is_key_of, is_shaped}
+use Rattle.jpa_stored.specs.Sets.{StoredSet}
 use Rattle.jpql_tree.specs.declared.Comparison.{Comparison}
 use Rattle.jpql_types.specs.declared.scope.Step.{Step}
 use Rattle.jpql_types.specs.declared.scope.TypedPath.{TypedPath}
@@ -39,7 +38,7 @@ use Rattle.jpql_run.proofs.CalmValues.{layer_of}
 use Rattle.jpql_run.proofs.Equations.{turned}
 use Rattle.jpql_by_key.specs.Own.{all_below, is_own_select}
 use Rattle.jpql_by_key.specs.ByKey as by_key
-use Rattle.jpql_by_key.specs.ByKey.{asked, asked_if_any, equated, given, identity_in, identity_with, is_first_part, is_key, is_key_path, is_keyed, key_of, keyed_table, named_step, names_key, owns_no_pairs, plain, range_of, ranged}
+use Rattle.jpql_by_key.specs.ByKey.{asked, asked_if_any, equated, given, identity_in, identity_with, is_first_part, is_key, is_key_path, is_keyed, key_of, keyed_table, named_step, names_key, plain, range_of, ranged}
 use Rattle.jpql_by_key.proofs.Below.{below_at}
 use Rattle.jpql_by_key.proofs.Members.{implied}
 use Rattle.jpql_by_key.proofs.Same.{value_layer}
@@ -272,32 +271,12 @@ keyed_some m class table e =
     }
 
 module _ (m : PersistenceUnit) (class table : ℕ) (h : all_below (is_keyed m class table) (length m.entities) ≡ true) where
-  keyed_parts : (kind : ℕ) → kind < length m.entities
-      → ((not (is_kind_of m kind class) || ((root_of m kind).table == table)) ≡ true) × ((not ((root_of m kind).table == table) || ((length (root_of m kind).key == 1) && owns_no_pairs m kind)) ≡ true)
-  keyed_parts kind l =
-      let parts = and_parts (not (is_kind_of m kind class) || ((root_of m kind).table == table)) (not ((root_of m kind).table == table) || ((length (root_of m kind).key == 1) && owns_no_pairs m kind)) (below_at (is_keyed m class table) (length m.entities) kind l h) in
-      (parts.0, parts.1)
-
   pub keyed_as : (x : Value) → AreKeyedAs m class (identity_with table x)
   keyed_as x kind l k =
-      let parts = keyed_parts kind l in
-      let same = implied (is_kind_of m kind class) ((root_of m kind).table == table) k parts.0 in
-      let rest = implied ((root_of m kind).table == table) ((length (root_of m kind).key == 1) && owns_no_pairs m kind) same parts.1 in
-      (eqb-true (root_of m kind).table table same, eqb-true (length (root_of m kind).key) 1 (and_parts (length (root_of m kind).key == 1) (owns_no_pairs m kind) rest).0)
-
-  pub unpaired : (x : Value) (y : Stored) → is_shaped m (identity_with table x) y ≡ true → owns_no_pairs m y.class ≡ true
-  unpaired x y shaped =
-      let id = identity_with table x in
-      let root = root_of m y.class in
-      let outer = and_parts (nat_lt y.class (length m.entities)) _ shaped in
-      let inner = and_parts (is_identity_of root id) _ outer.1 in
-      let named = and_parts (id.table == root.table) (is_key_of root id.key) inner.0 in
-      let same : (root.table == table) ≡ true = ap (λ n. n == table) (sym (eqb-true table root.table named.0)) ∙ itself table in
-      let parts = keyed_parts y.class (ltb-true y.class (length m.entities) outer.0) in
-      (and_parts (length root.key == 1) (owns_no_pairs m y.class) (implied (root.table == table) ((length root.key == 1) && owns_no_pairs m y.class) same parts.1)).1
-    where
-      itself : (n : ℕ) → (n == n) ≡ true
-      itself n = search rules
+      let same = (root_of m kind).table == table in
+      let single = length (root_of m kind).key == 1 in
+      let parts = and_parts same single (implied (is_kind_of m kind class) (same && single) k (below_at (is_keyed m class table) (length m.entities) kind l h)) in
+      (eqb-true (root_of m kind).table table parts.0, eqb-true (length (root_of m kind).key) 1 parts.1)
 
 -- ---- a statement that asks a key
 

@@ -1,5 +1,6 @@
--- What a condition means that one object tells by itself is the same over every set: by induction over the typed tree.
-use Rattle.std.proofs.Common.{◌≡◌, ◌∙◌, refl, ap, sym, subst, Bool, true, List, [], ◌∷◌, map, Option, Some, None, option_map}
+-- What a condition means that one object tells by its row is the same over every set, and without its pairs: by induction
+-- over the typed tree.
+use Rattle.std.proofs.Common.{◌≡◌, ◌∙◌, refl, ap, sym, subst, Bool, true, false, List, [], ◌∷◌, map, Option, Some, None, option_map}
 use Rattle.std.specs.Prelude.{◌&&◌, ◌||◌}
 use Rattle.std.specs.List.{AllByRecursion, list_all, list_any}
 use Rattle.std.proofs.lemmas.Bool.{and_parts, false≢true}
@@ -14,16 +15,17 @@ use Rattle.jpql_types.specs.declared.typed.TypedBlock.{TypedBlock, fold-TypedBlo
 use Rattle.jpql_types.specs.declared.typed.TypedJoin.{TypedJoin, fold-TypedJoin}
 use Rattle.jpql_types.specs.declared.typed.TypedSource.{TypedSource, fold-TypedSource}
 use Rattle.jpql_eval.specs.declared.datum.Datum.{Datum}
-use Rattle.jpql_eval.specs.Answers.{Answer, ◌>>=◌, under, both}
+use Rattle.jpql_eval.specs.Answers.{Answer, gives, ◌>>=◌, under, both}
 use Rattle.jpql_eval.specs.Calls.{like}
 use Rattle.jpql_eval.specs.Data.{is_nothing, compared, between}
 use Rattle.jpql_eval.specs.Truths.{truth_of}
 use Rattle.jpql_plan.specs.Paths.{Tuple}
-use Rattle.jpql_plan.specs.Meaning.{Case, Extends, Meant, among_all, value, value_drops, condition, exists, join, source, test_step, block_step, join_step, source_step}
+use Rattle.jpql_plan.specs.Meaning.{Case, Extends, Meant, among_all, drops_any, truth_of_any, value, value_drops, condition, exists, join, source, test_step, block_step, join_step, source_step}
 use Rattle.jpql_run.proofs.CalmValues.{each_tested}
 use Rattle.jpql_run.proofs.Told.{all_weaker}
 use Rattle.jpql_by_key.specs.Own as own
 use Rattle.jpql_by_key.specs.Own.{is_any_own, is_own_condition, is_own_value}
+use Rattle.jpql_by_key.proofs.Pairless.{pairless_case, pairless_tuple, type_pairless}
 use Rattle.jpql_by_key.proofs.Same.{IsSame, map_same, same_value}
 
 pub any_same : {A : Type 0} (f g : A → Bool) (xs : List A) → AllByRecursion (λ x. f x ≡ g x) xs → list_any f xs ≡ list_any g xs
@@ -52,8 +54,12 @@ module _ (m : PersistenceUnit) (s : StoredSet) (ps : List Datum) where
   condition_at w = folds.fold-roll-TypedCondition Meant (Tuple → Answer Bool) Extends Extends (test_step m s ps) (block_step m s ps) (join_step m s ps) (source_step m s ps) w
 
 module _ (m : PersistenceUnit) (s s' : StoredSet) (ps : List Datum) where
+  -- what a condition means of tuples without pairs
+  abbrev of_pairless : Meant → Meant
+  of_pairless c = record { drops = λ t. c.drops (pairless_tuple m t); truth = λ at. c.truth (pairless_case m at) }
+
   abbrev C : TypedCondition → Type 0
-  C c = is_own_condition m c ≡ true → condition m s ps c ≡ condition m s' ps c
+  C c = is_own_condition m c ≡ true → condition m s ps c ≡ of_pairless (condition m s' ps c)
 
   abbrev B : TypedBlock → Type 0
   B b = Unit {0}
@@ -64,19 +70,22 @@ module _ (m : PersistenceUnit) (s s' : StoredSet) (ps : List Datum) where
   abbrev S : TypedSource → Type 0
   S x = Unit {0}
 
-  by_layer : (w : TypedCondition-F TypedCondition TypedBlock TypedJoin TypedSource) → layer_of m s ps w ≡ layer_of m s' ps w → condition m s ps (roll-TypedCondition w) ≡ condition m s' ps (roll-TypedCondition w)
-  by_layer w e = condition_at m s ps w ∙ e ∙ sym (condition_at m s' ps w)
+  by_layer : (w : TypedCondition-F TypedCondition TypedBlock TypedJoin TypedSource) → layer_of m s ps w ≡ of_pairless (layer_of m s' ps w)
+      → condition m s ps (roll-TypedCondition w) ≡ of_pairless (condition m s' ps (roll-TypedCondition w))
+  by_layer w e = condition_at m s ps w ∙ e ∙ ap of_pairless (sym (condition_at m s' ps w))
 
   values_at : (all : List TypedValue) → list_all (is_own_value m) all ≡ true → AllByRecursion (IsSame m s s' ps) all
   values_at all h = each_tested (is_own_value m) (IsSame m s s' ps) (same_value m s s' ps) all h
 
-  among_same : (all : List TypedValue) → AllByRecursion (IsSame m s s' ps) all → (at : Case) → map (λ b. value m s ps b at) all ≡ map (λ b. value m s' ps b at) all
+  among_same : (all : List TypedValue) → AllByRecursion (IsSame m s s' ps) all → (at : Case) → map (λ b. value m s ps b at) all ≡ map (λ b. value m s' ps b (pairless_case m at)) all
   among_same all h at =
-      map_same (λ b. value m s ps b at) (λ b. value m s' ps b at) all (all_weaker (IsSame m s s' ps) (λ b. value m s ps b at ≡ value m s' ps b at) (λ b k i. k.0 i at) all h)
+      map_same (λ b. value m s ps b at) (λ b. value m s' ps b (pairless_case m at)) all
+      (all_weaker (IsSame m s s' ps) (λ b. value m s ps b at ≡ value m s' ps b (pairless_case m at)) (λ b k i. k.0 i at) all h)
 
-  pub dropped_same : (all : List TypedValue) → AllByRecursion (IsSame m s s' ps) all → (t : Tuple) → list_any (λ b. value_drops m s ps b t) all ≡ list_any (λ b. value_drops m s' ps b t) all
+  pub dropped_same : (all : List TypedValue) → AllByRecursion (IsSame m s s' ps) all → (t : Tuple) → list_any (λ b. value_drops m s ps b t) all ≡ list_any (λ b. value_drops m s' ps b (pairless_tuple m t)) all
   dropped_same all h t =
-      any_same (λ b. value_drops m s ps b t) (λ b. value_drops m s' ps b t) all (all_weaker (IsSame m s s' ps) (λ b. value_drops m s ps b t ≡ value_drops m s' ps b t) (λ b k i. k.1 i t) all h)
+      any_same (λ b. value_drops m s ps b t) (λ b. value_drops m s' ps b (pairless_tuple m t)) all
+      (all_weaker (IsSame m s s' ps) (λ b. value_drops m s ps b t ≡ value_drops m s' ps b (pairless_tuple m t)) (λ b k i. k.1 i t) all h)
 
   layer : (y : TypedCondition-F ((c : TypedCondition) × C c) ((b : TypedBlock) × B b) ((j : TypedJoin) × J j) ((x : TypedSource) × S x))
       → C (roll-TypedCondition (folds.map-TypedCondition ((c : TypedCondition) × C c) ((b : TypedBlock) × B b) ((j : TypedJoin) × J j) ((x : TypedSource) × S x) TypedCondition TypedBlock TypedJoin TypedSource (λ z. z.0) (λ z. z.0) (λ z. z.0) (λ z. z.0) y))
@@ -121,12 +130,17 @@ module _ (m : PersistenceUnit) (s s' : StoredSet) (ps : List Datum) where
   layer (test.IsEmpty p) h = absurd (false≢true (sym (own_at m (test.IsEmpty p)) ∙ h))
   layer (test.Member a p) h = absurd (false≢true (sym (own_at m (test.Member a p)) ∙ h))
   layer (test.Exists b) h = absurd (false≢true (sym (own_at m (test.Exists b.0)) ∙ h))
-  layer (test.«Type» place classes) h = by_layer (test.«Type» place classes) refl
+  layer (test.«Type» place classes) h = by_layer (test.«Type» place classes) (λ i. record { drops = λ t. false; truth = λ at. gives (type_pairless m classes at.tuple place i) })
 
-  pub same_condition : (c : TypedCondition) → is_own_condition m c ≡ true → condition m s ps c ≡ condition m s' ps c
+  same_condition : (c : TypedCondition) → is_own_condition m c ≡ true → condition m s ps c ≡ of_pairless (condition m s' ps c)
   same_condition = folds.ind-TypedCondition C B J S
       (λ w y is. subst (λ z. C (roll-TypedCondition z)) is (layer y)) (λ w y is. tt) (λ w y is. tt) (λ w y is. tt)
 
-  pub same_if_any : (c : Option TypedCondition) → is_any_own m c ≡ true → option_map (condition m s ps) c ≡ option_map (condition m s' ps) c
-  same_if_any None h = refl
-  same_if_any (Some c) h = ap Some (same_condition c h)
+  -- and so is what WHERE or HAVING drops, and its truth
+  pub drops_if_any : (c : Option TypedCondition) → is_any_own m c ≡ true → (t : Tuple) → drops_any (option_map (condition m s ps) c) t ≡ drops_any (option_map (condition m s' ps) c) (pairless_tuple m t)
+  drops_if_any None h t = refl
+  drops_if_any (Some c) h t = ap (λ (meant : Meant). meant.drops t) (same_condition c h)
+
+  pub truth_if_any : (c : Option TypedCondition) → is_any_own m c ≡ true → (at : Case) → truth_of_any (option_map (condition m s ps) c) at ≡ truth_of_any (option_map (condition m s' ps) c) (pairless_case m at)
+  truth_if_any None h at = refl
+  truth_if_any (Some c) h at = ap (λ (meant : Meant). meant.truth at) (same_condition c h)

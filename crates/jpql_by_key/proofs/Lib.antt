@@ -1,4 +1,5 @@
 pub mod Below
+pub mod Pairless
 pub mod Members
 pub mod Same
 pub mod Conditions

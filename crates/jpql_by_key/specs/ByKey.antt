@@ -3,7 +3,6 @@
 -- part, and x a literal or a parameter (chapters 4.4.2 and 4.6.7).
 use Rattle.std.specs.Prelude.{ℕ, Bool, true, false, not, ◌&&◌, ◌||◌, ◌==◌, nat_lt, List, [], ◌∷◌, length}
 use Rattle.std.specs.Prelude.{slice_index_or, Option, Some, None, option_and_then, if◌then◌else◌}
-use Rattle.std.specs.List.{list_all}
 use Rattle.jpa_value.specs.declared.value.Identity.{Identity}
 use Rattle.jpa_value.specs.declared.value.Value.{Value}
 use Rattle.jpa_model.specs.declared.unit.Member.{Member}
@@ -150,27 +149,13 @@ module _ (ps : List Datum) where
   asked_if_any None = None
   asked_if_any (Some c) = asked c
 
--- ---- the hierarchy: keys of one part, and no pairs
-
--- whether a side is the owning one of many-to-many, which has the pairs (chapter 2.9)
-abbrev pub has_pairs : Side → Bool
-has_pairs (Side.ManyToOne c) = false
-has_pairs (Side.OneToOne c) = false
-has_pairs (Side.OneToOneInverse owner) = false
-has_pairs (Side.OneToMany owner) = false
-has_pairs (Side.ManyToMany table) = true
-has_pairs (Side.ManyToManyInverse owner) = false
+-- ---- the hierarchy: keys of one part
 
 module _ (m : PersistenceUnit) where
-  -- whether objects of a class own no pairs, which are rows of join tables (chapter 2.9)
-  abbrev pub owns_no_pairs : ℕ → Bool
-  owns_no_pairs kind = list_all (λ (r : Relation). not (has_pairs r.side)) (relations_of m kind)
-
-  -- a class below this one is of the table, and each class of the table has a key of one part, and no pairs
+  -- a class below this one has this table, and a key of one part
   abbrev pub is_keyed : ℕ → ℕ → ℕ → Bool
   is_keyed class table kind =
-      (not (is_kind_of m kind class) || ((root_of m kind).table == table))
-      && (not ((root_of m kind).table == table) || ((length (root_of m kind).key == 1) && owns_no_pairs kind))
+      not (is_kind_of m kind class) || (((root_of m kind).table == table) && (length (root_of m kind).key == 1))
 
   -- the table that has the rows of a class
   abbrev pub keyed_table : ℕ → Option ℕ
@@ -200,3 +185,24 @@ key_of m ps q =
 abbrev pub only : Identity → Option Stored → StoredSet
 only id None = []
 only id (Some x) = (id, x) ∷ []
+
+-- ---- what the object's own row tells of it
+
+-- whether a side is the owning one of many-to-many, whose pairs are rows of a join table (chapter 2.10)
+abbrev pub has_pairs : Side → Bool
+has_pairs (Side.ManyToOne c) = false
+has_pairs (Side.OneToOne c) = false
+has_pairs (Side.OneToOneInverse owner) = false
+has_pairs (Side.OneToMany owner) = false
+has_pairs (Side.ManyToMany table) = true
+has_pairs (Side.ManyToManyInverse owner) = false
+
+-- what is owned in these relations, without pairs
+abbrev pub without_pairs : List Relation → List (List Identity) → List (List Identity)
+without_pairs [] owned = owned
+without_pairs (r ∷ relations) [] = []
+without_pairs (r ∷ relations) (ids ∷ owned) = (if has_pairs r.side then [] else ids) ∷ without_pairs relations owned
+
+-- the object as its own row tells it: without the pairs that it owns (chapter 2.10)
+abbrev pub pairless : PersistenceUnit → Stored → Stored
+pairless m x = record x { owned = without_pairs (relations_of m x.class) x.owned }

@@ -1,13 +1,12 @@
--- What the one object of a statement tells by itself: no path goes on from it to another object,
--- and none names what others
--- own, a collection or the inverse side of a relation.
+-- What the one object of a statement tells by its row: no path goes on from it to another object, and none names
+-- a collection or an inverse side of a relation.
 use Rattle.std.specs.Prelude.{ℕ, zero, suc, Bool, true, false, not, ◌&&◌, ◌||◌, List, [], ◌∷◌, length, Option, Some}
-use Rattle.std.specs.Prelude.{None, option_map, is_none}
+use Rattle.std.specs.Prelude.{None, option_map}
 use Rattle.std.specs.List.{list_all}
 use Rattle.jpa_model.specs.declared.unit.Member.{Member}
 use Rattle.jpa_model.specs.declared.unit.PersistenceUnit.{PersistenceUnit}
 use Rattle.jpa_model.specs.declared.unit.Side.{Side}
-use Rattle.jpa_model.specs.Chains.{is_held_by, relation_at, owner_of}
+use Rattle.jpa_model.specs.Chains.{is_held_by, relation_at}
 use Rattle.jpql_types.specs.declared.scope.Step.{Step}
 use Rattle.jpql_types.specs.declared.scope.TypedPath.{TypedPath}
 use Rattle.jpql_types.specs.declared.typed.TypedValue.{TypedValue, TypedValue-F, fold-TypedValue}
@@ -19,9 +18,14 @@ use Rattle.jpql_types.specs.declared.typed.TypedKey.{TypedKey}
 use Rattle.jpql_types.specs.declared.typed.TypedSelect.{TypedSelect}
 use Rattle.jpql_types.specs.declared.typed.TypedSorted.{TypedSorted}
 
--- not the inverse side
-abbrev pub is_owned_side : Side → Bool
-is_owned_side side = is_none (owner_of side)
+-- whether a side is the owning one of a relation to one object, whose link stands in the owner's row (chapter 2.10)
+abbrev pub is_single_side : Side → Bool
+is_single_side (Side.ManyToOne c) = true
+is_single_side (Side.OneToOne c) = true
+is_single_side (Side.OneToOneInverse owner) = false
+is_single_side (Side.OneToMany owner) = false
+is_single_side (Side.ManyToMany table) = false
+is_single_side (Side.ManyToManyInverse owner) = false
 
 -- it holds of all numbers below this one
 abbrev pub all_below : (ℕ → Bool) → ℕ → Bool
@@ -29,16 +33,16 @@ all_below p zero = true
 all_below p (suc n) = p n && all_below p n
 
 module _ (m : PersistenceUnit) where
-  -- objects of the class that hold the relation own it
-  abbrev pub owns_if_held : ℕ → ℕ → ℕ → Bool
-  owns_if_held class r kind = not (is_held_by m class r kind) || is_owned_side (relation_at m kind r).side
+  -- objects of the class that hold the relation own it, and it leads to one object
+  abbrev pub is_single_if_held : ℕ → ℕ → ℕ → Bool
+  is_single_if_held class r kind = not (is_held_by m class r kind) || is_single_side (relation_at m kind r).side
 
-  -- whether objects of a class tell a member themselves: it is no inverse side (chapter 2.9)
+  -- whether objects of a class tell a member by their rows: it is no collection and no inverse side (chapter 2.10)
   abbrev pub is_own_member : ℕ → Member → Bool
   is_own_member class (Member.KeyPart i) = true
   is_own_member class Member.Version = true
   is_own_member class (Member.Attribute i) = true
-  is_own_member class (Member.Relation r) = all_below (owns_if_held class r) (length m.entities)
+  is_own_member class (Member.Relation r) = all_below (is_single_if_held class r) (length m.entities)
 
   -- whether steps are none, or one to a member that the object tells by itself (chapter 4.4.4)
   abbrev pub are_own_steps : List Step → Bool

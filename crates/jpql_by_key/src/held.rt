@@ -6,33 +6,33 @@ ghost use Rattle.jpql_by_key.specs.Own as own;
 use jpa_model::{Metamodel, Side};
 use jpa_stored::is_held_by;
 
-fn is_owned_side(side: &Side) -> bool
-    ensures { result ≡ own.is_owned_side side.now }
+fn is_single_side(side: &Side) -> bool
+    ensures { result ≡ own.is_single_side side.now }
 {
-    matches!(
-        side,
-        Side::ManyToOne(_) | Side::OneToOne(_) | Side::ManyToMany(_)
-    )
+    matches!(side, Side::ManyToOne(_) | Side::OneToOne(_))
 }
 
-/// Whether the relation at a place of a class is no inverse side; none stands there else.
-fn is_owned_at(metamodel: &Metamodel, class: usize, relation: usize) -> bool
+/// Whether the relation at a place of a class leads to one object, whose link its owner's row has;
+/// none stands there else.
+fn is_single_at(metamodel: &Metamodel, class: usize, relation: usize) -> bool
     requires { class < length metamodel.now.entities }
-    ensures { result ≡ own.is_owned_side (chains.relation_at metamodel.now class relation).side }
+    ensures { result ≡ own.is_single_side (chains.relation_at metamodel.now class relation).side }
 {
     match metamodel.relations_of(class).get(relation) {
         None => true,
-        Some(relation) => is_owned_side(&relation.side),
+        Some(relation) => is_single_side(&relation.side),
     }
 }
 
-/// Whether each object that holds a relation owns it.
-pub(crate) fn is_owned(metamodel: &Metamodel, class: usize, relation: usize) -> bool
-    ensures { result ≡ own.all_below (own.owns_if_held metamodel.now class relation)
+/// Whether each object that holds a relation has its link, to one object, in its row.
+pub(crate) fn is_single(metamodel: &Metamodel, class: usize, relation: usize) -> bool
+    ensures { result ≡ own.all_below (own.is_single_if_held metamodel.now class relation)
         (length metamodel.now.entities) }
 {
     for kind in 0..metamodel.entities().len() {
-        if is_held_by(metamodel, class, relation, kind) && !is_owned_at(metamodel, kind, relation) {
+        if is_held_by(metamodel, class, relation, kind)
+            && !is_single_at(metamodel, kind, relation)
+        {
             return false;
         }
     }

@@ -4,7 +4,7 @@ ghost use Rattle.jpa_model.specs.Chains as chains;
 ghost use Rattle.jpql_by_key.specs.ByKey as by_key;
 
 use crate::own::is_own_select;
-use jpa_model::{Member, Metamodel, Side};
+use jpa_model::{Member, Metamodel};
 use jpa_value::{Boxed, Identity, Key, TryCopy, Value};
 use jpql_eval::Datum;
 use jpql_run::copied;
@@ -116,37 +116,17 @@ fn asked_if_any(
     }
 }
 
-fn has_pairs(side: &Side) -> bool
-    ensures { result ≡ by_key.has_pairs side.now }
-{
-    matches!(side, Side::ManyToMany(_))
-}
-
-/// Whether objects of a class own no pairs.
-fn owns_no_pairs(metamodel: &Metamodel, class: usize) -> bool
-    requires { class < length metamodel.now.entities }
-    ensures { result ≡ by_key.owns_no_pairs metamodel.now class }
-{
-    metamodel
-        .relations_of(class)
-        .iter()
-        .all(|relation| !has_pairs(&relation.side))
-}
-
-/// Whether a class is of the table where it is below this one, and has keys of one part and no
-/// pairs where it is of the table.
+/// Whether a class is of the table, with a key of one part, where it is below this one.
 fn is_keyed(metamodel: &Metamodel, class: usize, table: u64, kind: usize) -> bool
     requires class { class < length metamodel.now.entities }
     requires kind { kind < length metamodel.now.entities }
     ensures { result ≡ by_key.is_keyed metamodel.now class table kind }
 {
     let root = metamodel.root_of(kind);
-    (!metamodel.is_kind_of(kind, class) || root.table == table)
-        && (root.table != table || (root.key.len() == 1 && owns_no_pairs(metamodel, kind)))
+    !metamodel.is_kind_of(kind, class) || (root.table == table && root.key.len() == 1)
 }
 
-/// The table that has the rows of a class, where its keys have one part and no class of the table
-/// owns pairs.
+/// The table that has the rows of a class, where its keys have one part.
 fn keyed_table(metamodel: &Metamodel, class: usize) -> Option<u64>
     ensures { result ≡ by_key.keyed_table metamodel.now class }
 {

@@ -2,7 +2,8 @@
 ghost use Rattle.jpql_by_key.specs.Laws.{LawsOfKeys};
 
 /// The law of statements that ask one object by its key; it does nothing. Over a set they give what
-/// they give over that object alone, or over none: the same rows, or the same Overflow.
+/// they give over that object alone, without its pairs, or over none: the same rows, or the same
+/// Overflow.
 pub fn key_laws()
     ensures { LawsOfKeys }
 {}

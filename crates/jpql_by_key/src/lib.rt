@@ -2,9 +2,10 @@
 //!
 //! `key_of` answers the identity of the only object that decides what a SELECT gives, where it asks
 //! one by its key: a statement of one block and one variable, whose WHERE equates the one-part key
-//! with a literal or a parameter, and whose paths don't leave the object. `key_laws` carries the
-//! law: over a set such a statement gives what it gives over that object alone, or over none. The
-//! crate stands on the meaning of statements (`jpql_plan`) and the laws of look-ups (`jpql_run`).
+//! with a literal or a parameter, and whose paths don't leave the object's row. `key_laws` carries
+//! the law: over a set such a statement gives what it gives over that object alone, without its
+//! pairs, or over none. The crate stands on the meaning of statements (`jpql_plan`) and the laws of
+//! look-ups (`jpql_run`).
 #![tactic(auto)]
 
 mod held;

@@ -1,20 +1,20 @@
-//! Whether a statement's paths don't leave its one object.
+//! Whether a statement's paths don't leave the row of its one object.
 ghost use Rattle.std.specs.Prelude.{◌≡◌};
 ghost use Rattle.std.specs.List.{list_all};
 ghost use Rattle.jpql_by_key.specs.Own as own;
 
-use crate::held::is_owned;
+use crate::held::is_single;
 use jpa_model::{Member, Metamodel};
 use jpa_value::Boxed;
 use jpql_types::{Step, TypedCondition, TypedKey, TypedPath, TypedSelect, TypedSorted, TypedValue};
 
-/// Whether an object tells what a step leads to.
+/// Whether an object's row tells what a step leads to.
 fn is_own_step(metamodel: &Metamodel, step: &Step) -> bool
     ensures { result ≡ own.is_own_member metamodel.now step.now.class step.now.member }
 {
     match step.member {
         Member::KeyPart(_) | Member::Version | Member::Attribute(_) => true,
-        Member::Relation(relation) => is_owned(metamodel, step.class, relation),
+        Member::Relation(relation) => is_single(metamodel, step.class, relation),
     }
 }
 

@@ -1,14 +1,17 @@
 //! Values.
-ghost use Rattle.std.specs.Prelude.{◌≡◌, ◌∷◌, [], length};
+ghost use Rattle.std.specs.Prelude.{◌≡◌, ◌∷◌, [], length, IfOk};
 ghost use Rattle.jpql_lexer.specs.Gives.{Gives};
+ghost use Rattle.jpql_tree.specs.Grammar.{trimmed_value};
 ghost use Rattle.jpql_tree.specs.Values as spec;
 ghost use Rattle.jpql_tree.specs.Values.{value_at};
 
-use crate::steps::{after, copied, optional_word, path, sees};
+use crate::steps::{after, after_word, copied, is_word, optional_word, path, sees};
 use jpa_value::{Boxed, Seq};
 use jpql_lexer::ReadError;
-use jpql_tree::{Aggregate, Arithmetic, Callee, Function, Keyword, Mark, Path, Sign, Token, Value};
-use std::alloc::Global;
+use jpql_tree::{
+    Aggregate, Arithmetic, Callee, Function, Keyword, Mark, Path, Sign, Token, Trimmed, Value,
+};
+use std::alloc::{AllocError, Global};
 
 fn callee_of(keyword: Keyword) -> Callee
     ensures { result ≡ spec.callee_of keyword }
@@ -23,6 +26,9 @@ fn callee_of(keyword: Keyword) -> Callee
         Keyword::Size => Callee::Size,
         Keyword::Coalesce => Callee::Function(Function::Coalesce),
         Keyword::NullIf => Callee::Function(Function::NullIf),
+        Keyword::Upper => Callee::Function(Function::Upper),
+        Keyword::Lower => Callee::Function(Function::Lower),
+        Keyword::Trim => Callee::Trim,
         Keyword::Count => Callee::Aggregate(Aggregate::Count),
         Keyword::Sum => Callee::Aggregate(Aggregate::Sum),
         Keyword::Min => Callee::Aggregate(Aggregate::Min),
@@ -35,11 +41,85 @@ fn takes(function: Function, count: usize) -> bool
     ensures { result ≡ spec.takes function count }
 {
     match function {
-        Function::Length | Function::Abs => count == 1,
+        Function::Length | Function::Abs | Function::Upper | Function::Lower => count == 1,
+        Function::Trim(_) => count == 1 || count == 2,
         Function::Mod | Function::NullIf => count == 2,
         Function::Substring | Function::Locate => count == 2 || count == 3,
         Function::Concat | Function::Coalesce => 2 <= count,
     }
+}
+
+/// What TRIM takes off, where a text or a parameter comes next, and the tokens after it.
+fn taken(alloc: Global, tokens: &[Token]) -> Result<(Option<Value>, &[Token]), AllocError>
+    ensures { IfOk result (λ r. (r.0, r.1.now) ≡ spec.taken_at tokens.now) }
+{
+    match tokens {
+        [Token::Quoted(text), rest @ ..] => Ok((Some(Value::Text(copied(alloc, text)?)), rest)),
+        [Token::Parameter(name), rest @ ..] => {
+            Ok((Some(Value::Parameter(copied(alloc, name)?)), rest))
+        }
+        _ => Ok((None, tokens)),
+    }
+}
+
+#[tactic(auto, unfolding(jpql_tree::specs::Values::sided_at))]
+fn sided(
+    alloc: Global,
+    side: Trimmed,
+    tokens: &[Token],
+) -> Result<(Trimmed, Option<Value>, &[Token]), ReadError>
+    ensures { Gives (λ r. ((r.0, r.1), r.2.now)) result (spec.sided_at side tokens.now) }
+{
+    let (off, rest) = taken(alloc, tokens)?;
+    Ok((side, off, after_word(Keyword::From, rest)?))
+}
+
+#[tactic(auto, unfolding(jpql_tree::specs::Values::unsided_at))]
+fn unsided(alloc: Global, tokens: &[Token]) -> Result<(Trimmed, Option<Value>, &[Token]), ReadError>
+    ensures { Gives (λ r. ((r.0, r.1), r.2.now)) result (spec.unsided_at tokens.now) }
+{
+    let (off, rest) = taken(alloc, tokens)?;
+    if off.is_some() && is_word(Keyword::From, rest) {
+        Ok((Trimmed::Both, off, &rest[1..]))
+    } else {
+        Ok((Trimmed::Both, None, tokens))
+    }
+}
+
+/// The side off which TRIM takes, and what it takes off where that is written.
+#[tactic(auto, unfolding(jpql_tree::specs::Values::trimming_at))]
+fn trimming(
+    alloc: Global,
+    tokens: &[Token],
+) -> Result<(Trimmed, Option<Value>, &[Token]), ReadError>
+    ensures { Gives (λ r. ((r.0, r.1), r.2.now)) result (spec.trimming_at tokens.now) }
+{
+    if is_word(Keyword::Leading, tokens) {
+        sided(alloc, Trimmed::Leading, &tokens[1..])
+    } else if is_word(Keyword::Trailing, tokens) {
+        sided(alloc, Trimmed::Trailing, &tokens[1..])
+    } else if is_word(Keyword::Both, tokens) {
+        sided(alloc, Trimmed::Both, &tokens[1..])
+    } else {
+        unsided(alloc, tokens)
+    }
+}
+
+/// TRIM of the value.
+fn trimmed(
+    alloc: Global,
+    side: Trimmed,
+    off: Option<Value>,
+    value: Value,
+) -> Result<Value, AllocError>
+    ensures { IfOk result (λ r. r ≡ trimmed_value (side, off) value) }
+{
+    let mut all = Seq::new(alloc);
+    all.push(value)?;
+    if let Some(off) = off {
+        all.push(off)?;
+    }
+    Ok(Value::Call(Function::Trim(side), all))
 }
 
 #[cycle(value)]
@@ -144,6 +224,16 @@ fn closed_path(alloc: Global, tokens: &[Token]) -> Result<(Path, &[Token]), Read
 }
 
 #[cycle(value)]
+#[tactic(auto, unfolding(jpql_tree::specs::Values::trim_at))]
+fn trim(alloc: Global, depth: usize, tokens: &[Token]) -> Result<(Value, &[Token]), ReadError>
+    ensures { Gives (λ r. (r.0, r.1.now)) result (spec.trim_at (value_at depth) tokens.now) }
+{
+    let (side, off, rest) = trimming(alloc, tokens)?;
+    let (value, rest) = nested(alloc, depth, rest)?;
+    Ok((trimmed(alloc, side, off, value)?, rest))
+}
+
+#[cycle(value)]
 #[tactic(auto, unfolding(jpql_tree::specs::Values::call_at))]
 fn call(
     alloc: Global,
@@ -175,6 +265,7 @@ fn call(
                 rest,
             ))
         }
+        Callee::Trim => trim(alloc, depth, tokens),
         Callee::Other => Err(ReadError::Syntax),
     }
 }

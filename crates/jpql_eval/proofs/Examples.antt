@@ -1,9 +1,10 @@
 -- Functions, LIKE and aggregates evaluated.
-use Rattle.std.proofs.Common.{◌≡◌, pos, negsuc, true, false, [], ◌∷◌, Some, None, refl, codes}
+use Rattle.std.proofs.Common.{◌≡◌, pos, negsuc, true, false, [], ◌∷◌, ◌++◌, Some, None, refl, codes}
 use Rattle.std.specs.Str.{chars}
 use Rattle.jpql_tree.specs.declared.Aggregate.{Aggregate}
 use Rattle.jpql_tree.specs.declared.Function.{Function}
 use Rattle.jpql_tree.specs.declared.Arithmetic.{Arithmetic}
+use Rattle.jpql_tree.specs.declared.Trimmed.{Trimmed}
 use Rattle.jpql_eval.specs.declared.datum.Truth.{Truth}
 use Rattle.jpql_eval.specs.Answers.{gives, overflows}
 use Rattle.jpql_eval.specs.Truths.{not3}
@@ -46,6 +47,49 @@ null_if_null = refl
 
 no_text : applied Function.Concat (text (codes "a") ∷ null ∷ []) ≡ gives null
 no_text = refl
+
+no_case : applied Function.Upper (null ∷ []) ≡ gives null
+no_case = refl
+
+no_number_case : applied Function.Lower (number (pos 7) ∷ []) ≡ gives null
+no_number_case = refl
+
+-- TRIM('  a b ') is 'a b'
+both_sides : applied (Function.Trim Trimmed.Both) (text (codes "  a b ") ∷ []) ≡ gives (text (codes "a b"))
+both_sides = refl
+
+front_alone : applied (Function.Trim Trimmed.Leading) (text (codes "  a b ") ∷ []) ≡ gives (text (codes "a b "))
+front_alone = refl
+
+end_alone : applied (Function.Trim Trimmed.Trailing) (text (codes "  a b ") ∷ []) ≡ gives (text (codes "  a b"))
+end_alone = refl
+
+only_blanks : applied (Function.Trim Trimmed.Both) (text (codes "   ") ∷ []) ≡ gives (text [])
+only_blanks = refl
+
+-- no other white space is a blank
+not_blank : applied (Function.Trim Trimmed.Both) (text (9 ∷ 97 ∷ 10 ∷ []) ∷ []) ≡ gives (text (9 ∷ 97 ∷ 10 ∷ []))
+not_blank = refl
+
+-- TRIM('xx' FROM 'xxxaxx') is 'xa'
+pairs : applied (Function.Trim Trimmed.Both) (text (codes "xxxaxx") ∷ text (codes "xx") ∷ []) ≡ gives (text (codes "xa"))
+pairs = refl
+
+-- TRIM('aba' FROM 'ababa') is 'ba': the front comes first
+front_first : applied (Function.Trim Trimmed.Both) (text (codes "ababa") ∷ text (codes "aba") ∷ []) ≡ gives (text (codes "ba"))
+front_first = refl
+
+nothing_off : applied (Function.Trim Trimmed.Both) (text (codes " a ") ∷ text [] ∷ []) ≡ gives (text (codes " a "))
+nothing_off = refl
+
+all_off : applied (Function.Trim Trimmed.Trailing) (text (codes "abab") ∷ text (codes "ab") ∷ []) ≡ gives (text [])
+all_off = refl
+
+null_off : applied (Function.Trim Trimmed.Both) (text (codes "a") ∷ null ∷ []) ≡ gives null
+null_off = refl
+
+off_null : applied (Function.Trim Trimmed.Leading) (null ∷ []) ≡ gives null
+off_null = refl
 
 -- 'a%' LIKE 'a%' ESCAPE '%'
 escape_at_the_end : like (Some (codes "%")) (text (codes "a%")) (text (codes "a%")) ≡ Truth.Yes

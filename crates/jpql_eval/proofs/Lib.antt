@@ -5,4 +5,5 @@ pub mod Orders
 pub mod Places
 pub mod There
 pub mod Totals
+pub mod TakenOff
 pub mod Examples

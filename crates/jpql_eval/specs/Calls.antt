@@ -1,8 +1,11 @@
 -- Functions (chapter 4.7.2 to 4.7.4): of a null argument each is null, but COALESCE and NULLIF.
 use Rattle.std.specs.Prelude.{ℤ, pos, List, [], ◌∷◌, ◌++◌, length, Option, Some, None, option_map, if◌then◌else◌, chars}
+use Rattle.std.specs.StrCase.Lower.{str_to_lowercase}
+use Rattle.std.specs.StrCase.Upper.{str_to_uppercase}
 use Rattle.jpa_value.specs.declared.value.Value.{Value}
 use Rattle.jpql_tree.specs.declared.Comparison.{Comparison}
 use Rattle.jpql_tree.specs.declared.Function.{Function}
+use Rattle.jpql_tree.specs.declared.Trimmed.{Trimmed}
 use Rattle.jpql_eval.specs.declared.datum.Datum.{Datum}
 use Rattle.jpql_eval.specs.Answers.{Answer, gives}
 use Rattle.jpql_eval.specs.declared.datum.Truth.{Truth}
@@ -10,6 +13,7 @@ use Rattle.jpql_eval.specs.Truths.{truth_of, is_yes}
 use Rattle.jpql_eval.specs.Data.{null, is_nothing, compared}
 use Rattle.jpql_eval.specs.Numbers.{number, absolute, modulo}
 use Rattle.jpql_eval.specs.Texts.{Text, substring, locate, is_like}
+use Rattle.jpql_eval.specs.Trims.{trimmed, blank}
 
 -- the text that a datum is, if it is one
 abbrev pub text_in : Datum → Option Text
@@ -67,10 +71,25 @@ abbrev pub locate_from : Datum → Datum → Datum → Datum
 locate_from x a from =
     of_one (λ s. of_one (λ t. of_one (λ f. number (pos (locate s t f))) (integer_in from)) (text_in a)) (text_in x)
 
+-- UPPER: each character in upper case, by Unicode's full mapping (chapter 4.7.2)
+abbrev pub upper_of : Datum → Datum
+upper_of a = of_one (λ t. text (str_to_uppercase t)) (text_in a)
+
+-- LOWER: each character in lower case, by Unicode's full mapping (chapter 4.7.2)
+abbrev pub lower_of : Datum → Datum
+lower_of a = of_one (λ t. text (str_to_lowercase t)) (text_in a)
+
+-- TRIM: a text without another at its sides (chapter 4.7.2)
+abbrev pub trim_of : Trimmed → Datum → Datum → Datum
+trim_of side a off = of_one (λ o. of_one (λ t. text (trimmed side o t)) (text_in a)) (text_in off)
+
 -- of one operand, of two, of three
 abbrev pub of_operand : Function → Datum → Answer Datum
 of_operand Function.Length a = gives (length_of a)
 of_operand Function.Abs a = absolute a
+of_operand Function.Upper a = gives (upper_of a)
+of_operand Function.Lower a = gives (lower_of a)
+of_operand (Function.Trim side) a = gives (trim_of side a (text blank))
 of_operand _ a = gives null
 
 -- a function of two operands; a function that takes another number gives null
@@ -79,6 +98,7 @@ of_two Function.Substring a from = gives (substring_of a from)
 of_two Function.Locate x a = gives (locate_from x a (number (pos 1)))
 of_two Function.Mod a b = modulo a b
 of_two Function.NullIf a b = gives (null_if a b)
+of_two (Function.Trim side) a off = gives (trim_of side a off)
 of_two _ a b = gives null
 
 -- a function of three operands; a function that takes another number gives null

@@ -8,4 +8,5 @@ pub mod Numbers
 pub mod Seen
 pub mod SeenOrder
 pub mod Texts
+pub mod Trims
 pub mod Truths

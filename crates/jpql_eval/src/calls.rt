@@ -12,9 +12,10 @@ use crate::numbers::{absolute, modulo};
 use crate::patterns::is_like;
 use crate::seen::Seen;
 use crate::texts::{length, locate, substring};
+use crate::trims::{lower, trimmed, upper};
 use crate::truths::truth_of;
 use jpa_value::Text;
-use jpql_tree::{Comparison, Function};
+use jpql_tree::{Comparison, Function, Trimmed};
 use std::alloc::{AllocError, Global};
 
 fn length_of<'a>(text: &Seen<'a>) -> Seen<'a>
@@ -116,12 +117,64 @@ fn null_if<'a>(alloc: Global, left: &Seen<'a>, right: &Seen<'a>) -> Result<Seen<
     }
 }
 
-fn of_operand<'a>(function: Function, one: &Seen<'a>) -> Result<Seen<'a>, Failure>
+fn upper_of<'a>(alloc: Global, text: &Seen<'a>) -> Result<Seen<'a>, AllocError>
+    ensures { IfOk result (λ found. seen found ≡ calls.upper_of (seen text.now)) }
+{
+    match text.text() {
+        None => Ok(Seen::Null),
+        Some(text) => Ok(Seen::Made(upper(alloc, text.as_str())?)),
+    }
+}
+
+fn lower_of<'a>(alloc: Global, text: &Seen<'a>) -> Result<Seen<'a>, AllocError>
+    ensures { IfOk result (λ found. seen found ≡ calls.lower_of (seen text.now)) }
+{
+    match text.text() {
+        None => Ok(Seen::Null),
+        Some(text) => Ok(Seen::Made(lower(alloc, text.as_str())?)),
+    }
+}
+
+/// TRIM of a text that is there.
+fn trim_by<'a>(
+    alloc: Global,
+    sides: Trimmed,
+    text: &Seen<'a>,
+    off: &str,
+) -> Result<Seen<'a>, AllocError>
+    ensures { IfOk result (λ found. seen found
+        ≡ calls.trim_of sides (seen text.now) (calls.text off.now)) }
+{
+    match text.text() {
+        None => Ok(Seen::Null),
+        Some(text) => Ok(Seen::Made(Text::of(alloc, trimmed(sides, text.as_str(), off))?)),
+    }
+}
+
+fn trim_of<'a>(
+    alloc: Global,
+    sides: Trimmed,
+    text: &Seen<'a>,
+    off: &Seen<'a>,
+) -> Result<Seen<'a>, AllocError>
+    ensures { IfOk result (λ found. seen found
+        ≡ calls.trim_of sides (seen text.now) (seen off.now)) }
+{
+    match off.text() {
+        None => Ok(Seen::Null),
+        Some(off) => trim_by(alloc, sides, text, off.as_str()),
+    }
+}
+
+fn of_operand<'a>(alloc: Global, function: Function, one: &Seen<'a>) -> Result<Seen<'a>, Failure>
     ensures { Finds seen result (calls.of_operand function (seen one.now)) }
 {
     match function {
         Function::Length => Ok(length_of(one)),
         Function::Abs => absolute(one),
+        Function::Upper => Ok(upper_of(alloc, one)?),
+        Function::Lower => Ok(lower_of(alloc, one)?),
+        Function::Trim(sides) => Ok(trim_by(alloc, sides, one, " ")?),
         Function::Concat
         | Function::Substring
         | Function::Locate
@@ -144,7 +197,13 @@ fn of_two<'a>(
         Function::Locate => Ok(locate_from(alloc, one, two, &Seen::Int(1))?),
         Function::Mod => Ok(modulo(one, two)),
         Function::NullIf => Ok(null_if(alloc, one, two)?),
-        Function::Length | Function::Concat | Function::Abs | Function::Coalesce => Ok(Seen::Null),
+        Function::Trim(sides) => Ok(trim_of(alloc, sides, one, two)?),
+        Function::Length
+        | Function::Concat
+        | Function::Abs
+        | Function::Coalesce
+        | Function::Upper
+        | Function::Lower => Ok(Seen::Null),
     }
 }
 
@@ -166,7 +225,10 @@ fn of_three<'a>(
         | Function::Abs
         | Function::Mod
         | Function::Coalesce
-        | Function::NullIf => Ok(Seen::Null),
+        | Function::NullIf
+        | Function::Upper
+        | Function::Lower
+        | Function::Trim(_) => Ok(Seen::Null),
     }
 }
 
@@ -175,7 +237,7 @@ fn of_some<'a>(alloc: Global, function: Function, all: &[Seen<'a>]) -> Result<Se
 {
     match all {
         [] => Ok(Seen::Null),
-        [one] => of_operand(function, one),
+        [one] => of_operand(alloc, function, one),
         [one, two] => of_two(alloc, function, one, two),
         [one, two, three] => of_three(alloc, function, one, two, three),
         [_, _, _, _, ..] => Ok(Seen::Null),
@@ -196,7 +258,10 @@ pub fn applied<'a>(alloc: Global, function: Function, all: &[Seen<'a>]) -> Resul
         | Function::Locate
         | Function::Abs
         | Function::Mod
-        | Function::NullIf => of_some(alloc, function, all),
+        | Function::NullIf
+        | Function::Upper
+        | Function::Lower
+        | Function::Trim(_) => of_some(alloc, function, all),
     }
 }
 

@@ -14,6 +14,7 @@ mod numbers;
 mod patterns;
 mod seen;
 mod texts;
+mod trims;
 mod truths;
 
 pub use aggregates::aggregated;

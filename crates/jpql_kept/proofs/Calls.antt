@@ -8,6 +8,7 @@ use Rattle.jpa_value.specs.Value.{is_i64}
 use Rattle.jpa_row_laws.proofs.Facts.{some_none, value_in}
 use Rattle.jpa_stored.specs.Sets.{each_fits}
 use Rattle.jpql_tree.specs.declared.Function.{Function}
+use Rattle.jpql_tree.specs.declared.Trimmed.{Trimmed}
 use Rattle.jpql_tree.specs.declared.Arithmetic.{Arithmetic}
 use Rattle.jpql_tree.specs.declared.Sign.{Sign}
 use Rattle.jpql_tree.specs.declared.Comparison.{Comparison}
@@ -21,6 +22,7 @@ use Rattle.jpql_eval.specs.Data.{null, is_nothing, compared}
 use Rattle.jpql_eval.specs.Truths.{is_yes}
 use Rattle.jpql_eval.specs.Numbers.{number, integer, arithmetic, signed, absolute, modulo, calculate}
 use Rattle.jpql_eval.specs.Calls as calls
+use Rattle.jpql_eval.specs.Trims.{blank}
 use Rattle.jpql_kept.specs.Fits.{is_of_sort}
 use Rattle.jpql_kept.proofs.Sorts.{null_of, basic_each}
 
@@ -117,6 +119,15 @@ substring_of a from = one_of sorts.text _ (calls.text_in a) (λ t. one_of sorts.
 substring_upto : (a from n : Datum) → is_of_sort sorts.text (calls.substring_upto a from n) ≡ true
 substring_upto a from n = one_of sorts.text _ (calls.text_in a) (λ t. one_of sorts.text _ (calls.integer_in from) (λ f. one_of sorts.text _ (calls.integer_in n) (λ k. refl)))
 
+upper_of : (a : Datum) → is_of_sort sorts.text (calls.upper_of a) ≡ true
+upper_of a = one_of sorts.text _ (calls.text_in a) (λ t. refl)
+
+lower_of : (a : Datum) → is_of_sort sorts.text (calls.lower_of a) ≡ true
+lower_of a = one_of sorts.text _ (calls.text_in a) (λ t. refl)
+
+trim_of : (sides : Trimmed) (a off : Datum) → is_of_sort sorts.text (calls.trim_of sides a off) ≡ true
+trim_of sides a off = one_of sorts.text _ (calls.text_in off) (λ o. one_of sorts.text _ (calls.text_in a) (λ t. refl))
+
 locate_from : (x a from : Datum) → is_of_sort sorts.integer (calls.locate_from x a from) ≡ true
 locate_from x a from = one_of sorts.integer _ (calls.text_in x) (λ s. one_of sorts.integer _ (calls.text_in a) (λ t. one_of sorts.integer _ (calls.integer_in from) (λ f. refl)))
 
@@ -162,6 +173,27 @@ substrings_of (a ∷ b ∷ []) = substring_of a b
 substrings_of (a ∷ b ∷ c ∷ []) = substring_upto a b c
 substrings_of (a ∷ b ∷ c ∷ d ∷ ds) = refl
 
+uppers_of : (ds : List Datum) → gives_of sorts.text (calls.applied Function.Upper ds) ≡ true
+uppers_of [] = refl
+uppers_of (a ∷ []) = upper_of a
+uppers_of (a ∷ b ∷ []) = refl
+uppers_of (a ∷ b ∷ c ∷ []) = refl
+uppers_of (a ∷ b ∷ c ∷ d ∷ ds) = refl
+
+lowers_of : (ds : List Datum) → gives_of sorts.text (calls.applied Function.Lower ds) ≡ true
+lowers_of [] = refl
+lowers_of (a ∷ []) = lower_of a
+lowers_of (a ∷ b ∷ []) = refl
+lowers_of (a ∷ b ∷ c ∷ []) = refl
+lowers_of (a ∷ b ∷ c ∷ d ∷ ds) = refl
+
+trims_of : (sides : Trimmed) (ds : List Datum) → gives_of sorts.text (calls.applied (Function.Trim sides) ds) ≡ true
+trims_of sides [] = refl
+trims_of sides (a ∷ []) = trim_of sides a (calls.text blank)
+trims_of sides (a ∷ b ∷ []) = trim_of sides a b
+trims_of sides (a ∷ b ∷ c ∷ []) = refl
+trims_of sides (a ∷ b ∷ c ∷ d ∷ ds) = refl
+
 locates_of : (ds : List Datum) → gives_of sorts.integer (calls.applied Function.Locate ds) ≡ true
 locates_of [] = refl
 locates_of (a ∷ []) = refl
@@ -200,6 +232,9 @@ given_by Function.Abs ss ds r e h = whenever _ sorts.integer r (calls.applied Fu
 given_by Function.Mod ss ds r e h = whenever _ sorts.integer r (calls.applied Function.Mod ds) e (modulos_of ds)
 given_by Function.Coalesce ss ds r e h = coalesce_of r ds (basic_each r ss ds e h)
 given_by Function.NullIf ss ds r e h = nulls_of r ds (basic_each r ss ds e h)
+given_by Function.Upper ss ds r e h = whenever _ sorts.text r (calls.applied Function.Upper ds) e (uppers_of ds)
+given_by Function.Lower ss ds r e h = whenever _ sorts.text r (calls.applied Function.Lower ds) e (lowers_of ds)
+given_by (Function.Trim sides) ss ds r e h = whenever _ sorts.text r (calls.applied (Function.Trim sides) ds) e (trims_of sides ds)
 
 -- where a function takes so many
 pub call_of : (f : Function) (ss : List Sort) (ds : List Datum) (r : Sort) → sorts.call_sort f ss ≡ Some r → each_fits is_of_sort ss ds ≡ true → gives_of r (calls.applied f ds) ≡ true

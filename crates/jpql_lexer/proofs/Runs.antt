@@ -13,6 +13,7 @@ use Rattle.std.specs.List.{prefix_len, list_all}
 use mir.Syntax.{w64}
 use Rattle.std.specs.Str.{IsCharBoundary}
 use Rattle.jpql_tree.specs.Grammar.{Text}
+use Rattle.jpql_tree.specs.declared.Language.{Language}
 use Rattle.jpql_tree.specs.declared.token.Token.{Token}
 use Rattle.jpql_tree.specs.Text.{begins, digits_value, greatest_integer, Piece}
 use Rattle.jpql_tree.proofs.Tools.{same}
@@ -190,17 +191,17 @@ module _ {E : Type 0} (bs : Text) (r : Result ℤ E) where
 
 -- ---- pieces
 
-from_tokens : (found : List Token) (n : ℕ) (text : Text) (o : Option (Piece × Text)) (ts : List Token) (rest : Text) → piece_at text ≡ o → as_tokens o ≡ Some (ts, rest)
-    → tokens_at (suc n) found text ≡ tokens_at n (found ++ ts) rest
-from_tokens found n text None ts rest e h = absurd cc
-from_tokens found n text (Some x) ts rest e h =
+from_tokens : (l : Language) (found : List Token) (n : ℕ) (text : Text) (o : Option (Piece × Text)) (ts : List Token) (rest : Text) → piece_at text ≡ o → as_tokens l o ≡ Some (ts, rest)
+    → tokens_at l (suc n) found text ≡ tokens_at l n (found ++ ts) rest
+from_tokens l found n text None ts rest e h = absurd cc
+from_tokens l found n text (Some x) ts rest e h =
     let same_pair = same _ _ h in
-    one_piece n found text x e ∙ (ap (λ (r : List Token × Text). tokens_at n (found ++ r.0) r.1) same_pair)
+    one_piece l n found text x e ∙ (ap (λ (r : List Token × Text). tokens_at l n (found ++ r.0) r.1) same_pair)
 
 -- one turn of the loop over a text
-pub one_turn : (found : List Token) (n : ℕ) (text : Text) (ts : List Token) (rest : Text) → as_tokens (piece_at text) ≡ Some (ts, rest)
-    → tokens_at (suc n) found text ≡ tokens_at n (found ++ ts) rest
-one_turn found n text ts rest h = from_tokens found n text (piece_at text) ts rest refl h
+pub one_turn : (l : Language) (found : List Token) (n : ℕ) (text : Text) (ts : List Token) (rest : Text) → as_tokens l (piece_at text) ≡ Some (ts, rest)
+    → tokens_at l (suc n) found text ≡ tokens_at l n (found ++ ts) rest
+one_turn l found n text ts rest h = from_tokens l found n text (piece_at text) ts rest refl h
 
 -- a count of turns, beside a loop that counts up
 pub one_more : {X : Type 0} {x : X} (f : ℕ → X) (n at : ℕ) → at < n → x ≡ f (n - at) → x ≡ f (suc (n - (at + 1)))

@@ -1,5 +1,6 @@
 -- What reading a whole text answers, in words of the grammar.
 use Rattle.std.proofs.Common.{◌≡◌, List, [], length, Some, Result, Ok, Err, IfOk, subst}
+use Rattle.jpql_tree.specs.declared.Language.{Language}
 use Rattle.jpql_tree.specs.declared.token.Token.{Token}
 use Rattle.jpql_tree.specs.Grammar.{Text}
 use Rattle.jpql_tree.specs.Text.{IsText}
@@ -9,19 +10,19 @@ use Rattle.jpql_lexer.specs.declared.error.ReadError.{ReadError}
 use Rattle.jpql_lexer.specs.declared.error.ReadError.TheVariants.{Memory, Syntax}
 use Rattle.jpql_lexer.specs.Gives.{Gives}
 
-module _ {X : Type 0} (view : X → List Token) (r : Result X ReadError) (text : Text) (gives : Gives view r (tokens_at (length text) [] text)) where
-  pub only : (tokens : List Token) → IsText text tokens → Gives view r (Some tokens)
-  only tokens t = subst (Gives view r) (tokens_complete text tokens t) gives
+module _ {X : Type 0} (l : Language) (view : X → List Token) (r : Result X ReadError) (text : Text) (gives : Gives view r (tokens_at l (length text) [] text)) where
+  pub only : (tokens : List Token) → IsText l text tokens → Gives view r (Some tokens)
+  only tokens t = subst (Gives view r) (tokens_complete l text tokens t) gives
 
-pub found : {X : Type 0} (view : X → List Token) (r : Result X ReadError) (text : Text) → Gives view r (tokens_at (length text) [] text) → IfOk r (λ x. IsText text (view x))
-found view (Ok x) text h = tokens_sound text (view x) h
-found view (Err e) text h = tt
+pub found : {X : Type 0} (l : Language) (view : X → List Token) (r : Result X ReadError) (text : Text) → Gives view r (tokens_at l (length text) [] text) → IfOk r (λ x. IsText l text (view x))
+found l view (Ok x) text h = tokens_sound l text (view x) h
+found l view (Err e) text h = tt
 
 not_both : {X : Type 0} (view : X → List Token) (r : Result X ReadError) (tokens : List Token) → r ≡ Err Syntax → Gives view r (Some tokens) → ⊥
 not_both view (Ok x) tokens e h = cc
 not_both view (Err Memory) tokens e h = cc
 not_both view (Err Syntax) tokens e h = cc
 
-pub none : {X : Type 0} (view : X → List Token) (r : Result X ReadError) (text : Text) → Gives view r (tokens_at (length text) [] text)
-    → r ≡ Err Syntax → (tokens : List Token) → IsText text tokens → ⊥
-none view r text h e tokens t = not_both view r tokens e (only view r text h tokens t)
+pub none : {X : Type 0} (l : Language) (view : X → List Token) (r : Result X ReadError) (text : Text) → Gives view r (tokens_at l (length text) [] text)
+    → r ≡ Err Syntax → (tokens : List Token) → IsText l text tokens → ⊥
+none l view r text h e tokens t = not_both view r tokens e (only l view r text h tokens t)

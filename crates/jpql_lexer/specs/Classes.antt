@@ -1,6 +1,7 @@
 -- Sets of bytes, and what a piece of a text is as tokens.
 use Rattle.std.specs.Prelude.{ℕ, ◌==◌, Bool, not, List, [], ◌∷◌, Option, Some, None}
 use Rattle.std.specs.Char.{is_ascii_digit}
+use Rattle.jpql_tree.specs.declared.Language.{Language}
 use Rattle.jpql_tree.specs.declared.token.Token.{Token}
 use Rattle.jpql_tree.specs.Grammar.{Text}
 use Rattle.jpql_tree.specs.Values.{◌>>=◌}
@@ -14,9 +15,9 @@ is_in class.Word b = is_in_word b
 is_in class.Digit b = is_ascii_digit b
 is_in class.Unquoted b = not (b == 39)
 
--- a piece as its tokens, and the text after it
-abbrev pub as_tokens : Option (Piece × Text) → Option (List Token × Text)
-as_tokens cut = cut >>= λ x. Some (piece_tokens x.0, x.1)
+-- a piece as its tokens in a language, and the text after it
+abbrev pub as_tokens : Language → Option (Piece × Text) → Option (List Token × Text)
+as_tokens l cut = cut >>= λ x. Some (piece_tokens l x.0, x.1)
 
 -- a token as a list, or the empty list
 abbrev pub one_if_any : Option Token → List Token

@@ -2,10 +2,12 @@
 ghost use Rattle.std.specs.Prelude.{◌≡◌};
 ghost use Rattle.std.specs.Str.{str_eq_ignore_ascii_case};
 ghost use Rattle.jpql_tree.specs.Text as spec;
+ghost use Rattle.jpql_tree.specs.declared.Language.TheVariants as language;
 
-use jpql_tree::Keyword;
+use jpql_tree::{Keyword, Language};
 
-const KEYWORDS: [Keyword; 46] = [
+/// The words of the profile's grammar, which the wider language has too.
+const PROFILE_KEYWORDS: [Keyword; 46] = [
     Keyword::Select,
     Keyword::Distinct,
     Keyword::From,
@@ -52,6 +54,24 @@ const KEYWORDS: [Keyword; 46] = [
     Keyword::Sum,
     Keyword::Min,
     Keyword::Max,
+];
+
+/// The words that the wider language has besides.
+const WIDE_KEYWORDS: [Keyword; 14] = [
+    Keyword::Upper,
+    Keyword::Lower,
+    Keyword::Trim,
+    Keyword::Leading,
+    Keyword::Trailing,
+    Keyword::Both,
+    Keyword::Case,
+    Keyword::When,
+    Keyword::Then,
+    Keyword::Else,
+    Keyword::End,
+    Keyword::All,
+    Keyword::Any,
+    Keyword::Some,
 ];
 
 fn spelling(keyword: Keyword) -> &'static str
@@ -104,6 +124,20 @@ fn spelling(keyword: Keyword) -> &'static str
         Keyword::Sum => "SUM",
         Keyword::Min => "MIN",
         Keyword::Max => "MAX",
+        Keyword::Upper => "UPPER",
+        Keyword::Lower => "LOWER",
+        Keyword::Trim => "TRIM",
+        Keyword::Leading => "LEADING",
+        Keyword::Trailing => "TRAILING",
+        Keyword::Both => "BOTH",
+        Keyword::Case => "CASE",
+        Keyword::When => "WHEN",
+        Keyword::Then => "THEN",
+        Keyword::Else => "ELSE",
+        Keyword::End => "END",
+        Keyword::All => "ALL",
+        Keyword::Any => "ANY",
+        Keyword::Some => "SOME",
     }
 }
 
@@ -124,10 +158,28 @@ fn first_keyword(keywords: &[Keyword], word: &str) -> Option<Keyword>
     None
 }
 
-/// The word of the grammar that the word is, whatever its case.
 #[tactic(auto, unfolding(jpql_tree::specs::Text::keyword_of))]
-pub fn keyword_of(word: &str) -> Option<Keyword>
-    ensures { result ≡ spec.keyword_of word.now }
+fn profile_keyword(word: &str) -> Option<Keyword>
+    ensures { result ≡ spec.keyword_of language.Profile word.now }
 {
-    first_keyword(&KEYWORDS, word)
+    first_keyword(&PROFILE_KEYWORDS, word)
+}
+
+fn wide_keyword(word: &str) -> Option<Keyword>
+    ensures { result ≡ spec.keyword_of language.Wide word.now }
+{
+    match profile_keyword(word) {
+        Some(keyword) => Some(keyword),
+        None => first_keyword(&WIDE_KEYWORDS, word),
+    }
+}
+
+/// The word of the language's grammar that the word is, whatever its case.
+pub fn keyword_of(language: Language, word: &str) -> Option<Keyword>
+    ensures { result ≡ spec.keyword_of language word.now }
+{
+    match language {
+        Language::Profile => profile_keyword(word),
+        Language::Wide => wide_keyword(word),
+    }
 }

@@ -1,6 +1,7 @@
 //! Pieces of a text, and all of them.
 ghost use Rattle.std.specs.Prelude.{◌≡◌, ◌∷◌, ◌++◌, [], length, OnOk, IfOk, false, true, Some, None, MatchOption, ◌<◌, if◌then◌else◌, Err, List, ℕ};
 ghost use Rattle.jpql_tree.specs.Text.{IsText};
+ghost use Rattle.jpql_tree.specs.declared.Language.{Language};
 ghost use Rattle.jpql_tree.specs.declared.token.Token.{Token};
 ghost use Rattle.jpql_lexer.specs.declared.error.ReadError.TheVariants.{Syntax};
 ghost use Rattle.std.specs.Char.{is_ascii_digit};
@@ -16,25 +17,25 @@ use crate::cut::{Class, first, skip_one, split_run};
 use crate::error::ReadError;
 use crate::keywords::keyword_of;
 use jpa_value::Text;
-use jpql_tree::{Mark, Token};
+use jpql_tree::{Language, Mark, Token};
 use std::alloc::{AllocError, Global};
 
-fn word_token(alloc: Global, word: &str) -> Result<Token, AllocError>
-    ensures { IfOk result (λ t. t ≡ word_of (text_spec.keyword_of word.now) word.now) }
+fn word_token(alloc: Global, language: Language, word: &str) -> Result<Token, AllocError>
+    ensures { IfOk result (λ t. t ≡ word_of (text_spec.keyword_of language word.now) word.now) }
 {
     let text = Text::of(alloc, word)?;
-    match keyword_of(word) {
+    match keyword_of(language, word) {
         None => Ok(Token::Word(text)),
         Some(keyword) => Ok(Token::Key(keyword, text)),
     }
 }
 
 #[tactic(auto, unfolding(jpql_tree::specs::Lexing::word_at))]
-fn word(alloc: Global, text: &str) -> Result<(Token, &str), ReadError>
-    ensures { Gives (λ r. (r.0 ∷ [], r.1.now)) result (as_tokens (spec.word_at text.now)) }
+fn word(alloc: Global, language: Language, text: &str) -> Result<(Token, &str), ReadError>
+    ensures { Gives (λ r. (r.0 ∷ [], r.1.now)) result (as_tokens language (spec.word_at text.now)) }
 {
     let (word, rest) = split_run(Class::Word, text);
-    Ok((word_token(alloc, word)?, rest))
+    Ok((word_token(alloc, language, word)?, rest))
 }
 
 fn number(digits: &str) -> Option<i64>
@@ -51,7 +52,8 @@ fn number(digits: &str) -> Option<i64>
 #[tactic(auto, unfolding(jpql_tree::specs::Lexing::digits_at))]
 fn digits(text: &str) -> Result<(Token, &str), ReadError>
     requires { begins is_ascii_digit text.now ≡ true }
-    ensures { Gives (λ r. (r.0 ∷ [], r.1.now)) result (as_tokens (spec.digits_at text.now)) }
+    ensures { (l : Language) → Gives (λ r. (r.0 ∷ [], r.1.now)) result
+        (as_tokens l (spec.digits_at text.now)) }
 {
     let (digits, rest) = split_run(Class::Digit, text);
     match number(digits) {
@@ -110,7 +112,8 @@ fn quoted(alloc: Global, text: &str) -> Result<(Text, &str), ReadError>
 
 #[tactic(auto, unfolding(jpql_tree::specs::Lexing::quotes_at))]
 fn quotes(alloc: Global, text: &str) -> Result<(Token, &str), ReadError>
-    ensures { Gives (λ r. (r.0 ∷ [], r.1.now)) result (as_tokens (spec.quotes_at text.now)) }
+    ensures { (l : Language) → Gives (λ r. (r.0 ∷ [], r.1.now)) result
+        (as_tokens l (spec.quotes_at text.now)) }
 {
     let (text, rest) = quoted(alloc, text)?;
     Ok((Token::Quoted(text), rest))
@@ -131,7 +134,8 @@ fn begins_digits(text: &str) -> bool
 
 #[tactic(auto, unfolding(jpql_tree::specs::Lexing::named_at))]
 fn named(alloc: Global, text: &str) -> Result<(Token, &str), ReadError>
-    ensures { Gives (λ r. (r.0 ∷ [], r.1.now)) result (as_tokens (spec.named_at text.now)) }
+    ensures { (l : Language) → Gives (λ r. (r.0 ∷ [], r.1.now)) result
+        (as_tokens l (spec.named_at text.now)) }
 {
     if !begins_word(text) {
         return Err(ReadError::Syntax);
@@ -142,7 +146,8 @@ fn named(alloc: Global, text: &str) -> Result<(Token, &str), ReadError>
 
 #[tactic(auto, unfolding(jpql_tree::specs::Lexing::numbered_at))]
 fn numbered(alloc: Global, text: &str) -> Result<(Token, &str), ReadError>
-    ensures { Gives (λ r. (r.0 ∷ [], r.1.now)) result (as_tokens (spec.numbered_at text.now)) }
+    ensures { (l : Language) → Gives (λ r. (r.0 ∷ [], r.1.now)) result
+        (as_tokens l (spec.numbered_at text.now)) }
 {
     if !begins_digits(text) || first(text) == b'0' {
         return Err(ReadError::Syntax);
@@ -201,7 +206,8 @@ fn is_long(mark: Mark) -> bool
 #[tactic(auto, unfolding(jpql_tree::specs::Lexing::mark_at))]
 fn mark(text: &str) -> Result<(Token, &str), ReadError>
     requires { 0 < length text.now }
-    ensures { Gives (λ r. (r.0 ∷ [], r.1.now)) result (as_tokens (spec.mark_at text.now)) }
+    ensures { (l : Language) → Gives (λ r. (r.0 ∷ [], r.1.now)) result
+        (as_tokens l (spec.mark_at text.now)) }
 {
     let byte = first(text);
     if byte >= 128 {
@@ -226,14 +232,19 @@ fn is_blank(byte: u8) -> bool
 
 /// The token that begins with this byte.
 #[tactic(auto, unfolding(jpql_tree::specs::Lexing::piece_at))]
-fn token(alloc: Global, byte: u8, text: &str) -> Result<(Token, &str), ReadError>
+fn token(
+    alloc: Global,
+    language: Language,
+    byte: u8,
+    text: &str,
+) -> Result<(Token, &str), ReadError>
     requires some { 0 < length text.now }
     requires first { byte ≡ spec.first text.now }
     requires solid { text_spec.is_blank byte ≡ false }
-    ensures { Gives (λ r. (r.0 ∷ [], r.1.now)) result (as_tokens (spec.piece_at text.now)) }
+    ensures { Gives (λ r. (r.0 ∷ [], r.1.now)) result (as_tokens language (spec.piece_at text.now)) }
 {
     if begins_word(text) {
-        word(alloc, text)
+        word(alloc, language, text)
     } else if byte.is_ascii_digit() {
         digits(text)
     } else if byte == b'\'' {
@@ -248,8 +259,8 @@ fn token(alloc: Global, byte: u8, text: &str) -> Result<(Token, &str), ReadError
 }
 
 #[tactic(auto, unfolding(jpql_tree::specs::Lexing::piece_at))]
-fn piece(alloc: Global, text: &str) -> Result<(Option<Token>, &str), ReadError>
-    ensures { Gives (λ r. (one_if_any r.0, r.1.now)) result (as_tokens (spec.piece_at text.now)) }
+fn piece(alloc: Global, language: Language, text: &str) -> Result<(Option<Token>, &str), ReadError>
+    ensures { Gives (λ r. (one_if_any r.0, r.1.now)) result (as_tokens language (spec.piece_at text.now)) }
 {
     if text.is_empty() {
         return Err(ReadError::Syntax);
@@ -258,7 +269,7 @@ fn piece(alloc: Global, text: &str) -> Result<(Option<Token>, &str), ReadError>
     if is_blank(byte) {
         return Ok((None, skip_one(text)));
     }
-    let (token, rest) = token(alloc, byte, text)?;
+    let (token, rest) = token(alloc, language, byte, text)?;
     Ok((Some(token), rest))
 }
 
@@ -273,8 +284,9 @@ fn add(found: &mut Vec<Token>, token: Option<Token>) -> Result<(), AllocError>
 
 /// The tokens of a text.
 #[tactic(auto, unfolding(jpql_tree::specs::Lexing::tokens_at))]
-fn cut(alloc: Global, text: &str) -> Result<Vec<Token>, ReadError>
-    ensures { Gives (λ found. found.items) result (spec.tokens_at (length text.now) [] text.now) }
+fn cut(alloc: Global, language: Language, text: &str) -> Result<Vec<Token>, ReadError>
+    ensures { Gives (λ found. found.items) result
+        (spec.tokens_at language (length text.now) [] text.now) }
 {
     let mut found = Vec::new(alloc);
     let mut rest = text;
@@ -282,29 +294,29 @@ fn cut(alloc: Global, text: &str) -> Result<Vec<Token>, ReadError>
         if rest.is_empty() {
             return Ok(found);
         }
-        let (token, more) = piece(alloc, rest)?;
+        let (token, more) = piece(alloc, language, rest)?;
         add(&mut found, token)?;
         rest = more;
     }
     Ok(found)
 }
 
-/// The tokens of a text. `Memory` where a growth was refused; `Syntax` exactly where the text has
-/// no tokens: at a byte that begins none, an integer above 9223372036854775807, a text whose quote
-/// doesn't close, or a parameter without a name (Jakarta Persistence 3.1, chapters 4.4.1, 4.6.1 and
-/// 4.6.4).
-pub fn tokens(alloc: Global, text: &str) -> Result<Vec<Token>, ReadError>
-    ensures found { IfOk result (λ found. IsText text.now found.items) }
-    ensures only { (tokens : List Token) → IsText text.now tokens →
+/// The tokens of a text in a language. `Memory` where a growth was refused; `Syntax` exactly where
+/// the text has no tokens, which is so in both languages or in none: at a byte that begins none, an
+/// integer above 9223372036854775807, a text whose quote doesn't close, or a parameter without a
+/// name (Jakarta Persistence 3.1, chapters 4.4.1, 4.6.1 and 4.6.4).
+pub fn tokens(alloc: Global, language: Language, text: &str) -> Result<Vec<Token>, ReadError>
+    ensures found { IfOk result (λ found. IsText language text.now found.items) }
+    ensures only { (tokens : List Token) → IsText language text.now tokens →
         Gives (λ found. found.items) result (Some tokens) }
-    ensures none { result ≡ Err Syntax → (tokens : List Token) → IsText text.now tokens →
-        ⊥ }
+    ensures none { result ≡ Err Syntax → (tokens : List Token) →
+        IsText language text.now tokens → ⊥ }
 {
-    cut(alloc, text)
+    cut(alloc, language, text)
 }
 
-/// A text has at most one list of tokens.
+/// A text has at most one list of tokens in a language.
 pub fn at_most_one_list()
-    ensures { (text : List ℕ) (one other : List Token) → IsText text one →
-        IsText text other → one ≡ other }
+    ensures { (l : Language) (text : List ℕ) (one other : List Token) → IsText l text one →
+        IsText l text other → one ≡ other }
 {}

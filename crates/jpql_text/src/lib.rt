@@ -1,6 +1,6 @@
 //! The reader of the Jakarta Persistence Query Language (Jakarta Persistence 3.1, chapter 4).
 //!
-//! `read_query` takes a text, seen as its bytes, to the tree of `jpql_tree`. That crate has the
+//! `read_query` takes a text of a language, seen as its bytes, to the tree of `jpql_tree`. That crate has the
 //! grammar as a relation between texts and trees (`specs/Queries`), reading as functions on lists
 //! (`specs/Values`, `Conditions`, `Statements`), and the laws that these are the grammar.
 //! `jpql_lexer` cuts the text into tokens, `jpql_conditions` reads values and conditions, and here
@@ -15,4 +15,4 @@ mod read;
 mod statements;
 mod variables;
 
-pub use read::{at_most_one_tree, read_query};
+pub use read::{a_profile_text_is_wide, at_most_one_tree, read_query};

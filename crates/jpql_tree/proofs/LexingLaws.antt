@@ -3,6 +3,7 @@ use Rattle.std.proofs.lemmas.Bool.Decides.{nat_tests}
 use Rattle.std.proofs.Common.{◌≡◌, ℕ, zero, suc, ◌≤◌, ◌<◌, ◌==◌, Bool, true, false, not, ◌&&◌, nat_le, List, [], ◌∷◌, ◌++◌, drop, length, Some, refl, ap, sym, ◌∙◌, subst, arith, append_assoc, append-nil, eqb-true}
 use Rattle.std.specs.List.{list_all}
 use Rattle.std.specs.Char.{is_ascii_digit}
+use Rattle.jpql_tree.specs.declared.Language.{Language}
 use Rattle.jpql_tree.specs.declared.token.Mark.{Mark}
 use Rattle.jpql_tree.specs.declared.token.Mark.TheVariants as m
 use Rattle.jpql_tree.specs.declared.token.Token.{Token}
@@ -285,41 +286,41 @@ piece_long (mark m.AtLeast) rest h = omega arith
 -- ---- whole texts
 
 -- tokens that were found, and those of the text
-abbrev Spells : List Token → Text → List Token → Type 0
-Spells found text tokens = (ps : List Piece) × AllSpelled ps × (write_pieces ps ≡ text) × (found ++ tokens_of ps ≡ tokens)
+abbrev Spells : Language → List Token → Text → List Token → Type 0
+Spells l found text tokens = (ps : List Piece) × AllSpelled ps × (write_pieces ps ≡ text) × (found ++ tokens_of l ps ≡ tokens)
 
-more_spelled : (found : List Token) (text : Text) (x : Piece × Text) (tokens : List Token) → Cut text x → Spells (found ++ piece_tokens x.0) x.1 tokens → Spells found text tokens
-more_spelled found text x tokens (e, s) (ps, all, es, ts) =
-    (x.0 ∷ ps, (rw es s, all), rw es e, sym (append_assoc found (piece_tokens x.0) (tokens_of ps)) ∙ ts)
+more_spelled : (l : Language) (found : List Token) (text : Text) (x : Piece × Text) (tokens : List Token) → Cut text x → Spells l (found ++ piece_tokens l x.0) x.1 tokens → Spells l found text tokens
+more_spelled l found text x tokens (e, s) (ps, all, es, ts) =
+    (x.0 ∷ ps, (rw es s, all), rw es e, sym (append_assoc found (piece_tokens l x.0) (tokens_of l ps)) ∙ ts)
 
-spelled_sound : (n : ℕ) (found : List Token) (text : Text) (tokens : List Token) → length text ≤ n → tokens_at n found text ≡ Some tokens → Spells found text tokens
+spelled_sound : (l : Language) (n : ℕ) (found : List Token) (text : Text) (tokens : List Token) → length text ≤ n → tokens_at l n found text ≡ Some tokens → Spells l found text tokens
 unfolding tokens_at
-spelled_sound zero found [] tokens l h = ([], tt, refl, append-nil found ∙ same _ _ h)
-spelled_sound (suc n) found [] tokens l h = ([], tt, refl, append-nil found ∙ same _ _ h)
-spelled_sound zero found (b ∷ bs) tokens l h = absurd (omega arith)
-spelled_sound (suc n) found (b ∷ bs) tokens l h = step (piece_at (b ∷ bs)) _ _ h (λ x ex hx.
+spelled_sound l zero found [] tokens short h = ([], tt, refl, append-nil found ∙ same _ _ h)
+spelled_sound l (suc n) found [] tokens short h = ([], tt, refl, append-nil found ∙ same _ _ h)
+spelled_sound l zero found (b ∷ bs) tokens short h = absurd (omega arith)
+spelled_sound l (suc n) found (b ∷ bs) tokens short h = step (piece_at (b ∷ bs)) _ _ h (λ x ex hx.
     let c = piece_sound (b ∷ bs) x ex in
     let shorter_rest = piece_long x.0 x.1 (c.1) in
     let rest_length = ap length (c.0) in
-    more_spelled found (b ∷ bs) x tokens c (spelled_sound n (found ++ piece_tokens x.0) x.1 tokens (omega arith) hx))
+    more_spelled l found (b ∷ bs) x tokens c (spelled_sound l n (found ++ piece_tokens l x.0) x.1 tokens (omega arith) hx))
 
-pub one_piece : (n : ℕ) (found : List Token) (text : Text) (x : Piece × Text) → piece_at text ≡ Some x → tokens_at (suc n) found text ≡ tokens_at n (found ++ piece_tokens x.0) x.1
+pub one_piece : (l : Language) (n : ℕ) (found : List Token) (text : Text) (x : Piece × Text) → piece_at text ≡ Some x → tokens_at l (suc n) found text ≡ tokens_at l n (found ++ piece_tokens l x.0) x.1
 unfolding tokens_at piece_at
-one_piece n found [] x h = absurd cc
-one_piece n found (b ∷ bs) x h = rw h
+one_piece l n found [] x h = absurd cc
+one_piece l n found (b ∷ bs) x h = rw h
 
-spelled_complete : (ps : List Piece) (n : ℕ) (found : List Token) → AllSpelled ps → length (write_pieces ps) ≤ n → tokens_at n found (write_pieces ps) ≡ Some (found ++ tokens_of ps)
+spelled_complete : (l : Language) (ps : List Piece) (n : ℕ) (found : List Token) → AllSpelled ps → length (write_pieces ps) ≤ n → tokens_at l n found (write_pieces ps) ≡ Some (found ++ tokens_of l ps)
 unfolding tokens_at
-spelled_complete [] zero found s l = rw append-nil
-spelled_complete [] (suc n) found s l = rw append-nil
-spelled_complete (p ∷ ps) zero found s l = absurd (omega (arith, piece_long p (write_pieces ps) (s.0)))
-spelled_complete (p ∷ ps) (suc n) found s l =
-    one_piece n found (write_piece p (write_pieces ps)) (p, write_pieces ps) (piece_complete p (write_pieces ps) (s.0))
-    ∙ (spelled_complete ps n (found ++ piece_tokens p) (s.1) (omega (arith, piece_long p (write_pieces ps) (s.0))) ∙ rw append_assoc)
+spelled_complete l [] zero found s short = rw append-nil
+spelled_complete l [] (suc n) found s short = rw append-nil
+spelled_complete l (p ∷ ps) zero found s short = absurd (omega (arith, piece_long p (write_pieces ps) (s.0)))
+spelled_complete l (p ∷ ps) (suc n) found s short =
+    one_piece l n found (write_piece p (write_pieces ps)) (p, write_pieces ps) (piece_complete p (write_pieces ps) (s.0))
+    ∙ (spelled_complete l ps n (found ++ piece_tokens l p) (s.1) (omega (arith, piece_long p (write_pieces ps) (s.0))) ∙ rw append_assoc)
 
 -- The tokens that are read are those of the text, and each text that has tokens is read.
-pub tokens_sound : (text : Text) (tokens : List Token) → tokens_at (length text) [] text ≡ Some tokens → IsText text tokens
-tokens_sound text tokens h = spelled_sound (length text) [] text tokens (omega arith) h
+pub tokens_sound : (l : Language) (text : Text) (tokens : List Token) → tokens_at l (length text) [] text ≡ Some tokens → IsText l text tokens
+tokens_sound l text tokens h = spelled_sound l (length text) [] text tokens (omega arith) h
 
-pub tokens_complete : (text : Text) (tokens : List Token) → IsText text tokens → tokens_at (length text) [] text ≡ Some tokens
-tokens_complete text tokens (ps, s, e, t) = rw (← e) (spelled_complete ps (length (write_pieces ps)) [] s (omega arith) ∙ ap Some t)
+pub tokens_complete : (l : Language) (text : Text) (tokens : List Token) → IsText l text tokens → tokens_at l (length text) [] text ≡ Some tokens
+tokens_complete l text tokens (ps, s, e, t) = rw (← e) (spelled_complete l ps (length (write_pieces ps)) [] s (omega arith) ∙ ap Some t)

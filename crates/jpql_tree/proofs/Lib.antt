@@ -1,6 +1,7 @@
 pub mod Skips
 pub mod Scan
 pub mod Tools
+pub mod Calls
 pub mod ValuesComplete
 pub mod ValuesSound
 pub mod TestsSound
@@ -13,3 +14,6 @@ pub mod One
 pub mod LexingLaws
 pub mod NestingLaws
 pub mod Queries
+pub mod Words
+mod Samples
+mod CallSamples

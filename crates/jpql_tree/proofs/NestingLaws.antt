@@ -3,6 +3,7 @@ use Rattle.std.proofs.lemmas.Bool.Decides.{nat_tests}
 use Rattle.std.proofs.Common.{◌≡◌, ℕ, zero, suc, ◌==◌, ◌+◌, ◌-◌, Bool, true, false, not, ◌||◌, nat_le, List, [], ◌∷◌, ◌++◌, Option, Some, None, refl, ap, sym, ◌∙◌, arith}
 use Rattle.std.specs.List.{list_all}
 use Rattle.std.specs.Char.{is_ascii_digit}
+use Rattle.jpql_tree.specs.declared.Language.{Language}
 use Rattle.jpql_tree.specs.declared.token.Keyword.{Keyword}
 use Rattle.jpql_tree.specs.declared.token.Mark.{Mark}
 use Rattle.jpql_tree.specs.declared.token.Mark.TheVariants as m
@@ -56,38 +57,38 @@ unfolding too_deep
 word_deep most n None w ts = refl
 word_deep most n (Some j) w ts = refl
 
-mark_nests : (most n : ℕ) (x : Mark) (rest : Text) (ts : List Token) → ((n : ℕ) → nests_over most false n rest ≡ too_deep most n ts)
-    → nests_over most false n (write_piece (mark x) rest) ≡ too_deep most n (piece_tokens (mark x) ++ ts)
+mark_nests : (l : Language) (most n : ℕ) (x : Mark) (rest : Text) (ts : List Token) → ((n : ℕ) → nests_over most false n rest ≡ too_deep most n ts)
+    → nests_over most false n (write_piece (mark x) rest) ≡ too_deep most n (piece_tokens l (mark x) ++ ts)
 unfolding nests_over too_deep
-mark_nests most n m.Open rest ts e = ap (λ c. nat_le most n || c) (e (suc n))
-mark_nests most zero m.Close rest ts e = e zero
-mark_nests most (suc n) m.Close rest ts e = e n
-mark_nests most n m.Comma rest ts e = e n
-mark_nests most n m.Dot rest ts e = e n
-mark_nests most n m.Plus rest ts e = e n
-mark_nests most n m.Minus rest ts e = e n
-mark_nests most n m.Star rest ts e = e n
-mark_nests most n m.Equal rest ts e = e n
-mark_nests most n m.Different rest ts e = e n
-mark_nests most n m.Less rest ts e = e n
-mark_nests most n m.AtMost rest ts e = e n
-mark_nests most n m.Greater rest ts e = e n
-mark_nests most n m.AtLeast rest ts e = e n
+mark_nests l most n m.Open rest ts e = ap (λ c. nat_le most n || c) (e (suc n))
+mark_nests l most zero m.Close rest ts e = e zero
+mark_nests l most (suc n) m.Close rest ts e = e n
+mark_nests l most n m.Comma rest ts e = e n
+mark_nests l most n m.Dot rest ts e = e n
+mark_nests l most n m.Plus rest ts e = e n
+mark_nests l most n m.Minus rest ts e = e n
+mark_nests l most n m.Star rest ts e = e n
+mark_nests l most n m.Equal rest ts e = e n
+mark_nests l most n m.Different rest ts e = e n
+mark_nests l most n m.Less rest ts e = e n
+mark_nests l most n m.AtMost rest ts e = e n
+mark_nests l most n m.Greater rest ts e = e n
+mark_nests l most n m.AtLeast rest ts e = e n
 
-pieces_nest : (most n : ℕ) (ps : List Piece) → AllSpelled ps → nests_over most false n (write_pieces ps) ≡ too_deep most n (tokens_of ps)
+pieces_nest : (l : Language) (most n : ℕ) (ps : List Piece) → AllSpelled ps → nests_over most false n (write_pieces ps) ≡ too_deep most n (tokens_of l ps)
 unfolding nests_over too_deep
-pieces_nest most n [] s = refl
-pieces_nest most n (blank b ∷ ps) s = plain_byte most n b (write_pieces ps) (blank_plain b (s.0)) ∙ pieces_nest most n ps (s.1)
-pieces_nest most n (bare w ∷ ps) s =
-    plain_run is_in_word word_plain most n w (write_pieces ps) (s.0.0.1) ∙ (pieces_nest most n ps (s.1) ∙ sym (word_deep most n (keyword_of w) w (tokens_of ps)))
-pieces_nest most n (digits w ∷ ps) s = plain_run is_ascii_digit digit_plain most n w (write_pieces ps) (s.0.0.1) ∙ pieces_nest most n ps (s.1)
-pieces_nest most n (quoted w ∷ ps) s = quoted_nests most n w (write_pieces ps) ∙ pieces_nest most n ps (s.1)
-pieces_nest most n (named w ∷ ps) s = plain_run is_in_word word_plain most n w (write_pieces ps) (s.0.0.1) ∙ pieces_nest most n ps (s.1)
-pieces_nest most n (numbered w ∷ ps) s = plain_run is_ascii_digit digit_plain most n w (write_pieces ps) (s.0.0.1) ∙ pieces_nest most n ps (s.1)
-pieces_nest most n (mark x ∷ ps) s = mark_nests most n x (write_pieces ps) (tokens_of ps) (λ n. pieces_nest most n ps (s.1))
+pieces_nest l most n [] s = refl
+pieces_nest l most n (blank b ∷ ps) s = plain_byte most n b (write_pieces ps) (blank_plain b (s.0)) ∙ pieces_nest l most n ps (s.1)
+pieces_nest l most n (bare w ∷ ps) s =
+    plain_run is_in_word word_plain most n w (write_pieces ps) (s.0.0.1) ∙ (pieces_nest l most n ps (s.1) ∙ sym (word_deep most n (keyword_of l w) w (tokens_of l ps)))
+pieces_nest l most n (digits w ∷ ps) s = plain_run is_ascii_digit digit_plain most n w (write_pieces ps) (s.0.0.1) ∙ pieces_nest l most n ps (s.1)
+pieces_nest l most n (quoted w ∷ ps) s = quoted_nests most n w (write_pieces ps) ∙ pieces_nest l most n ps (s.1)
+pieces_nest l most n (named w ∷ ps) s = plain_run is_in_word word_plain most n w (write_pieces ps) (s.0.0.1) ∙ pieces_nest l most n ps (s.1)
+pieces_nest l most n (numbered w ∷ ps) s = plain_run is_ascii_digit digit_plain most n w (write_pieces ps) (s.0.0.1) ∙ pieces_nest l most n ps (s.1)
+pieces_nest l most n (mark x ∷ ps) s = mark_nests l most n x (write_pieces ps) (tokens_of l ps) (λ n. pieces_nest l most n ps (s.1))
 
-pub text_nests : (most : ℕ) (text : Text) (tokens : List Token) → IsText text tokens → nests_over most false 0 text ≡ too_deep most 0 tokens
-text_nests most text tokens (ps, s, e, t) = ap (nests_over most false 0) (sym e) ∙ (pieces_nest most 0 ps s ∙ ap (too_deep most 0) t)
+pub text_nests : (l : Language) (most : ℕ) (text : Text) (tokens : List Token) → IsText l text tokens → nests_over most false 0 text ≡ too_deep most 0 tokens
+text_nests l most text tokens (ps, s, e, t) = ap (nests_over most false 0) (sym e) ∙ (pieces_nest l most 0 ps s ∙ ap (too_deep most 0) t)
 
 closed_less : (n : ℕ) → one_closed n ≡ n - 1
 closed_less zero = omega arith

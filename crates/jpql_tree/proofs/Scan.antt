@@ -1,10 +1,13 @@
 -- Whether a parenthesis opens a condition or a value is seen by the tokens inside it: a value has no token that stands in
 -- tests alone, and each condition has one.
-use Rattle.std.proofs.Common.{◌≡◌, ℕ, zero, suc, true, false, List, [], ◌∷◌, Some, None, refl, ◌∙◌}
+use Rattle.std.proofs.Common.{◌≡◌, ℕ, zero, suc, true, false, List, [], ◌∷◌, Option, Some, None, refl, ◌∙◌}
+use Rattle.jpql_tree.specs.declared.token.Keyword.TheVariants as k
 use Rattle.jpql_tree.specs.declared.token.Token.{Token}
+use Rattle.jpql_tree.specs.declared.token.Token.TheVariants as t
+use Rattle.jpql_tree.specs.declared.Trimmed.TheVariants as side
 use Rattle.jpql_tree.specs.declared.Aggregate.TheVariants as g
 use Rattle.jpql_tree.specs.declared.Comparison.TheVariants as c
-use Rattle.jpql_tree.specs.Grammar.{Name, plain, word, Steps, Value°, sum, Sums°, no_sums, plus, minus, Product°, product, Times°, no_times, times, Unary°, unsigned, positive, negative, Atom°, integer, text, parameter, path, call, group, Call°, length_of, concat, substring_from, substring, locate, locate_from, abs, modulo, size, coalesce, null_if, aggregate, aggregate_distinct, More°, no_more, more, write_names, write_path, write_value, write_sums, write_product, write_times, write_unary, write_atom, write_call, write_more, Cond°, cond, conj, maybe_not, Test°, inside, compare, between, among, like, null, empty, member, exists, type_is, type_is_not, type_among, write_cond, write_ors, write_ands, write_test}
+use Rattle.jpql_tree.specs.Grammar.{Name, plain, word, Steps, Value°, sum, Sums°, no_sums, plus, minus, Product°, product, Times°, no_times, times, Unary°, unsigned, positive, negative, Atom°, integer, text, parameter, path, call, group, Call°, length_of, concat, substring_from, substring, locate, locate_from, abs, modulo, size, coalesce, null_if, upper, lower, trim, aggregate, aggregate_distinct, More°, no_more, more, write_names, write_path, Taken°, taken_text, taken_parameter, Trimming°, unwritten_trimming, sided, unsided, write_taken, write_trimming, write_value, write_sums, write_product, write_times, write_unary, write_atom, write_call, write_more, Cond°, cond, conj, maybe_not, Test°, inside, compare, between, among, like, null, empty, member, exists, type_is, type_is_not, type_among, write_cond, write_ors, write_ands, write_test}
 use Rattle.jpql_tree.specs.Conditions.{has_test}
 use Rattle.jpql_tree.proofs.Skips.{close, comma}
 
@@ -20,6 +23,21 @@ path_scan : (p : Steps) (d : ℕ) (rest : List Token) → has_test d false (writ
 unfolding has_test
 path_scan p zero rest = names_scan p.names zero rest
 path_scan p (suc d) rest = names_scan p.names (suc d) rest
+
+-- inside the parenthesis of TRIM
+taken_scan : (x : Option Taken°) (d : ℕ) (rest : List Token) → has_test (suc d) false (write_taken x rest) ≡ has_test (suc d) false rest
+unfolding has_test
+taken_scan None d rest = refl
+taken_scan (Some (taken_text w)) d rest = refl
+taken_scan (Some (taken_parameter w)) d rest = refl
+
+trimming_scan : (x : Trimming°) (d : ℕ) (rest : List Token) → has_test (suc d) false (write_trimming x rest) ≡ has_test (suc d) false rest
+unfolding has_test
+trimming_scan unwritten_trimming d rest = refl
+trimming_scan (sided side.Leading w x u) d rest = taken_scan x d (t.Key k.From u ∷ rest)
+trimming_scan (sided side.Trailing w x u) d rest = taken_scan x d (t.Key k.From u ∷ rest)
+trimming_scan (sided side.Both w x u) d rest = taken_scan x d (t.Key k.From u ∷ rest)
+trimming_scan (unsided x u) d rest = taken_scan (Some x) d (t.Key k.From u ∷ rest)
 
 mutual
   unfolding has_test
@@ -83,6 +101,12 @@ mutual
   call_scan (coalesce w a b all) (suc d) rest = value_scan a (suc (suc d)) (comma (write_value b (write_more all (close rest)))) ∙ (value_scan b (suc (suc d)) (write_more all (close rest)) ∙ (more_scan all (suc (suc d)) (close rest)))
   call_scan (null_if w a b) zero rest = value_scan a 1 (comma (write_value b (close rest))) ∙ value_scan b 1 (close rest)
   call_scan (null_if w a b) (suc d) rest = value_scan a (suc (suc d)) (comma (write_value b (close rest))) ∙ value_scan b (suc (suc d)) (close rest)
+  call_scan (upper w a) zero rest = value_scan a 1 (close rest)
+  call_scan (upper w a) (suc d) rest = value_scan a (suc (suc d)) (close rest)
+  call_scan (lower w a) zero rest = value_scan a 1 (close rest)
+  call_scan (lower w a) (suc d) rest = value_scan a (suc (suc d)) (close rest)
+  call_scan (trim w x a) zero rest = trimming_scan x 0 (write_value a (close rest)) ∙ value_scan a 1 (close rest)
+  call_scan (trim w x a) (suc d) rest = trimming_scan x (suc d) (write_value a (close rest)) ∙ value_scan a (suc (suc d)) (close rest)
   call_scan (size w p) zero rest = path_scan p 1 (close rest)
   call_scan (aggregate g.Count w a) zero rest = value_scan a 1 (close rest)
   call_scan (aggregate_distinct g.Count w u a) zero rest = value_scan a 1 (close rest)

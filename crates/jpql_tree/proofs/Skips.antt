@@ -10,7 +10,7 @@ use Rattle.jpql_tree.specs.declared.Comparison.{Comparison}
 use Rattle.jpql_tree.specs.declared.Comparison.TheVariants as c
 use Rattle.jpql_tree.specs.Same.{same_mark}
 use Rattle.jpql_tree.specs.Nesting.{too_deep}
-use Rattle.jpql_tree.specs.Grammar.{Text, Name, plain, word, name_token, Steps, write_names, write_path, Value°, sum, Sums°, no_sums, plus, minus, Product°, product, Times°, no_times, times, Unary°, unsigned, positive, negative, Atom°, integer, text, parameter, path, call, group, Call°, length_of, concat, substring_from, substring, locate, locate_from, abs, modulo, size, coalesce, null_if, aggregate, aggregate_distinct, More°, no_more, more, write_value, write_sums, write_product, write_times, write_unary, write_atom, write_call, write_more, Written, write_word, Named, write_named, write_optional_name, Item°, write_item, write_others, comparison_mark, write_escape, Side, inner, left, write_side, Range, entity, related, write_range, Cond°, cond, Ors°, no_ors, or, And°, conj, Ands°, no_ands, and, Not°, maybe_not, Test°, inside, compare, between, among, like, null, empty, member, exists, type_is, type_is_not, type_among, Sub°, sub, Source°, source, Sources°, no_sources, sources, Joins°, no_joins, joins, Join°, join, On°, no_on, on, Where°, no_where, filter, write_cond, write_ors, write_and, write_ands, write_not, write_test, write_sub, write_source, write_sources, write_joins, write_join, write_on, write_where, Direction, unwritten, ascending, descending, write_direction, Key°, by_name, by_path, write_key, Clause, no_clause, clause, write_clause, Having°, no_having, having, write_having, Set°, to_value, to_null, write_set, From°, from_entity, write_from}
+use Rattle.jpql_tree.specs.Grammar.{Text, Name, plain, word, name_token, Steps, write_names, write_path, Taken°, taken_text, taken_parameter, Trimming°, unwritten_trimming, sided, unsided, write_taken, write_trimming, Value°, sum, Sums°, no_sums, plus, minus, Product°, product, Times°, no_times, times, Unary°, unsigned, positive, negative, Atom°, integer, text, parameter, path, call, group, Call°, length_of, concat, substring_from, substring, locate, locate_from, abs, modulo, size, coalesce, null_if, upper, lower, trim, aggregate, aggregate_distinct, More°, no_more, more, write_value, write_sums, write_product, write_times, write_unary, write_atom, write_call, write_more, Written, write_word, Named, write_named, write_optional_name, Item°, write_item, write_others, comparison_mark, write_escape, Side, inner, left, write_side, Range, entity, related, write_range, Cond°, cond, Ors°, no_ors, or, And°, conj, Ands°, no_ands, and, Not°, maybe_not, Test°, inside, compare, between, among, like, null, empty, member, exists, type_is, type_is_not, type_among, Sub°, sub, Source°, source, Sources°, no_sources, sources, Joins°, no_joins, joins, Join°, join, On°, no_on, on, Where°, no_where, filter, write_cond, write_ors, write_and, write_ands, write_not, write_test, write_sub, write_source, write_sources, write_joins, write_join, write_on, write_where, Direction, unwritten, ascending, descending, write_direction, Key°, by_name, by_path, write_key, Clause, no_clause, clause, write_clause, Having°, no_having, having, write_having, Set°, to_value, to_null, write_set, From°, from_entity, write_from}
 
 abbrev pub opened : List Token → List Token
 opened rest = t.Mark m.Open ∷ rest
@@ -99,6 +99,16 @@ names_skip (n ∷ ns) rest = mark refl refl (chain (name_skip n (write_names ns 
 pub path_skip : (p : Steps) (rest : List Token) → Skips (write_path p rest) rest
 path_skip p rest = bare (names_skip p.names rest)
 
+taken_skip : (x : Option Taken°) (rest : List Token) → Skips (write_taken x rest) rest
+taken_skip None rest = stay
+taken_skip (Some (taken_text w)) rest = pass (quoted_past w rest) stay
+taken_skip (Some (taken_parameter w)) rest = pass (parameter_past w rest) stay
+
+pub trimming_skip : (x : Trimming°) (rest : List Token) → Skips (write_trimming x rest) rest
+trimming_skip unwritten_trimming rest = stay
+trimming_skip (sided h w x u) rest = key (chain (taken_skip x (t.Key k.From u ∷ rest)) (key stay))
+trimming_skip (unsided x u) rest = chain (taken_skip (Some x) (t.Key k.From u ∷ rest)) (key stay)
+
 mutual
   pub value_skip : (x : Value°) (rest : List Token) → Skips (write_value x rest) rest
   value_skip (sum p ps) rest = chain (product_skip p (write_sums ps rest)) (sums_skip ps rest)
@@ -140,6 +150,9 @@ mutual
   call_skip (size w p) rest = key (over (path_skip p (close rest)) stay)
   call_skip (coalesce w a b all) rest = key (over (chain (value_skip a (comma (write_value b (write_more all (close rest))))) (mark refl refl (chain (value_skip b (write_more all (close rest))) (more_skip all (close rest))))) stay)
   call_skip (null_if w a b) rest = key (over (chain (value_skip a (comma (write_value b (close rest)))) (mark refl refl (value_skip b (close rest)))) stay)
+  call_skip (upper w a) rest = key (over (value_skip a (close rest)) stay)
+  call_skip (lower w a) rest = key (over (value_skip a (close rest)) stay)
+  call_skip (trim w x a) rest = key (over (chain (trimming_skip x (write_value a (close rest))) (value_skip a (close rest))) stay)
   call_skip (aggregate h w a) rest = key (over (value_skip a (close rest)) stay)
   call_skip (aggregate_distinct h w d a) rest = key (over (key (value_skip a (close rest))) stay)
 

@@ -9,12 +9,13 @@ use Rattle.jpql_tree.specs.declared.Comparison.{Comparison}
 use Rattle.jpql_tree.specs.declared.Comparison.TheVariants as c
 use Rattle.jpql_tree.specs.declared.Condition.{Condition}
 use Rattle.jpql_tree.specs.declared.Condition.TheVariants as is
-use Rattle.jpql_tree.specs.Grammar.{Text, Name, plain, word, name_token, name_text, Steps, write_path, path_tree, Value°, sum, product, unsigned, positive, negative, no_sums, no_times, integer, text, parameter, path, call, group, Call°, length_of, concat, substring_from, substring, locate, locate_from, abs, modulo, size, coalesce, null_if, aggregate, aggregate_distinct, More°, write_value, write_times, write_sums, write_call, write_more, write_others, value_tree, more_trees, Written, write_word, is_written, comparison_mark, negated, write_escape, escape_text, compare, between, among, like, null, empty, member, type_is, type_is_not, type_among, write_test, test_tree}
+use Rattle.jpql_tree.specs.Grammar.{Text, Name, plain, word, name_token, name_text, Steps, write_path, path_tree, Value°, sum, product, unsigned, positive, negative, no_sums, no_times, integer, text, parameter, path, call, group, More°, write_value, write_times, write_sums, write_more, write_others, value_tree, more_trees, Written, write_word, is_written, comparison_mark, negated, write_escape, escape_text, compare, between, among, like, null, empty, member, type_is, type_is_not, type_among, write_test, test_tree}
 use Rattle.jpql_tree.specs.Nesting.{too_deep}
 use Rattle.jpql_tree.specs.Values.{is_word, name_at, variable_at, list_at, closed, value_at}
 use Rattle.jpql_tree.specs.Conditions.{has_test, opens_condition, comparison_at, sees_comparison, begins_variable, negated_if, compared_at, is_at, between_at, among_at, escape_at, like_at, member_at, worded_at, tested_at, valued_at, entities_at, type_is_at, entity_at, typed_at, simple_at}
 use Rattle.jpql_tree.proofs.Skips.{neither, opened, close, name_skip, value_skip}
 use Rattle.jpql_tree.proofs.Tools.{word_complete}
+use Rattle.jpql_tree.proofs.Calls.{of_call}
 use Rattle.jpql_tree.proofs.ValuesComplete.{Ends, value_complete, values_complete, list_complete, path_complete, value_no_type}
 use Rattle.jpql_tree.proofs.Scan.{value_scan}
 
@@ -26,21 +27,6 @@ pub record After (ts : List Token) : Type 0 where
   pub ends : Ends ts
   pub escape : is_word k.Escape ts ≡ false
 
-call_opens_none : (x : Call°) (rest : List Token) → opens_condition (write_call x rest) ≡ false
-call_opens_none (length_of w a) rest = refl
-call_opens_none (concat w a b all) rest = refl
-call_opens_none (substring_from w a b) rest = refl
-call_opens_none (substring w a b d) rest = refl
-call_opens_none (locate w a b) rest = refl
-call_opens_none (locate_from w a b d) rest = refl
-call_opens_none (abs w a) rest = refl
-call_opens_none (modulo w a b) rest = refl
-call_opens_none (size w p) rest = refl
-call_opens_none (coalesce w a b all) rest = refl
-call_opens_none (null_if w a b) rest = refl
-call_opens_none (aggregate h w a) rest = refl
-call_opens_none (aggregate_distinct h w d a) rest = refl
-
 -- no value is taken for a condition
 pub value_opens_none : (x : Value°) (rest : List Token) → opens_condition (write_value x rest) ≡ false
 unfolding has_test
@@ -48,7 +34,7 @@ value_opens_none (sum (product (unsigned (integer n)) us) ps) rest = refl
 value_opens_none (sum (product (unsigned (text w)) us) ps) rest = refl
 value_opens_none (sum (product (unsigned (parameter w)) us) ps) rest = refl
 value_opens_none (sum (product (unsigned (path p)) us) ps) rest = refl
-value_opens_none (sum (product (unsigned (call x)) us) ps) rest = call_opens_none x (write_times us (write_sums ps rest))
+value_opens_none (sum (product (unsigned (call x)) us) ps) rest = of_call opens_condition false (λ j w ts b. refl) x (write_times us (write_sums ps rest))
 value_opens_none (sum (product (unsigned (group a)) us) ps) rest = value_scan a 0 (close (write_times us (write_sums ps rest)))
 value_opens_none (sum (product (positive a) us) ps) rest = refl
 value_opens_none (sum (product (negative a) us) ps) rest = refl

@@ -11,11 +11,12 @@ use Rattle.jpql_tree.specs.declared.Value.{Value}
 use Rattle.jpql_tree.specs.declared.Value.TheVariants as v
 use Rattle.jpql_tree.specs.declared.Condition.{Condition}
 use Rattle.jpql_tree.specs.declared.Condition.TheVariants as is
-use Rattle.jpql_tree.specs.Grammar.{Text, Name, name_token, name_text, Steps, write_path, path_tree, Value°, sum, Sums°, no_sums, plus, minus, product, Times°, no_times, times, unsigned, positive, negative, integer, text, parameter, path, call, group, Call°, write_value, write_call, write_times, write_sums, length_of, concat, substring_from, substring, locate, locate_from, abs, modulo, size, coalesce, null_if, aggregate, aggregate_distinct, value_tree, times_tree, sums_tree, Written, write_word, is_written, comparison_mark, negated, write_escape, escape_text, Test°, compare, between, among, like, null, empty, member, type_is, type_is_not, type_among, write_test, test_tree}
+use Rattle.jpql_tree.specs.Grammar.{Text, Name, name_token, name_text, Steps, write_path, path_tree, Value°, sum, Sums°, no_sums, plus, minus, product, Times°, no_times, times, unsigned, positive, negative, integer, text, parameter, path, call, group, write_value, write_times, write_sums, value_tree, times_tree, sums_tree, Written, write_word, is_written, comparison_mark, negated, write_escape, escape_text, Test°, compare, between, among, like, null, empty, member, type_is, type_is_not, type_among, write_test, test_tree}
 use Rattle.jpql_tree.specs.Values.{sees, after, is_word, after_word, optional_word, name_at, variable_at, path_at, list_at, closed, value_at}
 use Rattle.jpql_tree.specs.Conditions.{comparison_at, sees_comparison, begins_variable, negated_if, bare_path, compared_at, is_at, between_at, among_at, escape_at, like_at, member_at, worded_at, tested_at, valued_at, entities_at, type_is_at, entity_at, typed_at, simple_at}
 use Rattle.jpql_tree.proofs.Skips.{opened, close}
 use Rattle.jpql_tree.proofs.Tools.{step, choice, same, sees_is, after_is, word_is, after_word_is, optional_word_is, name_sound, variable_sound}
+use Rattle.jpql_tree.proofs.Calls.{of_call}
 use Rattle.jpql_tree.proofs.ValuesSound.{Wrote, value_sound, path_sound, list_sound, closed_sound, write_list, list_trees, write_closed, leaf, more_of, more_of_written, more_of_treed}
 
 -- ---- tests of values
@@ -75,21 +76,6 @@ arithmetic_times : (us : Times°) (op : Arithmetic) (a b : Value) → bare_path 
 arithmetic_times no_times op a b = refl
 arithmetic_times (times u us) op a b = arithmetic_times us _ _ _
 
-call_begins_none : (x : Call°) (rest : List Token) → begins_variable (write_call x rest) ≡ false
-call_begins_none (length_of w a) rest = refl
-call_begins_none (concat w a b all) rest = refl
-call_begins_none (substring_from w a b) rest = refl
-call_begins_none (substring w a b d) rest = refl
-call_begins_none (locate w a b) rest = refl
-call_begins_none (locate_from w a b d) rest = refl
-call_begins_none (abs w a) rest = refl
-call_begins_none (modulo w a b) rest = refl
-call_begins_none (size w p) rest = refl
-call_begins_none (coalesce w a b all) rest = refl
-call_begins_none (null_if w a b) rest = refl
-call_begins_none (aggregate h w a) rest = refl
-call_begins_none (aggregate_distinct h w d a) rest = refl
-
 not_some : {A : Type 0} (o : Option A) (p : A) → o ≡ None → o ≡ Some p → ⊥
 not_some None p e h = cc
 not_some (Some q) p e h = cc
@@ -109,7 +95,7 @@ bare_sound (sum (product (unsigned (path q)) (times u us)) (minus a ps)) rest p 
 bare_sound (sum (product (unsigned (integer i)) us) ps) rest p h = absurd cc
 bare_sound (sum (product (unsigned (text w)) us) ps) rest p h = absurd cc
 bare_sound (sum (product (unsigned (parameter w)) us) ps) rest p h = absurd cc
-bare_sound (sum (product (unsigned (call x)) us) ps) rest p h = absurd (not_bare _ _ p (call_begins_none x (write_times us (write_sums ps rest))) h)
+bare_sound (sum (product (unsigned (call x)) us) ps) rest p h = absurd (not_bare _ _ p (of_call begins_variable false (λ j w ts b. refl) x (write_times us (write_sums ps rest))) h)
 bare_sound (sum (product (unsigned (group a)) us) ps) rest p h = absurd cc
 bare_sound (sum (product (positive a) us) ps) rest p h = absurd cc
 bare_sound (sum (product (negative a) us) ps) rest p h = absurd cc

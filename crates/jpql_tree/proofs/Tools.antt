@@ -1,5 +1,5 @@
 -- What a step that answered tells.
-use Rattle.std.proofs.Common.{◌≡◌, Bool, true, false, cond, ◌⊎◌, inl, inr, List, [], ◌∷◌, drop, Option, Some, None, refl, sym, rules}
+use Rattle.std.proofs.Common.{◌≡◌, Bool, true, false, cond, ◌⊎◌, inl, inr, List, [], ◌∷◌, drop, Option, Some, None, refl, sym, ◌∙◌, rules}
 use denote.Enum.Bare.{same_true, true_same}
 use Rattle.std.specs.Option.{option_and_then}
 use Rattle.jpql_tree.specs.contracts.token.Mark as mark
@@ -70,6 +70,14 @@ same_keyword_refl x = true_same keyword.the_type x x refl
 
 pub keyword_is : (a b : Keyword) → same_keyword a b ≡ true → a ≡ b
 keyword_is a b e = same_true keyword.the_type (search rules) a b e
+
+pub same_keyword_turned : (a b : Keyword) → same_keyword a b ≡ same_keyword b a
+same_keyword_turned a b = by_test (same_keyword a b) (same_keyword b a) refl refl
+  where
+    by_test : (x y : Bool) → same_keyword a b ≡ x → same_keyword b a ≡ y → same_keyword a b ≡ same_keyword b a
+    by_test true y e f = let one = keyword_is a b e in rw one
+    by_test false true e f = let one = keyword_is b a f in rw one
+    by_test false false e f = e ∙ sym f
 
 -- a word that comes next, as it is written
 pub word_is : (x : Keyword) (ts : List Token) → is_word x ts ≡ true → (w : Text) × (t.Key x w ∷ drop 1 ts ≡ ts)

@@ -1,18 +1,18 @@
 -- What the grammar writes as a value is read, with its tree.
 use Rattle.std.proofs.lemmas.Bool.{le-leb, leb-false}
-use Rattle.std.proofs.Common.{◌≡◌, ℕ, zero, suc, ◌+◌, ◌≤◌, Bool, true, false, nat_le, List, [], ◌∷◌, ◌++◌, map, length, arith, Some, refl, ap, ◌∙◌, append-nil, append_assoc}
+use Rattle.std.proofs.Common.{◌≡◌, ℕ, zero, suc, ◌+◌, ◌≤◌, Bool, true, false, ◌&&◌, nat_le, List, [], ◌∷◌, ◌++◌, map, length, arith, Some, None, is_some, refl, ap, ◌∙◌, append-nil, append_assoc}
 use Rattle.jpql_tree.specs.declared.token.Keyword.{Keyword}
 use Rattle.jpql_tree.specs.declared.token.Keyword.TheVariants as k
 use Rattle.jpql_tree.specs.declared.token.Mark.TheVariants as m
 use Rattle.jpql_tree.specs.declared.token.Token.{Token}
 use Rattle.jpql_tree.specs.declared.Value.{Value}
 use Rattle.jpql_tree.specs.declared.Aggregate.TheVariants as g
-use Rattle.jpql_tree.specs.Grammar.{Text, Name, plain, word, Steps, name_text, Value°, sum, Sums°, no_sums, plus, minus, Product°, product, Times°, no_times, times, Unary°, unsigned, positive, negative, Atom°, integer, text, parameter, path, call, group, Call°, length_of, concat, substring_from, substring, locate, locate_from, abs, modulo, size, coalesce, null_if, aggregate, aggregate_distinct, More°, no_more, more, write_names, write_path, write_value, write_sums, write_product, write_times, write_unary, write_atom, write_call, write_more, write_others, path_tree, value_tree, sums_tree, product_tree, times_tree, unary_tree, atom_tree, call_tree, more_trees}
+use Rattle.jpql_tree.specs.declared.Trimmed.TheVariants as side
+use Rattle.jpql_tree.specs.Grammar.{Text, Name, plain, word, Steps, name_text, Value°, sum, Sums°, no_sums, plus, minus, Product°, product, Times°, no_times, times, Unary°, unsigned, positive, negative, Atom°, integer, text, parameter, path, call, group, Call°, length_of, concat, substring_from, substring, locate, locate_from, abs, modulo, size, coalesce, null_if, upper, lower, trim, aggregate, aggregate_distinct, More°, no_more, more, write_names, write_path, Trimming°, unwritten_trimming, sided, unsided, taken_text, taken_parameter, write_trimming, trimming_tree, write_value, write_sums, write_product, write_times, write_unary, write_atom, write_call, write_more, write_others, path_tree, value_tree, sums_tree, product_tree, times_tree, unary_tree, atom_tree, call_tree, more_trees}
 use Rattle.jpql_tree.specs.Nesting.{too_deep}
-use Rattle.jpql_tree.specs.Same.{same_keyword}
-use Rattle.jpql_tree.specs.Values.{Read, sees, is_word, name_at, variable_at, names_at, path_at, others_at, list_at, closed, call_at, word_at, atom_at, unary_at, times_at, product_at, sums_at, level_at, value_at}
-use Rattle.jpql_tree.proofs.Tools.{keyword_is}
-use Rattle.jpql_tree.proofs.Skips.{Skips, neither, close, comma, value_skip, product_skip, unary_skip}
+use Rattle.jpql_tree.specs.Values.{Read, sees, is_word, name_at, variable_at, names_at, path_at, others_at, list_at, closed, taken_at, sided_at, unsided_at, trimming_at, trim_at, call_at, word_at, atom_at, unary_at, times_at, product_at, sums_at, level_at, value_at}
+use Rattle.jpql_tree.proofs.Calls.{is_call, of_call, call_no_word}
+use Rattle.jpql_tree.proofs.Skips.{Skips, neither, close, comma, value_skip, product_skip, unary_skip, trimming_skip}
 
 -- ---- what ends a value
 
@@ -88,22 +88,7 @@ atom_no_plus (integer n) rest = refl
 atom_no_plus (text w) rest = refl
 atom_no_plus (parameter w) rest = refl
 atom_no_plus (path p) rest = refl
-atom_no_plus (call c) rest = call_no_plus c
-  where
-    call_no_plus : (c : Call°) → sees m.Plus (write_call c rest) ≡ false
-    call_no_plus (length_of w a) = refl
-    call_no_plus (concat w a b all) = refl
-    call_no_plus (substring_from w a b) = refl
-    call_no_plus (substring w a b d) = refl
-    call_no_plus (locate w a b) = refl
-    call_no_plus (locate_from w a b d) = refl
-    call_no_plus (abs w a) = refl
-    call_no_plus (modulo w a b) = refl
-    call_no_plus (size w p) = refl
-    call_no_plus (coalesce w a b all) = refl
-    call_no_plus (null_if w a b) = refl
-    call_no_plus (aggregate h w a) = refl
-    call_no_plus (aggregate_distinct h w d a) = refl
+atom_no_plus (call x) rest = of_call (sees m.Plus) false (λ j w ts b. refl) x rest
 atom_no_plus (group a) rest = refl
 
 atom_no_minus : (d : Atom°) (rest : List Token) → sees m.Minus (write_atom d rest) ≡ false
@@ -111,69 +96,8 @@ atom_no_minus (integer n) rest = refl
 atom_no_minus (text w) rest = refl
 atom_no_minus (parameter w) rest = refl
 atom_no_minus (path p) rest = refl
-atom_no_minus (call c) rest = call_no_minus c
-  where
-    call_no_minus : (c : Call°) → sees m.Minus (write_call c rest) ≡ false
-    call_no_minus (length_of w a) = refl
-    call_no_minus (concat w a b all) = refl
-    call_no_minus (substring_from w a b) = refl
-    call_no_minus (substring w a b d) = refl
-    call_no_minus (locate w a b) = refl
-    call_no_minus (locate_from w a b d) = refl
-    call_no_minus (abs w a) = refl
-    call_no_minus (modulo w a b) = refl
-    call_no_minus (size w p) = refl
-    call_no_minus (coalesce w a b all) = refl
-    call_no_minus (null_if w a b) = refl
-    call_no_minus (aggregate h w a) = refl
-    call_no_minus (aggregate_distinct h w d a) = refl
+atom_no_minus (call x) rest = of_call (sees m.Minus) false (λ j w ts b. refl) x rest
 atom_no_minus (group a) rest = refl
-
--- a word that calls
-is_call : Keyword → Bool
-is_call k.Length = true
-is_call k.Concat = true
-is_call k.Substring = true
-is_call k.Locate = true
-is_call k.Abs = true
-is_call k.Mod = true
-is_call k.Size = true
-is_call k.Coalesce = true
-is_call k.NullIf = true
-is_call k.Count = true
-is_call k.Sum = true
-is_call k.Min = true
-is_call k.Max = true
-is_call _ = false
-
-not_called : (j c : Keyword) → is_call j ≡ false → is_call c ≡ true → same_keyword j c ≡ false
-not_called j c e f = by_test (same_keyword j c) refl
-  where
-    by_test : (b : Bool) → same_keyword j c ≡ b → same_keyword j c ≡ false
-    by_test true h = let one = ap is_call (keyword_is j c h) in absurd cc
-    by_test false h = h
-
-call_no_word : (j : Keyword) → is_call j ≡ false → (c : Call°) (rest : List Token) → is_word j (write_call c rest) ≡ false
-unfolding is_call
-call_no_word j e (length_of w a) rest = not_called j k.Length e refl
-call_no_word j e (concat w a b all) rest = not_called j k.Concat e refl
-call_no_word j e (substring_from w a b) rest = not_called j k.Substring e refl
-call_no_word j e (substring w a b d) rest = not_called j k.Substring e refl
-call_no_word j e (locate w a b) rest = not_called j k.Locate e refl
-call_no_word j e (locate_from w a b d) rest = not_called j k.Locate e refl
-call_no_word j e (abs w a) rest = not_called j k.Abs e refl
-call_no_word j e (modulo w a b) rest = not_called j k.Mod e refl
-call_no_word j e (size w p) rest = not_called j k.Size e refl
-call_no_word j e (coalesce w a b all) rest = not_called j k.Coalesce e refl
-call_no_word j e (null_if w a b) rest = not_called j k.NullIf e refl
-call_no_word j e (aggregate g.Count w a) rest = not_called j k.Count e refl
-call_no_word j e (aggregate g.Sum w a) rest = not_called j k.Sum e refl
-call_no_word j e (aggregate g.Min w a) rest = not_called j k.Min e refl
-call_no_word j e (aggregate g.Max w a) rest = not_called j k.Max e refl
-call_no_word j e (aggregate_distinct g.Count w d a) rest = not_called j k.Count e refl
-call_no_word j e (aggregate_distinct g.Sum w d a) rest = not_called j k.Sum e refl
-call_no_word j e (aggregate_distinct g.Min w d a) rest = not_called j k.Min e refl
-call_no_word j e (aggregate_distinct g.Max w d a) rest = not_called j k.Max e refl
 
 -- no other word begins a value
 value_no_word : (j : Keyword) → is_call j ≡ false → (d : Value°) (rest : List Token) → is_word j (write_value d rest) ≡ false
@@ -187,24 +111,57 @@ value_no_word j e (sum (product (positive a) us) ps) rest = refl
 value_no_word j e (sum (product (negative a) us) ps) rest = refl
 
 pub value_no_distinct : (d : Value°) (rest : List Token) → is_word k.Distinct (write_value d rest) ≡ false
-unfolding is_call
 value_no_distinct = value_no_word k.Distinct refl
 
 pub value_no_null : (d : Value°) (rest : List Token) → is_word k.Null (write_value d rest) ≡ false
-unfolding is_call
 value_no_null = value_no_word k.Null refl
 
 pub value_no_not : (d : Value°) (rest : List Token) → is_word k.Not (write_value d rest) ≡ false
-unfolding is_call
 value_no_not = value_no_word k.Not refl
 
 pub value_no_exists : (d : Value°) (rest : List Token) → is_word k.Exists (write_value d rest) ≡ false
-unfolding is_call
 value_no_exists = value_no_word k.Exists refl
 
 pub value_no_type : (d : Value°) (rest : List Token) → is_word k.Type (write_value d rest) ≡ false
-unfolding is_call
 value_no_type = value_no_word k.Type refl
+
+-- FROM stands behind no part of a value
+from_behind : (us : Times°) (ps : Sums°) (rest : List Token) → is_word k.From (write_times us (write_sums ps (close rest))) ≡ false
+from_behind no_times no_sums rest = refl
+from_behind no_times (plus p ps) rest = refl
+from_behind no_times (minus p ps) rest = refl
+from_behind (times u us) ps rest = refl
+
+takes_off : List Token → Bool
+takes_off ts = is_some (taken_at ts).0 && is_word k.From (taken_at ts).1
+
+value_takes_off : (d : Value°) (rest : List Token) → takes_off (write_value d (close rest)) ≡ false
+unfolding takes_off
+value_takes_off (sum (product (unsigned (integer i)) us) ps) rest = refl
+value_takes_off (sum (product (unsigned (text w)) us) ps) rest = from_behind us ps rest
+value_takes_off (sum (product (unsigned (parameter w)) us) ps) rest = from_behind us ps rest
+value_takes_off (sum (product (unsigned (path p)) us) ps) rest = refl
+value_takes_off (sum (product (unsigned (call x)) us) ps) rest = of_call takes_off false (λ j w ts b. refl) x (write_times us (write_sums ps (close rest)))
+value_takes_off (sum (product (unsigned (group a)) us) ps) rest = refl
+value_takes_off (sum (product (positive a) us) ps) rest = refl
+value_takes_off (sum (product (negative a) us) ps) rest = refl
+
+trimming_complete : (x : Trimming°) (a : Value°) (rest : List Token)
+    → trimming_at (write_trimming x (write_value a (close rest))) ≡ Some (trimming_tree x, write_value a (close rest))
+unfolding trimming_at sided_at unsided_at takes_off
+trimming_complete unwritten_trimming a rest =
+    rw (value_no_word k.Leading refl a (close rest), value_no_word k.Trailing refl a (close rest), value_no_word k.Both refl a (close rest), value_takes_off a rest)
+trimming_complete (sided side.Leading w None u) a rest = refl
+trimming_complete (sided side.Leading w (Some (taken_text x)) u) a rest = refl
+trimming_complete (sided side.Leading w (Some (taken_parameter x)) u) a rest = refl
+trimming_complete (sided side.Trailing w None u) a rest = refl
+trimming_complete (sided side.Trailing w (Some (taken_text x)) u) a rest = refl
+trimming_complete (sided side.Trailing w (Some (taken_parameter x)) u) a rest = refl
+trimming_complete (sided side.Both w None u) a rest = refl
+trimming_complete (sided side.Both w (Some (taken_text x)) u) a rest = refl
+trimming_complete (sided side.Both w (Some (taken_parameter x)) u) a rest = refl
+trimming_complete (unsided (taken_text x) u) a rest = refl
+trimming_complete (unsided (taken_parameter x) u) a rest = refl
 
 pub ends_close : (rest : List Token) → Ends (close rest)
 ends_close rest = record { dot = refl; star = refl; plus = refl; minus = refl }
@@ -240,7 +197,7 @@ module _ (inner : Read Value) (most k : ℕ)
 
   call_complete : (d : Call°) (rest : List Token) → too_deep most k (write_call d rest) ≡ false
       → atom_at inner (write_call d rest) ≡ Some (call_tree d, rest)
-  unfolding atom_at word_at call_at closed too_deep
+  unfolding atom_at word_at call_at trim_at closed too_deep
   call_complete (length_of w a) rest h = let o = neither h in rw (values_complete a no_more rest o.0 o.1)
   call_complete (concat w a b all) rest h = let o = neither h in rw (values_complete a (more b all) rest o.0 o.1) (rw (two_more (more_trees all)))
   call_complete (substring_from w a b) rest h = let o = neither h in rw (values_complete a (more b no_more) rest o.0 o.1)
@@ -252,6 +209,12 @@ module _ (inner : Read Value) (most k : ℕ)
   call_complete (size w p) rest h = rw (path_complete p (close rest) refl)
   call_complete (coalesce w a b all) rest h = let o = neither h in rw (values_complete a (more b all) rest o.0 o.1) (rw (two_more (more_trees all)))
   call_complete (null_if w a b) rest h = let o = neither h in rw (values_complete a (more b no_more) rest o.0 o.1)
+  call_complete (upper w a) rest h = let o = neither h in rw (values_complete a no_more rest o.0 o.1)
+  call_complete (lower w a) rest h = let o = neither h in rw (values_complete a no_more rest o.0 o.1)
+  call_complete (trim w x a) rest h =
+      let o = neither h in
+      let inside = (trimming_skip x (write_value a (close rest))).shallow most (suc k) o.1 in
+      rw (trimming_complete x a rest, nested a (close rest) o.0 inside (ends_close rest))
   call_complete (aggregate g.Count w a) rest h = let o = neither h in rw (value_no_distinct a (close rest), nested a (close rest) o.0 o.1 (ends_close rest))
   call_complete (aggregate g.Sum w a) rest h = let o = neither h in rw (value_no_distinct a (close rest), nested a (close rest) o.0 o.1 (ends_close rest))
   call_complete (aggregate g.Min w a) rest h = let o = neither h in rw (value_no_distinct a (close rest), nested a (close rest) o.0 o.1 (ends_close rest))

@@ -1,5 +1,5 @@
 -- What is read is written by the grammar, with its tree.
-use Rattle.std.proofs.Common.{◌≡◌, ℕ, zero, suc, Bool, true, false, ◌||◌, ◌≤◌, arith, List, [], ◌∷◌, ◌++◌, map, drop, length, subst, Option, Some, None, refl, ap, sym, ◌∙◌, append-nil, append_assoc, nat_eq}
+use Rattle.std.proofs.Common.{◌≡◌, ℕ, zero, suc, Bool, true, false, ◌&&◌, ◌||◌, ◌≤◌, arith, List, [], ◌∷◌, ◌++◌, map, drop, length, subst, Option, Some, None, is_some, refl, ap, sym, ◌∙◌, append-nil, append_assoc, nat_eq}
 use Rattle.jpql_tree.specs.declared.token.Keyword.{Keyword}
 use Rattle.jpql_tree.specs.declared.token.Keyword.TheVariants as k
 use Rattle.jpql_tree.specs.declared.token.Mark.TheVariants as m
@@ -12,14 +12,16 @@ use Rattle.jpql_tree.specs.declared.Arithmetic.TheVariants as o
 use Rattle.jpql_tree.specs.declared.Sign.TheVariants as s
 use Rattle.jpql_tree.specs.declared.Function.{Function}
 use Rattle.jpql_tree.specs.declared.Function.TheVariants as f
+use Rattle.jpql_tree.specs.declared.Trimmed.{Trimmed}
+use Rattle.jpql_tree.specs.declared.Trimmed.TheVariants as side
 use Rattle.jpql_tree.specs.declared.Aggregate.{Aggregate}
 use Rattle.jpql_tree.specs.declared.Aggregate.TheVariants as g
 use Rattle.jpql_tree.specs.declared.token.Callee.TheVariants as calls
 use Rattle.std.proofs.lemmas.Bool.{eqb-true, leb-true}
-use Rattle.jpql_tree.specs.Grammar.{aggregate_word, Text, Name, name_text, name_token, Value°, sum, no_sums, plus, minus, product, no_times, times, unsigned, positive, negative, integer, text, parameter, path, call, group, Call°, length_of, concat, substring_from, substring, locate, locate_from, abs, modulo, size, coalesce, null_if, aggregate, aggregate_distinct, More°, no_more, more, write_names, write_path, write_value, write_sums, write_product, write_times, write_unary, write_atom, write_call, write_more, write_others, Written, write_word, is_written, path_tree, value_tree, sums_tree, product_tree, times_tree, unary_tree, atom_tree, call_tree, more_trees}
+use Rattle.jpql_tree.specs.Grammar.{aggregate_word, Taken°, taken_text, taken_parameter, unwritten_trimming, sided, unsided, side_word, write_taken, write_trimming, optional_taken, trimming_tree, trimmed_value, Text, Name, name_text, name_token, Value°, sum, no_sums, plus, minus, product, no_times, times, unsigned, positive, negative, integer, text, parameter, path, call, group, Call°, length_of, concat, substring_from, substring, locate, locate_from, abs, modulo, size, coalesce, null_if, upper, lower, trim, aggregate, aggregate_distinct, More°, no_more, more, write_names, write_path, write_value, write_sums, write_product, write_times, write_unary, write_atom, write_call, write_more, write_others, Written, write_word, is_written, path_tree, value_tree, sums_tree, product_tree, times_tree, unary_tree, atom_tree, call_tree, more_trees}
 use Rattle.jpql_tree.specs.Same.{same_mark}
-use Rattle.jpql_tree.specs.Values.{callee_of, takes, optional_word, Read, sees, after, name_at, variable_at, names_at, path_at, others_at, list_at, closed, call_at, word_at, atom_at, unary_at, times_at, product_at, sums_at, level_at, value_at}
-use Rattle.jpql_tree.proofs.Tools.{mark_is, step, choice, same, sees_is, after_is, optional_word_is, name_sound, variable_sound}
+use Rattle.jpql_tree.specs.Values.{callee_of, takes, is_word, after_word, taken_at, sided_at, unsided_at, trimming_at, trim_at, optional_word, Read, sees, after, name_at, variable_at, names_at, path_at, others_at, list_at, closed, call_at, word_at, atom_at, unary_at, times_at, product_at, sums_at, level_at, value_at}
+use Rattle.jpql_tree.proofs.Tools.{mark_is, step, choice, same, sees_is, after_is, word_is, after_word_is, optional_word_is, name_sound, variable_sound}
 
 -- the tokens are those of the derivation and those after it, and this is its tree
 abbrev pub Wrote : {D A : Type 0} → (D → List Token → List Token) → (D → A) → List Token → A × List Token → Type 0
@@ -196,6 +198,55 @@ aggregate_glued : (h : Aggregate) (w : Text) (ts : List Token) (d : Bool × List
 aggregate_glued h w ts d a x (None, eu, tu) (y, e, t) q = leaf write_atom atom_tree (call (aggregate h w y)) _ _ _ x q (rw (e, eu)) (rw (tu, t))
 aggregate_glued h w ts d a x (Some u, eu, tu) (y, e, t) q = leaf write_atom atom_tree (call (aggregate_distinct h w u y)) _ _ _ x q (rw (e, eu)) (rw (tu, t))
 
+-- ---- what stands before the value of TRIM
+
+taken_is : (ts : List Token) → (x : Option Taken°) × (write_taken x (taken_at ts).1 ≡ ts) × (optional_taken x ≡ (taken_at ts).0)
+taken_is [] = (None, refl, refl)
+taken_is (t.Quoted w ∷ ts) = (Some (taken_text w), refl, refl)
+taken_is (t.Parameter w ∷ ts) = (Some (taken_parameter w), refl, refl)
+taken_is (t.Word w ∷ ts) = (None, refl, refl)
+taken_is (t.Key j w ∷ ts) = (None, refl, refl)
+taken_is (t.Number n ∷ ts) = (None, refl, refl)
+taken_is (t.Mark y ∷ ts) = (None, refl, refl)
+
+abbrev Trims : List Token → (Trimmed × Option Value) × List Token → Type 0
+Trims = Wrote write_trimming trimming_tree
+
+sided_sound : (h : Trimmed) (ts : List Token) (how : (Trimmed × Option Value) × List Token) → is_word (side_word h) ts ≡ true
+    → sided_at h (drop 1 ts) ≡ Some how → Trims ts how
+unfolding sided_at
+sided_sound h ts how b e =
+    let (w, ew) = word_is (side_word h) ts b in
+    let (x, ex, tx) = taken_is (drop 1 ts) in
+    step (after_word k.From (taken_at (drop 1 ts)).1) _ _ e (λ rest er hr. let (u, eu) = after_word_is k.From (taken_at (drop 1 ts)).1 rest er in
+    leaf write_trimming trimming_tree (sided h w x u) _ rest ts how hr (rw (eu, ex) ew) (rw tx))
+
+unsided_glued : (ts : List Token) (off : Option Value × List Token) (how : (Trimmed × Option Value) × List Token)
+    → (x : Option Taken°) × (write_taken x off.1 ≡ ts) × (optional_taken x ≡ off.0)
+    → (is_some off.0 && is_word k.From off.1) ≡ true → Some ((side.Both, off.0), drop 1 off.1) ≡ Some how → Trims ts how
+unsided_glued ts (None, rest) how x b h = absurd cc
+unsided_glued ts (Some a, rest) how (None, ex, tx) b h = absurd cc
+unsided_glued ts (Some a, rest) how (Some x, ex, tx) b h =
+    let (u, eu) = word_is k.From rest b in
+    leaf write_trimming trimming_tree (unsided x u) _ (drop 1 rest) ts how h (rw eu ex) (rw tx)
+
+unsided_sound : (ts : List Token) (how : (Trimmed × Option Value) × List Token) → unsided_at ts ≡ Some how → Trims ts how
+unfolding unsided_at
+unsided_sound ts how e = choice (is_some (taken_at ts).0 && is_word k.From (taken_at ts).1) _ _ _ e
+    (λ b h. unsided_glued ts (taken_at ts) how (taken_is ts) b h)
+    (λ b h. nothing write_trimming trimming_tree unwritten_trimming (side.Both, None) ts how h refl refl)
+
+trimming_sound : (ts : List Token) (how : (Trimmed × Option Value) × List Token) → trimming_at ts ≡ Some how → Trims ts how
+unfolding trimming_at
+trimming_sound ts how e = choice (is_word k.Leading ts) _ _ _ e (λ b h. sided_sound side.Leading ts how b h)
+    (λ b1 h1. choice (is_word k.Trailing ts) _ _ _ h1 (λ b h. sided_sound side.Trailing ts how b h)
+    (λ b2 h2. choice (is_word k.Both ts) _ _ _ h2 (λ b h. sided_sound side.Both ts how b h) (λ b h. unsided_sound ts how h)))
+
+trim_glued : (w : Text) (ts : List Token) (how : (Trimmed × Option Value) × List Token) (a x : Value × List Token) → Trims ts how
+    → Wrote (write_closed write_value) value_tree how.1 a → Some (trimmed_value how.0 a.0, a.1) ≡ Some x
+    → Wrote write_atom atom_tree (t.Key k.Trim w ∷ t.Mark m.Open ∷ ts) x
+trim_glued w ts how a x (d, ed, td) (y, e, ty) q = leaf write_atom atom_tree (call (trim w d y)) _ _ _ x q (rw (e, ed)) (rw (td, ty))
+
 no_call : (inner : Read Value) (ts : List Token) (x : Value × List Token) → call_at inner calls.Other ts ≡ Some x → ⊥
 unfolding call_at
 no_call inner ts x e = cc
@@ -230,6 +281,11 @@ module _ (inner : Read Value) (nested : (ts : List Token) (x : Value × List Tok
   aggregate_sound h w ts x e = let d = optional_word k.Distinct ts in step (closed (inner d.1)) _ _ e (λ a ea ha.
       aggregate_glued h w ts d a x (optional_word_is k.Distinct ts) (closed_sound write_value value_tree d.1 (inner d.1) (nested d.1) a ea) ha)
 
+  trim_sound : (w : Text) (ts : List Token) (x : Value × List Token) → call_at inner calls.Trim ts ≡ Some x → Wrote write_atom atom_tree (t.Key k.Trim w ∷ t.Mark m.Open ∷ ts) x
+  unfolding call_at trim_at
+  trim_sound w ts x e = step (trimming_at ts) _ _ e (λ how eh hh. step (closed (inner how.1)) _ _ hh (λ a ea ha.
+      trim_glued w ts how a x (trimming_sound ts how eh) (closed_sound write_value value_tree how.1 (inner how.1) (nested how.1) a ea) ha))
+
   call_sound : (word : Keyword) (w : Text) (ts : List Token) (x : Value × List Token) → call_at inner (callee_of word) ts ≡ Some x
       → Wrote write_atom atom_tree (t.Key word w ∷ t.Mark m.Open ∷ ts) x
   call_sound k.Length w ts x e = function_sound f.Length (t.Key k.Length w) ts x e (λ all d b q.
@@ -250,6 +306,11 @@ module _ (inner : Read Value) (nested : (ts : List Token) (x : Value × List Tok
   call_sound k.Locate w ts x e = function_sound f.Locate (t.Key k.Locate w) ts x e (λ all d b q. either (nat_eq (length all.0) 2) (nat_eq (length all.0) 3) b
       (λ two. two_glued f.Locate (t.Key k.Locate w) (locate w) (λ a b rest. refl) (λ a b. refl) ts all x d (eqb-true _ _ two) q)
       (λ three. three_glued f.Locate (t.Key k.Locate w) (locate_from w) (λ a b d rest. refl) (λ a b d. refl) ts all x d (eqb-true _ _ three) q))
+  call_sound k.Upper w ts x e = function_sound f.Upper (t.Key k.Upper w) ts x e (λ all d b q.
+      one_glued f.Upper (t.Key k.Upper w) (upper w) (λ a rest. refl) (λ a. refl) ts all x d (eqb-true _ _ b) q)
+  call_sound k.Lower w ts x e = function_sound f.Lower (t.Key k.Lower w) ts x e (λ all d b q.
+      one_glued f.Lower (t.Key k.Lower w) (lower w) (λ a rest. refl) (λ a. refl) ts all x d (eqb-true _ _ b) q)
+  call_sound k.Trim w ts x e = trim_sound w ts x e
   call_sound k.Size w ts x e = size_sound w ts x e
   call_sound k.Count w ts x e = aggregate_sound g.Count w ts x e
   call_sound k.Sum w ts x e = aggregate_sound g.Sum w ts x e

@@ -9,6 +9,8 @@ use Rattle.jpql_tree.specs.declared.token.Mark.TheVariants as m
 use Rattle.jpql_tree.specs.declared.token.Token.{Token}
 use Rattle.jpql_tree.specs.declared.token.Token.TheVariants as t
 use Rattle.jpql_tree.specs.declared.Function.TheVariants as f
+use Rattle.jpql_tree.specs.declared.Trimmed.{Trimmed}
+use Rattle.jpql_tree.specs.declared.Trimmed.TheVariants as side
 use Rattle.jpql_tree.specs.declared.Aggregate.{Aggregate}
 use Rattle.jpql_tree.specs.declared.Aggregate.TheVariants as g
 use Rattle.jpql_tree.specs.declared.Sign.TheVariants as s
@@ -76,6 +78,60 @@ aggregate_word g.Sum = k.Sum
 aggregate_word g.Min = k.Min
 aggregate_word g.Max = k.Max
 
+-- what TRIM takes off: a text or a parameter (chapter 4.7.2)
+pub data Taken° : Type 0 where
+  taken_text : Text → Taken°
+  taken_parameter : Text → Taken°
+
+-- what stands before the value that TRIM trims: nothing, side [t] FROM, or t FROM (chapter 4.7.2)
+pub data Trimming° : Type 0 where
+  unwritten_trimming : Trimming°
+  sided : Trimmed → Text → Option Taken° → Text → Trimming°
+  unsided : Taken° → Text → Trimming°
+
+-- the word that a side is written by
+abbrev pub side_word : Trimmed → Keyword
+side_word side.Leading = k.Leading
+side_word side.Trailing = k.Trailing
+side_word side.Both = k.Both
+
+-- the token of what TRIM takes off
+abbrev pub taken_token : Taken° → Token
+taken_token (taken_text w) = t.Quoted w
+taken_token (taken_parameter w) = t.Parameter w
+
+-- what TRIM takes off, where it is written
+abbrev pub write_taken : Option Taken° → List Token → List Token
+write_taken None rest = rest
+write_taken (Some x) rest = taken_token x ∷ rest
+
+-- the tokens before the value that TRIM trims
+abbrev pub write_trimming : Trimming° → List Token → List Token
+write_trimming unwritten_trimming rest = rest
+write_trimming (sided h w x u) rest = t.Key (side_word h) w ∷ write_taken x (t.Key k.From u ∷ rest)
+write_trimming (unsided x u) rest = taken_token x ∷ t.Key k.From u ∷ rest
+
+-- the tree of what TRIM takes off
+abbrev pub taken_tree : Taken° → Value
+taken_tree (taken_text w) = v.Text w
+taken_tree (taken_parameter w) = v.Parameter w
+
+-- the tree of what TRIM takes off, where it is written
+abbrev pub optional_taken : Option Taken° → Option Value
+optional_taken None = None
+optional_taken (Some x) = Some (taken_tree x)
+
+-- what TRIM takes off, and the side: both, where none is written
+abbrev pub trimming_tree : Trimming° → Trimmed × Option Value
+trimming_tree unwritten_trimming = (side.Both, None)
+trimming_tree (sided h w x u) = (h, optional_taken x)
+trimming_tree (unsided x u) = (side.Both, Some (taken_tree x))
+
+-- TRIM: the text that is trimmed comes first, then what is taken off where it is written
+abbrev pub trimmed_value : Trimmed × Option Value → Value → Value
+trimmed_value (h, None) a = v.Call (f.Trim h) (a ∷ [])
+trimmed_value (h, Some x) a = v.Call (f.Trim h) (a ∷ x ∷ [])
+
 -- Each keyword comes with how it is written.
 mutual
   -- value = product {("+" | "-") product}
@@ -134,6 +190,12 @@ mutual
     coalesce : Text → Value° → Value° → More° → Call°
     -- NULLIF(v, v)
     null_if : Text → Value° → Value° → Call°
+    -- UPPER(v)
+    upper : Text → Value° → Call°
+    -- LOWER(v)
+    lower : Text → Value° → Call°
+    -- TRIM(v), TRIM((LEADING | TRAILING | BOTH) [t] FROM v), TRIM(t FROM v)
+    trim : Text → Trimming° → Value° → Call°
     -- COUNT([DISTINCT] v) and so on
     aggregate : Aggregate → Text → Value° → Call°
     aggregate_distinct : Aggregate → Text → Text → Value° → Call°
@@ -203,6 +265,10 @@ abbrev mutual
       ∷ write_value a (t.Mark m.Comma ∷ write_value b (write_more all (t.Mark m.Close ∷ rest)))
   write_call (null_if w a b) rest =
       t.Key k.NullIf w ∷ t.Mark m.Open ∷ write_value a (t.Mark m.Comma ∷ write_value b (t.Mark m.Close ∷ rest))
+  write_call (upper w a) rest = t.Key k.Upper w ∷ t.Mark m.Open ∷ write_value a (t.Mark m.Close ∷ rest)
+  write_call (lower w a) rest = t.Key k.Lower w ∷ t.Mark m.Open ∷ write_value a (t.Mark m.Close ∷ rest)
+  write_call (trim w x a) rest =
+      t.Key k.Trim w ∷ t.Mark m.Open ∷ write_trimming x (write_value a (t.Mark m.Close ∷ rest))
   write_call (aggregate f w a) rest = t.Key (aggregate_word f) w ∷ t.Mark m.Open ∷ write_value a (t.Mark m.Close ∷ rest)
   write_call (aggregate_distinct f w d a) rest =
       t.Key (aggregate_word f) w ∷ t.Mark m.Open ∷ t.Key k.Distinct d ∷ write_value a (t.Mark m.Close ∷ rest)
@@ -260,6 +326,9 @@ abbrev mutual
   call_tree (size w p) = v.Size (path_tree p)
   call_tree (coalesce w a b all) = v.Call f.Coalesce (value_tree a ∷ value_tree b ∷ more_trees all)
   call_tree (null_if w a b) = v.Call f.NullIf (value_tree a ∷ value_tree b ∷ [])
+  call_tree (upper w a) = v.Call f.Upper (value_tree a ∷ [])
+  call_tree (lower w a) = v.Call f.Lower (value_tree a ∷ [])
+  call_tree (trim w x a) = trimmed_value (trimming_tree x) (value_tree a)
   call_tree (aggregate h w a) = v.Aggregate h false (value_tree a)
   call_tree (aggregate_distinct h w d a) = v.Aggregate h true (value_tree a)
 

@@ -4,6 +4,7 @@ use Rattle.std.specs.Prelude.{ℕ, zero, suc, ◌==◌, Bool, true, false, not, 
 use Rattle.std.specs.Prelude.{Option, Some, None, if◌then◌else◌}
 use Rattle.std.specs.Char.{is_ascii_digit}
 use lib.IntN.{pos}
+use Rattle.jpql_tree.specs.declared.Language.{Language}
 use Rattle.jpql_tree.specs.declared.token.Mark.{Mark}
 use Rattle.jpql_tree.specs.declared.token.Mark.TheVariants as m
 use Rattle.jpql_tree.specs.declared.token.Token.{Token}
@@ -107,8 +108,8 @@ piece_at (b ∷ bs) =
     else if b == 63 then numbered_at bs
     else mark_at (b ∷ bs)
 
--- the tokens of a text of at most so many bytes, after those that were found
-unfoldable pub tokens_at : ℕ → List Token → Text → Option (List Token)
-tokens_at n found [] = Some found
-tokens_at zero found (b ∷ bs) = Some found
-tokens_at (suc n) found (b ∷ bs) = piece_at (b ∷ bs) >>= λ x. tokens_at n (found ++ piece_tokens x.0) x.1
+-- the tokens in a language of a text of at most so many bytes, after those that were found
+unfoldable pub tokens_at : Language → ℕ → List Token → Text → Option (List Token)
+tokens_at l n found [] = Some found
+tokens_at l zero found (b ∷ bs) = Some found
+tokens_at l (suc n) found (b ∷ bs) = piece_at (b ∷ bs) >>= λ x. tokens_at l n (found ++ piece_tokens l x.0) x.1

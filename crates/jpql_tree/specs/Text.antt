@@ -7,6 +7,8 @@ use Rattle.std.specs.List.{list_all}
 use Rattle.std.specs.Char.{is_ascii_digit, is_ascii_alphabetic, is_ascii_alphanumeric}
 use Rattle.std.specs.Str.{str_eq_ignore_ascii_case}
 use lib.IntN.{pos}
+use Rattle.jpql_tree.specs.declared.Language.{Language}
+use Rattle.jpql_tree.specs.declared.Language.TheVariants as language
 use Rattle.jpql_tree.specs.declared.token.Keyword.{Keyword}
 use Rattle.jpql_tree.specs.declared.token.Keyword.TheVariants as k
 use Rattle.jpql_tree.specs.declared.token.Mark.{Mark}
@@ -84,10 +86,24 @@ spelling k.Count = codes "COUNT"
 spelling k.Sum = codes "SUM"
 spelling k.Min = codes "MIN"
 spelling k.Max = codes "MAX"
+spelling k.Upper = codes "UPPER"
+spelling k.Lower = codes "LOWER"
+spelling k.Trim = codes "TRIM"
+spelling k.Leading = codes "LEADING"
+spelling k.Trailing = codes "TRAILING"
+spelling k.Both = codes "BOTH"
+spelling k.Case = codes "CASE"
+spelling k.When = codes "WHEN"
+spelling k.Then = codes "THEN"
+spelling k.Else = codes "ELSE"
+spelling k.End = codes "END"
+spelling k.All = codes "ALL"
+spelling k.Any = codes "ANY"
+spelling k.Some = codes "SOME"
 
--- the words of the grammar (chapter 4.4.1)
-abbrev pub keywords : List Keyword
-keywords =
+-- the words of the profile's grammar (chapter 4.4.1)
+abbrev pub profile_keywords : List Keyword
+profile_keywords =
     k.Select ∷ k.Distinct ∷ k.From ∷ k.Where ∷ k.Group ∷ k.By ∷ k.Having ∷ k.Order ∷ k.As ∷ k.Inner ∷ k.Left ∷ k.Outer
     ∷ k.Join ∷ k.On ∷ k.Asc ∷ k.Desc
     ∷ k.Update ∷ k.Set ∷ k.Null ∷ k.Delete ∷ k.Or ∷ k.And ∷ k.Not ∷ k.Between ∷ k.In ∷ k.Like ∷ k.Escape ∷ k.Is
@@ -95,14 +111,25 @@ keywords =
     ∷ k.Length ∷ k.Concat ∷ k.Substring ∷ k.Locate ∷ k.Abs ∷ k.Mod ∷ k.Size ∷ k.Coalesce ∷ k.NullIf ∷ k.Count ∷ k.Sum
     ∷ k.Min ∷ k.Max ∷ []
 
+-- the words that the wider language has besides
+abbrev pub wide_keywords : List Keyword
+wide_keywords =
+    k.Upper ∷ k.Lower ∷ k.Trim ∷ k.Leading ∷ k.Trailing ∷ k.Both ∷ k.Case ∷ k.When ∷ k.Then ∷ k.Else ∷ k.End
+    ∷ k.All ∷ k.Any ∷ k.Some ∷ []
+
+-- the words of a language's grammar; each other word is a name
+abbrev pub keywords : Language → List Keyword
+keywords language.Profile = profile_keywords
+keywords language.Wide = profile_keywords ++ wide_keywords
+
 -- the first of these words that a text is, whatever its case
 abbrev pub first_keyword : List Keyword → Text → Option Keyword
 first_keyword [] w = None
 first_keyword (j ∷ js) w = if str_eq_ignore_ascii_case (spelling j) w then Some j else first_keyword js w
 
--- the word of the grammar that a word is, whatever its case
-unfoldable pub keyword_of : Text → Option Keyword
-keyword_of = first_keyword keywords
+-- the word of a language's grammar that a word is, whatever its case
+unfoldable pub keyword_of : Language → Text → Option Keyword
+keyword_of l = first_keyword (keywords l)
 
 -- the token of a word: one of the grammar, or a name
 abbrev pub word_of : Option Keyword → Text → Token
@@ -191,15 +218,15 @@ Spelled (named w) rest = IsWord w × (begins is_in_word rest ≡ false)
 Spelled (numbered w) rest = IsDigits w × (begins (λ b. b == 48) w ≡ false) × (begins is_ascii_digit rest ≡ false)
 Spelled (mark x) rest = begins (lengthens x) rest ≡ false
 
--- the token of a piece; a blank has none
-abbrev pub piece_tokens : Piece → List Token
-piece_tokens (blank b) = []
-piece_tokens (bare w) = word_of (keyword_of w) w ∷ []
-piece_tokens (digits w) = t.Number (pos (digits_value 0 w)) ∷ []
-piece_tokens (quoted w) = t.Quoted w ∷ []
-piece_tokens (named w) = t.Parameter w ∷ []
-piece_tokens (numbered w) = t.Parameter w ∷ []
-piece_tokens (mark x) = t.Mark x ∷ []
+-- the token of a piece in a language; a blank has none
+abbrev pub piece_tokens : Language → Piece → List Token
+piece_tokens l (blank b) = []
+piece_tokens l (bare w) = word_of (keyword_of l w) w ∷ []
+piece_tokens l (digits w) = t.Number (pos (digits_value 0 w)) ∷ []
+piece_tokens l (quoted w) = t.Quoted w ∷ []
+piece_tokens l (named w) = t.Parameter w ∷ []
+piece_tokens l (numbered w) = t.Parameter w ∷ []
+piece_tokens l (mark x) = t.Mark x ∷ []
 
 -- the bytes of pieces, one after the other
 abbrev pub write_pieces : List Piece → Text
@@ -211,11 +238,11 @@ abbrev pub AllSpelled : List Piece → Type 0
 AllSpelled [] = Unit {0}
 AllSpelled (p ∷ ps) = Spelled p (write_pieces ps) × AllSpelled ps
 
--- the tokens of pieces
-abbrev pub tokens_of : List Piece → List Token
-tokens_of [] = []
-tokens_of (p ∷ ps) = piece_tokens p ++ tokens_of ps
+-- the tokens of pieces in a language
+abbrev pub tokens_of : Language → List Piece → List Token
+tokens_of l [] = []
+tokens_of l (p ∷ ps) = piece_tokens l p ++ tokens_of l ps
 
--- The text is these tokens.
-abbrev pub IsText : Text → List Token → Type 0
-IsText text tokens = (ps : List Piece) × AllSpelled ps × (write_pieces ps ≡ text) × (tokens_of ps ≡ tokens)
+-- The text is these tokens in the language.
+abbrev pub IsText : Language → Text → List Token → Type 0
+IsText l text tokens = (ps : List Piece) × AllSpelled ps × (write_pieces ps ≡ text) × (tokens_of l ps ≡ tokens)

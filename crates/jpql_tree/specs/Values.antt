@@ -1,7 +1,7 @@
 -- How values are read from tokens, from the left: each function gives the tree and the tokens after
 -- it.
-use Rattle.std.specs.Prelude.{ℕ, zero, suc, Bool, true, false, nat_eq, nat_le, ◌||◌, List, [], ◌∷◌, ◌++◌, drop, length}
-use Rattle.std.specs.Prelude.{Option, Some, None, if◌then◌else◌}
+use Rattle.std.specs.Prelude.{ℕ, zero, suc, Bool, true, false, nat_eq, nat_le, ◌&&◌, ◌||◌, List, [], ◌∷◌, ◌++◌, drop}
+use Rattle.std.specs.Prelude.{length, Option, Some, None, is_some, if◌then◌else◌}
 use Rattle.std.specs.Option.{option_and_then}
 use Rattle.jpql_tree.specs.declared.token.Keyword.{Keyword}
 use Rattle.jpql_tree.specs.declared.token.Keyword.TheVariants as k
@@ -11,6 +11,8 @@ use Rattle.jpql_tree.specs.declared.token.Token.{Token}
 use Rattle.jpql_tree.specs.declared.token.Token.TheVariants as t
 use Rattle.jpql_tree.specs.declared.Function.{Function}
 use Rattle.jpql_tree.specs.declared.Function.TheVariants as f
+use Rattle.jpql_tree.specs.declared.Trimmed.{Trimmed}
+use Rattle.jpql_tree.specs.declared.Trimmed.TheVariants as side
 use Rattle.jpql_tree.specs.declared.Aggregate.TheVariants as g
 use Rattle.jpql_tree.specs.declared.Sign.TheVariants as s
 use Rattle.jpql_tree.specs.declared.Arithmetic.TheVariants as o
@@ -18,7 +20,7 @@ use Rattle.jpql_tree.specs.declared.Path.{Path}
 use Rattle.jpql_tree.specs.declared.Value.{Value}
 use Rattle.jpql_tree.specs.declared.Value.TheVariants as v
 use Rattle.jpql_tree.specs.Same.{same_mark, same_keyword}
-use Rattle.jpql_tree.specs.Grammar.{Text}
+use Rattle.jpql_tree.specs.Grammar.{Text, trimmed_value}
 use Rattle.jpql_tree.specs.declared.token.Callee.{Callee}
 use Rattle.jpql_tree.specs.declared.token.Callee.TheVariants as calls
 
@@ -126,6 +128,9 @@ callee_of k.Mod = calls.Function f.Mod
 callee_of k.Size = calls.Size
 callee_of k.Coalesce = calls.Function f.Coalesce
 callee_of k.NullIf = calls.Function f.NullIf
+callee_of k.Upper = calls.Function f.Upper
+callee_of k.Lower = calls.Function f.Lower
+callee_of k.Trim = calls.Trim
 callee_of k.Count = calls.Aggregate g.Count
 callee_of k.Sum = calls.Aggregate g.Sum
 callee_of k.Min = calls.Aggregate g.Min
@@ -142,9 +147,42 @@ takes f.Abs n = nat_eq n 1
 takes f.Mod n = nat_eq n 2
 takes f.Coalesce n = nat_le 2 n
 takes f.NullIf n = nat_eq n 2
+takes f.Upper n = nat_eq n 1
+takes f.Lower n = nat_eq n 1
+takes (f.Trim x) n = nat_eq n 1 || nat_eq n 2
+
+-- a text or a parameter, where one comes next
+abbrev pub taken_at : List Token → Option Value × List Token
+taken_at [] = (None, [])
+taken_at (t.Quoted w ∷ rest) = (Some (v.Text w), rest)
+taken_at (t.Parameter w ∷ rest) = (Some (v.Parameter w), rest)
+taken_at (x ∷ rest) = (None, x ∷ rest)
+
+-- [t] FROM, behind a side of TRIM
+unfoldable pub sided_at : Trimmed → Read (Trimmed × Option Value)
+sided_at x ts = let off = taken_at ts in after_word k.From off.1 >>= λ rest. Some ((x, off.0), rest)
+
+-- t FROM in TRIM, where they come next
+unfoldable pub unsided_at : Read (Trimmed × Option Value)
+unsided_at ts = let off = taken_at ts in
+    if is_some off.0 && is_word k.From off.1 then Some ((side.Both, off.0), drop 1 off.1)
+    else Some ((side.Both, None), ts)
+
+-- what stands before the value that TRIM trims: the side, and what is taken off where it is written
+unfoldable pub trimming_at : Read (Trimmed × Option Value)
+trimming_at ts =
+    if is_word k.Leading ts then sided_at side.Leading (drop 1 ts)
+    else if is_word k.Trailing ts then sided_at side.Trailing (drop 1 ts)
+    else if is_word k.Both ts then sided_at side.Both (drop 1 ts)
+    else unsided_at ts
 
 -- `inner` reads a value inside parentheses
 module _ (inner : Read Value) where
+  -- what TRIM trims, and how, and the parenthesis that closes (chapter 4.7.2)
+  unfoldable pub trim_at : Read Value
+  trim_at ts = trimming_at ts >>= λ how. closed (inner how.1)
+      >>= λ a. Some (trimmed_value how.0 a.0, a.1)
+
   -- the arguments of a call and the parenthesis that closes (chapter 4.7)
   unfoldable pub call_at : Callee → Read Value
   call_at (calls.Function h) ts =
@@ -152,6 +190,7 @@ module _ (inner : Read Value) where
   call_at calls.Size ts = closed (path_at ts) >>= λ p. Some (v.Size p.0, p.1)
   call_at (calls.Aggregate h) ts =
       let d = optional_word k.Distinct ts in closed (inner d.1) >>= λ a. Some (v.Aggregate h d.0 a.0, a.1)
+  call_at calls.Trim ts = trim_at ts
   call_at calls.Other ts = None
 
   -- what begins with a token: a literal, a parameter, a path, a call or a value in parentheses

@@ -30,6 +30,23 @@ pub enum Comparison {
     AtLeast,
 }
 
+/// The language of a text: the profile's, or the wider one with what applications write most
+/// (chapter 4). A text of the profile means the same in both, unless one of its names is a word that
+/// the wider language alone keeps to itself.
+#[derive(Clone, Copy)]
+pub enum Language {
+    Profile,
+    Wide,
+}
+
+/// The sides of a text off which TRIM takes (chapter 4.7.2).
+#[derive(Clone, Copy)]
+pub enum Trimmed {
+    Leading,
+    Trailing,
+    Both,
+}
+
 /// A function over values (chapters 4.7.2, 4.7.3 and 4.7.4).
 #[derive(Clone, Copy)]
 pub enum Function {
@@ -41,6 +58,10 @@ pub enum Function {
     Mod,
     Coalesce,
     NullIf,
+    Upper,
+    Lower,
+    /// Of the text, and of what is taken off its sides where that isn't the blank.
+    Trim(Trimmed),
 }
 
 /// An aggregate: a function over the tuples of a group (chapter 4.9.5).

@@ -54,6 +54,20 @@ pub enum Keyword {
     Sum,
     Min,
     Max,
+    Upper,
+    Lower,
+    Trim,
+    Leading,
+    Trailing,
+    Both,
+    Case,
+    When,
+    Then,
+    Else,
+    End,
+    All,
+    Any,
+    Some,
 }
 
 /// What a keyword calls.
@@ -62,6 +76,8 @@ pub enum Callee {
     Function(Function),
     Size,
     Aggregate(Aggregate),
+    /// TRIM, whose arguments stand in an order of its own.
+    Trim,
     Other,
 }
 

@@ -77,6 +77,9 @@ given_sort Function.Abs all = when (fit (integer ∷ []) all) integer
 given_sort Function.Mod all = when (fit (integer ∷ integer ∷ []) all) integer
 given_sort Function.Coalesce all = joined_basic all
 given_sort Function.NullIf all = joined_basic all
+given_sort Function.Upper all = when (fit (text ∷ []) all) text
+given_sort Function.Lower all = when (fit (text ∷ []) all) text
+given_sort (Function.Trim sides) all = when (fit (text ∷ text ∷ []) all) text
 
 -- and where it takes as many as these, by the grammar's own table
 abbrev pub call_sort : Function → List Sort → Option Sort

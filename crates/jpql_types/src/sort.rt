@@ -116,7 +116,8 @@ fn takes(function: Function, count: usize) -> bool
     ensures { result ≡ grammar.takes function count }
 {
     match function {
-        Function::Length | Function::Abs => count == 1,
+        Function::Length | Function::Abs | Function::Upper | Function::Lower => count == 1,
+        Function::Trim(_) => count == 1 || count == 2,
         Function::Mod | Function::NullIf => count == 2,
         Function::Substring | Function::Locate => count == 2 || count == 3,
         Function::Concat | Function::Coalesce => count >= 2,
@@ -135,6 +136,8 @@ fn given_sort(function: Function, all: &[Sort]) -> Option<Sort>
         Function::Abs if fit(&[INTEGER], all) => Some(INTEGER),
         Function::Mod if fit(&[INTEGER, INTEGER], all) => Some(INTEGER),
         Function::Coalesce | Function::NullIf => joined_basic(all),
+        Function::Upper | Function::Lower if fit(&[TEXT], all) => Some(TEXT),
+        Function::Trim(_) if fit(&[TEXT, TEXT], all) => Some(TEXT),
         _ => None,
     }
 }

@@ -29,4 +29,4 @@ returns-clause-served g c = servable c.open.result _ _ c.args.unit c.args.histor
 pub returns-clause-cells : goal.returns-clause-cells
 returns-clause-cells g c =
     let handed = c.into_connection-2.ensures.same ∙ ap (λ r. (r.store).conn) (c.into_connection.view_is ∙ c.into_rows.ensures) in
-    holds_unit g.S.Store c.args.unit _ _ _ _ _ _ (c.run.ensures.model ∙ c.in-Ok.ensures.provider.model) (c.run.ensures.registry ∙ c.in-Ok.ensures.provider.registry) handed c.run.ensures.cells
+    holds_unit g.S.Store c.args.unit _ _ _ _ _ _ (c.run.ensures.unit.model ∙ c.in-Ok.ensures.provider.model) (c.run.ensures.unit.registry ∙ c.in-Ok.ensures.provider.registry) handed c.run.ensures.cells

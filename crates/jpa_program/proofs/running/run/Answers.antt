@@ -6,27 +6,25 @@ use Rattle.jpa_rowspace.specs.Space.{HoldsRows}
 use Rattle.jpa_provider.specs.Provided.{world_in}
 use Rattle.jpa_program.specs.Run.{rows_over}
 use Rattle.jpa_program.proofs.Isolated.{isolates}
-use Rattle.jpa_program.proofs.Machines.{ended_ok, ended_err, ended_read, of_first}
+use Rattle.jpa_program.proofs.Machines.{ended, same_unit}
 use Rattle.jpa_program.proofs.Standing.{rows_held}
 use Rattle.jpa_program.proofs.running.run.Goals as goal
 
-pub returns-clause-ok : goal.returns-clause-ok
-returns-clause-ok g c = ended_ok _ _ c.args.provider.now c.run-ran.new.provider _ _ _ c.run-ran.result c.run-ran.ensures.ok
+pub returns-clause-machine : goal.returns-clause-machine
+returns-clause-machine g c =
+    let ran = c.run-ran.ensures in
+    ended _ _ c.args.provider.now c.run-ran.new.provider _ _ _ c.run-ran.result _ (record { ok = ran.ok; err = ran.err; read = ran.read })
 
-pub returns-clause-err : goal.returns-clause-err
-returns-clause-err g c = ended_err _ _ c.args.provider.now c.run-ran.new.provider _ _ _ c.run-ran.result c.run-ran.ensures.err
-
-pub returns-clause-read : goal.returns-clause-read
-returns-clause-read g c = ended_read _ _ c.args.provider.now c.run-ran.new.provider _ _ _ _ c.run-ran.result c.run-ran.ensures.read
+pub returns-clause-calls : goal.returns-clause-calls
+returns-clause-calls g c = let ran = c.run-ran.ensures in record { ok = ran.ok; err = ran.err; read = ran.read }
 
 pub returns-clause-isolated : goal.returns-clause-isolated
 returns-clause-isolated g c = isolates g.B.Behaviour.meaning (rows_over g.S.Store) c.args.provider.now
 
-pub returns-clause-model : goal.returns-clause-model
-returns-clause-model g c = (of_first _ _ c.args.provider.now c.run-ran.new.provider _ _ _ c.run-ran.result c.run-ran.ensures.ok c.run-ran.ensures.err).model
-
-pub returns-clause-registry : goal.returns-clause-registry
-returns-clause-registry g c = (of_first _ _ c.args.provider.now c.run-ran.new.provider _ _ _ c.run-ran.result c.run-ran.ensures.ok c.run-ran.ensures.err).registry
+pub returns-clause-unit : goal.returns-clause-unit
+returns-clause-unit g c =
+    let ran = c.run-ran.ensures in
+    same_unit _ _ c.args.provider.now c.run-ran.new.provider _ _ _ c.run-ran.result _ (record { ok = ran.ok; err = ran.err; read = ran.read })
 
 pub returns-clause-cells : goal.returns-clause-cells
 returns-clause-cells g c =

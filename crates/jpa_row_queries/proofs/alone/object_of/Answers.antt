@@ -1,9 +1,10 @@
-use Rattle.std.proofs.Common.{◌≡◌, Option, ◌∙◌, sym}
+use Rattle.std.proofs.Common.{◌≡◌, Option, option_map, ◌∙◌, sym}
 use Rattle.jpa_behaviour.specs.Registered.{world_of}
 use Rattle.jpa_object_rows.proofs.Bytes.Described.{described_mapped}
 use Rattle.jpa_rows.specs.Faults.{IsStoreCause}
 use Rattle.jpa_stored.specs.declared.stored.Stored.{Stored}
 use Rattle.jpa_stored.specs.Sets.{stored_at}
+use Rattle.jpql_by_key.specs.ByKey.{pairless}
 use Rattle.jpa_row_queries.proofs.OneRow.{none_alone, refused_alone, some_alone}
 use Rattle.jpa_row_queries.proofs.Looks.{match_err}
 use Rattle.jpa_row_queries.proofs.alone.object_of.Goals as goal
@@ -19,7 +20,7 @@ returns-in_err-object-in-Some-clause-object g c alone rows row set numbers of =
     let m = c.args.metamodel.now in
     let world = world_of g.B.Behaviour.meaning m c.args.registry.now in
     let e = c.in_err-object-in-Some.field-0.0 in
-    match_err IsStoreCause (λ (found : Option Stored). found ≡ stored_at set c.args.id.now) c.from_residual.result e c.from_residual.ensures.1
+    match_err IsStoreCause (λ (found : Option Stored). found ≡ option_map (pairless m) (stored_at set c.args.id.now)) c.from_residual.result e c.from_residual.ensures.1
     (refused_alone world (described_mapped m c.unit.ensures.described) (c.laws.ensures.regular m) c.discriminator_law.ensures rows set numbers of c.args.id.now alone c.in-Some.row e (sym row ∙ c.in-Some.is) c.in_err-object-in-Some.ensures.err)
 
 pub returns-in_ok-object-in-Some-clause-object : goal.returns-in_ok-object-in-Some-clause-object

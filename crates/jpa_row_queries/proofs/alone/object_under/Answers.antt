@@ -1,15 +1,16 @@
-use Rattle.std.proofs.Common.{◌≡◌, Option}
+use Rattle.std.proofs.Common.{◌≡◌, Option, option_map}
 use Rattle.jpa_overlay.specs.Overlay.{rows_under}
 use Rattle.jpa_rows.specs.Faults.{IsStoreCause}
 use Rattle.jpa_stored.specs.declared.stored.Stored.{Stored}
 use Rattle.jpa_stored.specs.Sets.{stored_at}
+use Rattle.jpql_by_key.specs.ByKey.{pairless}
 use Rattle.jpa_row_queries.specs.Unread.{IsReadingCause}
 use Rattle.jpa_row_queries.proofs.Looks.{damage_own, damage_reading, if_err, if_passed, looks_own, looks_passed, err_is, match_err, store_reading}
 use Rattle.jpa_row_queries.proofs.alone.object_under.Goals as goal
 
 pub returns-in_err-row-clause-object : goal.returns-in_err-row-clause-object
 returns-in_err-row-clause-object g c clean alone set numbers sees =
-    let e = c.in_err-row.field-0.0 in match_err IsStoreCause (λ (found : Option Stored). found ≡ stored_at set c.args.id.now) c.from_residual.result e c.from_residual.ensures.1 (c.in_err-row.ensures.err clean sees.rows sees.held)
+    let e = c.in_err-row.field-0.0 in match_err IsStoreCause (λ (found : Option Stored). found ≡ option_map (pairless c.args.metamodel.now) (stored_at set c.args.id.now)) c.from_residual.result e c.from_residual.ensures.1 (c.in_err-row.ensures.err clean sees.rows sees.held)
 
 pub returns-in_err-row-clause-err : goal.returns-in_err-row-clause-err
 returns-in_err-row-clause-err g c clean rows holds =

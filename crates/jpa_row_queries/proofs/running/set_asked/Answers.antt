@@ -10,7 +10,7 @@ use Rattle.jpa_row_queries.specs.Seen.{AreJustOf}
 use Rattle.jpa_row_queries.specs.Unread.{IsReadingCause}
 use Rattle.jpa_rows.proofs.Looks.{looks_none, none_at_one}
 use Rattle.jpa_row_queries.proofs.Looks.{if_ok, if_passed, match_err, memory_reading, ok_passed}
-use Rattle.jpa_row_queries.proofs.Asked.{GivesSame, asked_alone, asked_whole, held_looked_up, stands_alone}
+use Rattle.jpa_row_queries.proofs.Asked.{GivesSame, asked_alone, asked_whole, held_looked_up}
 use Rattle.jpa_row_queries.proofs.running.set_asked.Goals as goal
 
 pub returns-in_err-asked-clause-asked : goal.returns-in_err-asked-clause-asked
@@ -33,7 +33,7 @@ returns-in-Some-clause-asked g c clean set numbers sees =
     let q = c.args.statement.now in
     let id = c.in-Some.id in
     let laws = c.key_laws.ensures m ps q id (sym c.in_ok-asked.ensures ∙ c.in-Some.is) in
-    asked_alone m ps q set id laws (held_looked_up sees.of.held) c.alone_seen.result (c.alone_seen.ensures.seen clean (stands_alone m ps q id laws) set numbers sees)
+    asked_alone m ps q set id laws (held_looked_up sees.of.held) c.alone_seen.result (c.alone_seen.ensures.seen clean laws.rooted set numbers sees)
 
 pub returns-in-Some-clause-err : goal.returns-in-Some-clause-err
 returns-in-Some-clause-err g c clean rows rise holds = c.alone_seen.ensures.err clean rows holds

@@ -1,8 +1,8 @@
-use Rattle.std.proofs.Common.{◌≡◌, ap}
+use Rattle.std.proofs.Common.{◌≡◌, ap, option_map}
 use Rattle.jpa_open.specs.Opened.{Opened, now}
 use Rattle.jpa_rows.specs.Faults.{IsStoreCause}
 use Rattle.jpa_stored.specs.Sets.{stored_at}
-use Rattle.jpql_by_key.specs.ByKey.{only}
+use Rattle.jpql_by_key.specs.ByKey.{only, pairless}
 use Rattle.jpa_row_queries.specs.Unread.{IsReadingCause}
 use Rattle.jpa_row_queries.proofs.Looks.{err_is, if_err, if_passed, looks_own, looks_passed, match_err, memory_own, memory_reading}
 use Rattle.jpa_row_queries.proofs.Asked.{alone_looked_up, opened_as, opened_looked}
@@ -10,7 +10,7 @@ use Rattle.jpa_row_queries.proofs.seen.alone_seen.Goals as goal
 
 pub returns-in_err-object-clause-seen : goal.returns-in_err-object-clause-seen
 returns-in_err-object-clause-seen g c clean alone set numbers sees =
-    let e = c.in_err-object.field-0.0 in match_err IsStoreCause (λ (found : Opened). now found ≡ only c.args.id (stored_at set c.args.id)) c.from_residual.result e c.from_residual.ensures.1 (c.in_err-object.ensures.object clean alone set numbers sees)
+    let e = c.in_err-object.field-0.0 in match_err IsStoreCause (λ (found : Opened). now found ≡ only c.args.id (option_map (pairless c.args.metamodel.now) (stored_at set c.args.id))) c.from_residual.result e c.from_residual.ensures.1 (c.in_err-object.ensures.object clean alone set numbers sees)
 
 pub returns-in_err-object-clause-err : goal.returns-in_err-object-clause-err
 returns-in_err-object-clause-err g c clean rows holds =

@@ -16,7 +16,7 @@ returns-in-Err-try_get_matches_from-clause-told c =
 pub returns-in-None-clause-question : goal.returns-in-None-clause-question
 returns-in-None-clause-question c =
     let s = c.in_ok-settings-in-Ok-try_get_matches_from in
-    asked _ _ _ s.settings c.in-Ok.ensures c.in-Ok-try_get_matches_from.ensures.matches s.ensures.query s.ensures.params s.ensures.explain
+    asked _ _ _ s.settings c.in-Ok.ensures c.in-Ok-try_get_matches_from.ensures.matches s.ensures.query s.ensures.params s.ensures.explain s.ensures.language
 
 pub returns-in-None-clause-mapping : goal.returns-in-None-clause-mapping
 returns-in-None-clause-mapping c =
@@ -29,7 +29,7 @@ returns-in-None-clause-db c =
 pub returns-in-None-clause-accepted : goal.returns-in-None-clause-accepted
 returns-in-None-clause-accepted c =
     let s = c.in_ok-settings-in-Ok-try_get_matches_from in
-    let lack = lack_read _ _ _ s.settings c.in-Ok.ensures c.in-Ok-try_get_matches_from.ensures.matches s.ensures.query s.ensures.params s.ensures.explain s.settings.db s.ensures.db in
+    let lack = lack_read _ _ _ s.settings c.in-Ok.ensures c.in-Ok-try_get_matches_from.ensures.matches s.ensures.query s.ensures.params s.ensures.explain s.ensures.language s.settings.db s.ensures.db in
     record {
       faultless = accepted_words _ (map string_bytes c.args.words.now) c.in-Ok.ensures c.in-Ok-try_get_matches_from.ensures.kinds;
       whole = sym lack ∙ sym c.lacking.ensures ∙ ap (option_map (λ v. v.now)) c.in-None.is;
@@ -38,7 +38,7 @@ returns-in-None-clause-accepted c =
 pub returns-in-Some-clause-told : goal.returns-in-Some-clause-told
 returns-in-Some-clause-told c =
     let s = c.in_ok-settings-in-Ok-try_get_matches_from in
-    let lack = lack_read _ _ _ s.settings c.in-Ok.ensures c.in-Ok-try_get_matches_from.ensures.matches s.ensures.query s.ensures.params s.ensures.explain s.settings.db s.ensures.db in
+    let lack = lack_read _ _ _ s.settings c.in-Ok.ensures c.in-Ok-try_get_matches_from.ensures.matches s.ensures.query s.ensures.params s.ensures.explain s.ensures.language s.settings.db s.ensures.db in
     let faultless = accepted_words _ (map string_bytes c.args.words.now) c.in-Ok.ensures c.in-Ok-try_get_matches_from.ensures.kinds in
     let lacks = sym lack ∙ sym c.lacking.ensures ∙ ap (option_map (λ v. v.now)) c.in-Some.is in
     told_lack (map string_bytes c.args.words.now) c.in-Some.said.now c.refused.result faultless lacks c.refused.ensures
@@ -46,6 +46,6 @@ returns-in-Some-clause-told c =
 pub returns-in-Some-clause-taken : goal.returns-in-Some-clause-taken
 returns-in-Some-clause-taken c taken whole =
     let s = c.in_ok-settings-in-Ok-try_get_matches_from in
-    let lack = lack_read _ _ _ s.settings c.in-Ok.ensures c.in-Ok-try_get_matches_from.ensures.matches s.ensures.query s.ensures.params s.ensures.explain s.settings.db s.ensures.db in
+    let lack = lack_read _ _ _ s.settings c.in-Ok.ensures c.in-Ok-try_get_matches_from.ensures.matches s.ensures.query s.ensures.params s.ensures.explain s.ensures.language s.settings.db s.ensures.db in
     let lacks = sym lack ∙ sym c.lacking.ensures ∙ ap (option_map (λ v. v.now)) c.in-Some.is in
     absurd (some_is_none _ (sym lacks ∙ whole))

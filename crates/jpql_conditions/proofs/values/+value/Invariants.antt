@@ -36,7 +36,10 @@ abbrev pub decreases-value_list : goal.decreases-value_list
 decreases-value_list l = l.depth * 10 + 2
 
 abbrev pub decreases-nested : goal.decreases-nested
-decreases-nested l = l.depth * 10 + 2
+decreases-nested l = l.depth * 10 + 1
+
+abbrev pub decreases-trim : goal.decreases-trim
+decreases-trim l = l.depth * 10 + 2
 
 abbrev pub decreases-others : goal.decreases-others
 decreases-others l = l.depth * 10 + 1

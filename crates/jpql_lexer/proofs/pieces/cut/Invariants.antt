@@ -3,4 +3,4 @@ use Rattle.jpql_tree.specs.Lexing.{tokens_at}
 use Rattle.jpql_lexer.proofs.pieces.cut.Given as goal
 
 abbrev pub invariant-loop-turn : goal.invariant-loop-turn
-invariant-loop-turn l = (tokens_at (length l.fn.text) [] l.fn.text ≡ tokens_at (l._turn-end - l._turn) l.found.items l.rest) × IsUtf8 l.rest
+invariant-loop-turn l = (tokens_at l.fn.language (length l.fn.text) [] l.fn.text ≡ tokens_at l.fn.language (l._turn-end - l._turn) l.found.items l.rest) × IsUtf8 l.rest

@@ -2,10 +2,10 @@ use Rattle.jpql_lexer.proofs.Whole.{found, only, none}
 use Rattle.jpql_lexer.proofs.pieces.tokens.Goals as goal
 
 pub returns-clause-found : goal.returns-clause-found
-returns-clause-found c = found (λ v. v.items) c.cut.result c.args.text.now c.cut.ensures
+returns-clause-found c = found c.args.language (λ v. v.items) c.cut.result c.args.text.now c.cut.ensures
 
 pub returns-clause-only : goal.returns-clause-only
-returns-clause-only c = only (λ v. v.items) c.cut.result c.args.text.now c.cut.ensures
+returns-clause-only c = only c.args.language (λ v. v.items) c.cut.result c.args.text.now c.cut.ensures
 
 pub returns-clause-none : goal.returns-clause-none
-returns-clause-none c = none (λ v. v.items) c.cut.result c.args.text.now c.cut.ensures
+returns-clause-none c = none c.args.language (λ v. v.items) c.cut.result c.args.text.now c.cut.ensures
