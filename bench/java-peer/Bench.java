@@ -7,11 +7,17 @@ import jakarta.persistence.ManyToOne;
 import jakarta.persistence.OneToMany;
 import jakarta.persistence.Persistence;
 import jakarta.persistence.Version;
+import java.lang.management.ManagementFactory;
+import java.time.Duration;
 import java.util.ArrayList;
+import java.util.HashMap;
 import java.util.List;
-import java.util.Map;
 
-/** Workloads of one provider, each told as its nanoseconds an operation: Bench PROPERTY=VALUE.. */
+/**
+ * Workloads of one provider, each told as its nanoseconds an operation: by the clock, of the processor for this thread,
+ * and of the processor for the program that the provider started. {@code Bench ROUNDS PROPERTY=VALUE..}; with no round
+ * it is a first run alone: open, persist, commit, find.
+ */
 public class Bench {
     @Entity(name = "Person")
     public static class Person {
@@ -19,6 +25,17 @@ public class Bench {
         @Version int version;
         String name;
         @OneToMany(mappedBy = "person") List<Order> orders = new ArrayList<>();
+
+        protected Person() {}
+
+        public Person(long id) {
+            this.id = id;
+            name = "person " + id;
+        }
+
+        public int countOrders() {
+            return orders.size();
+        }
     }
 
     @Entity(name = "Purchase")
@@ -26,6 +43,22 @@ public class Bench {
         @Id Long id;
         int amount;
         @ManyToOne(fetch = FetchType.LAZY) Person person;
+
+        protected Order() {}
+
+        public Order(long id, Person person) {
+            this.id = id;
+            this.person = person;
+        }
+    }
+
+    /** When a piece of work began. */
+    private record Moment(long clock, long thread, long program) {
+        static Moment now() {
+            var program = ProcessHandle.current().children().map(child -> child.info().totalCpuDuration())
+                .mapToLong(used -> used.map(Duration::toNanos).orElse(0L)).sum();
+            return new Moment(System.nanoTime(), ManagementFactory.getThreadMXBean().getCurrentThreadCpuTime(), program);
+        }
     }
 
     private static long next = 0;
@@ -36,9 +69,8 @@ public class Bench {
     }
 
     public static void main(String[] words) {
-        var start = System.nanoTime();
-        var properties = new java.util.HashMap<String, String>();
-        for (var word : words) {
+        var properties = new HashMap<String, String>();
+        for (var word : List.of(words).subList(1, words.length)) {
             var mark = word.indexOf('=');
             properties.put(word.substring(0, mark), word.substring(mark + 1));
         }
@@ -46,60 +78,62 @@ public class Bench {
         EntityManager manager = factory.createEntityManager();
         var bench = new Bench(manager);
         bench.persist(1);
-        tell("first commit, from main", start, 1);
-        for (var round = 0; round < 2; round++) {
+        manager.clear();
+        if (manager.find(Person.class, 1L) == null) {
+            throw new IllegalStateException("the first person isn't there");
+        }
+        for (var round = 0; round < Integer.parseInt(words[0]); round++) {
             bench.round();
         }
         manager.close();
         factory.close();
     }
 
-    private static void tell(String what, long start, int operations) {
-        System.out.println(what + "\t" + (System.nanoTime() - start) / operations);
+    private static void tell(String what, Moment start, int operations) {
+        var end = Moment.now();
+        System.out.println(what + "\t" + (end.clock - start.clock) / operations
+            + "\t" + (end.thread - start.thread) / operations + "\t" + (end.program - start.program) / operations);
     }
 
     private void round() {
         var first = next + 1;
-        var start = System.nanoTime();
+        var start = Moment.now();
         persist(10_000);
         tell("10,000 persisted in one transaction", start, 10_000);
         manager.clear();
         lists(first);
         manager.clear();
-        start = System.nanoTime();
-        for (var id = first; id < first + 2_000; id++) {
+        start = Moment.now();
+        for (var id = first; id < first + 5_000; id++) {
             manager.find(Person.class, id);
             manager.clear();
         }
-        tell("loaded find, cleared", start, 2_000);
+        tell("loaded find, cleared after each", start, 5_000);
         manager.find(Person.class, first);
-        start = System.nanoTime();
-        for (var i = 0; i < 100_000; i++) {
+        start = Moment.now();
+        for (var i = 0; i < 500_000; i++) {
             manager.find(Person.class, first);
         }
-        tell("managed find", start, 100_000);
+        tell("managed find", start, 500_000);
         manager.clear();
-        start = System.nanoTime();
+        start = Moment.now();
         for (var i = 0; i < 2_000; i++) {
             persist(1);
             manager.clear();
         }
-        tell("small commit, cleared", start, 2_000);
-        start = System.nanoTime();
+        tell("small commit, cleared after each", start, 2_000);
+        start = Moment.now();
         for (var i = 0; i < 2_000; i++) {
             persist(1);
         }
-        tell("small commit, kept", start, 2_000);
+        tell("small commit, all 2,000 kept", start, 2_000);
         manager.clear();
     }
 
     private void persist(int count) {
         manager.getTransaction().begin();
         for (var i = 0; i < count; i++) {
-            var person = new Person();
-            person.id = ++next;
-            person.name = "person " + next;
-            manager.persist(person);
+            manager.persist(new Person(++next));
         }
         manager.getTransaction().commit();
     }
@@ -108,17 +142,15 @@ public class Bench {
         manager.getTransaction().begin();
         for (var id = first; id < first + 1_000; id++) {
             for (var k = 0; k < 5; k++) {
-                var order = new Order();
-                order.id = ++next;
-                order.person = manager.getReference(Person.class, id);
-                manager.persist(order);
+                manager.persist(new Order(++next, manager.getReference(Person.class, id)));
             }
         }
         manager.getTransaction().commit();
         manager.clear();
-        var start = System.nanoTime();
+        manager.getEntityManagerFactory().getCache().evictAll();     // it has the persons without what was added
+        var start = Moment.now();
         for (var id = first; id < first + 1_000; id++) {
-            if (manager.find(Person.class, id).orders.size() != 5) {
+            if (manager.find(Person.class, id).countOrders() != 5) {
                 throw new IllegalStateException("person " + id + " has not five orders");
             }
         }

@@ -157,7 +157,7 @@ final class Carry {
         return isSame;
     }
 
-    private static boolean isSameLink(Object before, Object now) {
+    static boolean isSameLink(Object before, Object now) {
         if (before == null || now == null) {
             return before == now;
         }
@@ -220,6 +220,9 @@ final class Carry {
                 .forEach(members::add);
             held.clear();
             held.addAll(members);
+            if (read.relation().container() == Relation.Container.MAP && !(value instanceof Lazy)) {
+                read.relation().set(read.owner().instance(), held);        // the values of a map are a copy
+            }
         }
         read.owner().relations[read.relation().place()] = now;
     }

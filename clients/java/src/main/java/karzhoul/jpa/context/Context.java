@@ -23,6 +23,7 @@ import karzhoul.jpa.engine.Refusals;
 import karzhoul.jpa.engine.Reply;
 import karzhoul.jpa.engine.Session;
 import karzhoul.jpa.model.Callbacks;
+import karzhoul.jpa.model.ElementRow;
 import karzhoul.jpa.model.EntityModel;
 import karzhoul.jpa.model.KeyModel;
 import karzhoul.jpa.model.Relation;
@@ -33,7 +34,8 @@ import karzhoul.jpa.model.UnitModel;
  * to be sent, and the transaction. What the program decides is asked of it. For one thread at a time.
  */
 final class Context {
-    private static final Object[] NO_ROW = {};
+    private static final Entry.Row NO_ROW = new Entry.Row(new Object[0], new Object[0]);
+    private static final int AHEAD = 8_000;
     private static final Cleaner CLEANER = Cleaner.create();
 
     private final Factory factory;
@@ -43,11 +45,12 @@ final class Context {
     private final UnitModel unit;
     private final Identities identities = new Identities();
     private final Lines queue = new Lines();
+    private final List<Engine.Sent> sentAhead = new ArrayList<>();
     private final Map<Entry, Set<Callbacks.Event>> heard = new IdentityHashMap<>();
     private final BitSet detached = new BitSet();
     private final Map<Long, WeakReference<Object>> lost = new HashMap<>();
     private final List<Entry> touched = new ArrayList<>();
-    private final Map<Entry, Object[]> written = new IdentityHashMap<>();
+    private final Map<Entry, Entry.Row> written = new IdentityHashMap<>();
     private Session session;
     private int depth;
     private boolean isActive;
@@ -128,7 +131,9 @@ final class Context {
     /** Does one operation that asks the program: it is busy meanwhile, and what it left waiting is sent at its end. */
     <T> T within(Supplier<T> operation) {
         if (depth > 0 || hasBegun) {
-            return deeper(operation);
+            T done = deeper(operation);
+            sendAhead();
+            return done;
         }
         enter();
         T done;
@@ -153,6 +158,31 @@ final class Context {
         } finally {
             depth--;
         }
+    }
+
+    /** In a transaction what waits goes on its way once there is much of it, so that the program works meanwhile. */
+    private void sendAhead() {
+        if (depth == 0 && hasBegun && queue.length() >= AHEAD && queue.length() <= Engine.WINDOW) {
+            try {
+                isBeginSent = true;
+                sentAhead.add(session.engine().send(queue));
+            } catch (ProgramEnded e) {
+                throw marked(e);
+            } finally {
+                queue.clear();
+            }
+        }
+    }
+
+    /** What was sent ahead, and was refused, must not be missing from a commit. */
+    private void checkSentAhead() {
+        for (Engine.Sent sent : sentAhead) {
+            if (sent.refused() != null) {
+                sentAhead.clear();
+                throw marked(Refusals.of(sent.refused()));
+            }
+        }
+        sentAhead.clear();
     }
 
     /** What is told of instances must reach the program, also where the operation was refused then. */
@@ -208,6 +238,7 @@ final class Context {
 
     /** Ends what {@link #enter} began; a manager that holds nothing goes back to the pool. */
     private void leave() {
+        sentAhead.clear();
         if (session == null) {
             return;
         }
@@ -259,7 +290,7 @@ final class Context {
 
     /** Sends what waits. */
     void send() {
-        if (!queue.isEmpty()) {
+        if (!queue.isEmpty() || !sentAhead.isEmpty()) {
             ask(queue.count());
         }
     }
@@ -277,14 +308,14 @@ final class Context {
     /** All that was told is written. */
     void cleanTouched() {
         for (Entry entry : touched) {
-            written.putIfAbsent(entry, entry.rowValues());
+            written.putIfAbsent(entry, entry.row());
             entry.clean();
         }
         touched.clear();
     }
 
-    /** What flushes of this transaction have written, with the values of its row before; none where there was no row. */
-    Map<Entry, Object[]> written() {
+    /** What flushes of this transaction have written, with its row before; one without values where there was none. */
+    Map<Entry, Entry.Row> written() {
         return written;
     }
 
@@ -349,6 +380,7 @@ final class Context {
         hasBegun = false;
         isBeginSent = false;
         queue.clear();
+        sentAhead.clear();
         letAllGo();
         if (session == null) {
             return;
@@ -384,6 +416,7 @@ final class Context {
         } finally {
             queue.clear();
         }
+        checkSentAhead();
         for (int i = 0; i < main; i++) {
             if (replies[i].isRefused()) {
                 if (i < from || Refusals.marks(replies[i])) {
@@ -411,7 +444,8 @@ final class Context {
 
     /** Runs them before the program tells the event; they don't run again when it does. */
     void runAhead(Callbacks.Event event, Entry entry) {
-        if (heard.computeIfAbsent(entry, e -> EnumSet.noneOf(Callbacks.Event.class)).add(event)) {
+        if (entry.model().callbacks().hears(event)
+                && heard.computeIfAbsent(entry, e -> EnumSet.noneOf(Callbacks.Event.class)).add(event)) {
             run(event, entry);
         }
     }
@@ -476,6 +510,9 @@ final class Context {
     EntityModel modelOf(Object instance) {
         if (instance == null) {
             throw marked(new IllegalArgumentException("null is no entity"));
+        }
+        if (instance instanceof ElementRow row) {
+            return row.entity();
         }
         Object known = Proxies.known(instance);
         if (known instanceof Entry entry && entry.model().root() != null && unit.entities().contains(entry.model())) {
@@ -545,12 +582,19 @@ final class Context {
         identities.clear();
         detached.clear();
         lost.clear();
-        heard.clear();
+        clear(heard);
         touched.clear();
-        written.clear();
+        clear(written);
         isTouched = false;
         hasStale = false;
         hasRemoved = false;
+    }
+
+    /** To clear a table of identities takes as long as it is, though nothing is in it. */
+    private static void clear(Map<?, ?> map) {
+        if (!map.isEmpty()) {
+            map.clear();
+        }
     }
 
     /** Detaches all (chapter 3.2.7); an open transaction goes on. */

@@ -27,7 +27,7 @@ final class Culprits {
 
     private final Context probe;
     private final List<Entry> suspects = new ArrayList<>();
-    private final Map<Entry, Object[]> written;
+    private final Map<Entry, Entry.Row> written;
 
     Culprits(Context context) {
         probe = new Context(context.factory(), 0);
@@ -81,16 +81,18 @@ final class Culprits {
     }
 
     private boolean isStale(Entry entry, Shown shown) {
-        Object[] known = written.getOrDefault(entry, entry.rowValues());
-        if (shown == null || known.length == 0) {
-            return shown == null && known.length > 0 && entry.isStored();
+        Entry.Row known = written.getOrDefault(entry, entry.row());
+        if (shown == null || known.values().length == 0) {
+            return shown == null && known.values().length > 0 && entry.isStored();
         }
         if (entry.model().version().isPresent()) {
             Attribute version = entry.model().version().get();
-            return !Values.isKept(version, shown.values()[version.place()], known[version.place()]);
+            return !Values.isKept(version, shown.values()[version.place()], known.values()[version.place()]);
         }
         return entry.model().attributes().stream().anyMatch(attribute ->
-            !Values.isKept(attribute, shown.values()[attribute.place()], known[attribute.place()]));
+                !Values.isKept(attribute, shown.values()[attribute.place()], known.values()[attribute.place()]))
+            || entry.model().relations().stream().anyMatch(relation -> relation.isOwner() && !relation.isMany()
+                && !Carry.isSameLink(known.relations()[relation.place()], shown.relations()[relation.place()]));
     }
 
     private static Optional<String> missing(Entry entry) {

@@ -20,6 +20,9 @@ final class Entry {
     /** A collection that the program has not read. */
     static final Object UNREAD = Shown.UNREAD;
 
+    /** What a row has: values as a snapshot keeps them, links as entries. */
+    record Row(Object[] values, Object[] relations) {}
+
     private final EntityModel model;
     private Object instance;
     private Context context;
@@ -152,6 +155,11 @@ final class Entry {
     void clean() {
         cleanValues = null;
         cleanRelations = null;
+    }
+
+    /** The row, as far as is known here. */
+    Row row() {
+        return new Row(rowValues(), rowRelations());
     }
 
     /** The values of the row, as far as is known here. */

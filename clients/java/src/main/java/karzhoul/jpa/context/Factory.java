@@ -11,6 +11,7 @@ import jakarta.persistence.Query;
 import jakarta.persistence.SynchronizationType;
 import jakarta.persistence.criteria.CriteriaBuilder;
 import jakarta.persistence.metamodel.Metamodel;
+import java.util.ArrayList;
 import java.util.Collections;
 import java.util.HashMap;
 import java.util.HashSet;
@@ -19,8 +20,13 @@ import java.util.Map;
 import java.util.Set;
 import java.util.concurrent.atomic.AtomicBoolean;
 import java.util.function.Function;
+import karzhoul.jpa.Karzhoul;
+import karzhoul.jpa.criteria.Builder;
+import karzhoul.jpa.engine.Engine;
 import karzhoul.jpa.engine.Pool;
 import karzhoul.jpa.engine.Program;
+import karzhoul.jpa.graph.Graphs;
+import karzhoul.jpa.metamodel.UnitMetamodel;
 import karzhoul.jpa.model.Callbacks.Event;
 import karzhoul.jpa.model.EntityModel;
 import karzhoul.jpa.model.Relation;
@@ -42,29 +48,37 @@ public final class Factory implements EntityManagerFactory {
     private final Map<String, Object> properties;
     private final AtomicBoolean isOpen = new AtomicBoolean(true);
     private final Statements statements;
+    private final Graphs graphs;
+    private final UnitMetamodel metamodel;
+    private final Builder criteria;
     private Function<Context, Push> pushing = Push::new;
 
 
     /**
      * Opens a unit.
      *
-     * @throws PersistenceException where a named query is none, the program can't be started, or it refuses the
+     * @throws PersistenceException where a named query or entity graph is none, the program can't be started, or it refuses the
      *     mapping or the store
      */
     public Factory(UnitSettings settings) {
         this.settings = settings;
         UnitModel unit = settings.unit();
         statements = new Statements(unit);
-        List<String> faults = statements.faults();
+        graphs = new Graphs(unit);
+        List<String> faults = new ArrayList<>(statements.faults());
+        faults.addAll(graphs.faults());
         if (!faults.isEmpty()) {
             throw new PersistenceException("the persistence unit " + settings.name() + " is refused:\n  "
                 + String.join("\n  ", faults));
         }
+        metamodel = new UnitMetamodel(unit);
+        criteria = new Builder(unit, metamodel);
         program = Program.open(settings.url(), settings.program(), unit.mapping(), unit.description(),
             settings.log().orElse(null));
         hearingBefore = hearing(BEFORE);
         hearingWrites = hearing(WRITES);
         settings.unit().entities().forEach(entity -> mapped.put(entity.mappedName(), entity));
+        settings.unit().hidden().forEach(entity -> mapped.put(entity.mappedName(), entity));
         properties = Map.copyOf(settings.properties());
     }
 
@@ -99,6 +113,14 @@ public final class Factory implements EntityManagerFactory {
 
     Statements statements() {
         return statements;
+    }
+
+    Builder criteria() {
+        return criteria;
+    }
+
+    Graphs graphs() {
+        return graphs;
     }
 
     /** The entity of a name in the program's mapping. */
@@ -169,13 +191,13 @@ public final class Factory implements EntityManagerFactory {
     @Override
     public CriteriaBuilder getCriteriaBuilder() {
         needOpen();
-        throw Later.criteria();
+        return criteria;
     }
 
     @Override
     public Metamodel getMetamodel() {
         needOpen();
-        throw Later.metamodel();
+        return metamodel;
     }
 
     @Override
@@ -217,16 +239,25 @@ public final class Factory implements EntityManagerFactory {
 
     @Override
     public <T> T unwrap(Class<T> cls) {
-        if (cls.isInstance(this)) {
+        if (cls == Karzhoul.class) {
+            return cls.cast((Karzhoul) this::statistics);
+        } else if (cls.isInstance(this)) {
             return cls.cast(this);
         }
         throw new PersistenceException("an entity manager factory of Karzhoul is no " + cls.getName());
     }
 
+    private Karzhoul.Statistics statistics() {
+        needOpen();
+        Engine engine = pool().engine();
+        return new Karzhoul.Statistics(engine.calls(), engine.refusals(), engine.trips(), engine.made(),
+            pool().busy(), pool().run());
+    }
+
     @Override
     public <T> void addNamedEntityGraph(String graphName, EntityGraph<T> entityGraph) {
         needOpen();
-        throw Later.graphs();
+        graphs.add(graphName, entityGraph);
     }
 
     @Override

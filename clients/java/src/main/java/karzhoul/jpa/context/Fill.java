@@ -18,6 +18,7 @@ import karzhoul.jpa.engine.Shown;
 import karzhoul.jpa.model.Attribute;
 import karzhoul.jpa.model.Callbacks;
 import karzhoul.jpa.model.EntityModel;
+import karzhoul.jpa.model.KeyCopy;
 import karzhoul.jpa.model.Relation;
 
 /**
@@ -39,6 +40,7 @@ final class Fill {
     private final List<Told> links = new ArrayList<>();
     private final List<Told> collections = new ArrayList<>();
     private final Set<Long> merged = new HashSet<>();
+    private final List<Entry> copying = new ArrayList<>();
     private List<Told> unread = new ArrayList<>();
 
     Fill(Context context) {
@@ -83,6 +85,14 @@ final class Fill {
         return entries(refs);
     }
 
+    /** As {@link #entries(List)}, where the object of a number was shown already; null where none was. */
+    List<Entry> entries(List<?> refs, long number, Shown shown) {
+        if (shown != null && refs.contains(new Ref(number)) && identities.of(number) == null) {
+            take(number, shown);
+        }
+        return entries(refs);
+    }
+
     /** The entries of these objects, each filled; null for null. */
     List<Entry> entries(List<?> refs) {
         for (Object ref : refs) {
@@ -109,7 +119,7 @@ final class Fill {
             complete();
         } else if (entry.isHollow() && found(entry.model(), entry.key()) == null) {
             throw context.marked(new EntityNotFoundException("EntityNotFound, " + entry
-                + ": its row is gone, which was there when what leads to it was read"));
+                + ": there is no such row, or it was removed since what leads to it was read"));
         }
     }
 
@@ -191,6 +201,8 @@ final class Fill {
             give(link);
         }
         links.clear();
+        copying.forEach(Fill::copies);
+        copying.clear();
         for (boolean isSet : new boolean[] {false, true}) {
             for (Told told : collections) {
                 if (isSet == (told.relation().container() == Relation.Container.SET)) {
@@ -247,8 +259,19 @@ final class Fill {
         for (int i = 0; i < relations.size(); i++) {
             relation(entry, relations.get(i), shown.relations()[i]);
         }
+        if (!model.copies().isEmpty()) {
+            copying.add(entry);
+        }
         if (entry.context() != null && !merged.contains(number)) {
             loaded.add(entry);
+        }
+    }
+
+    /** What reads the column of a relation has the key of what that leads to. */
+    private static void copies(Entry entry) {
+        for (KeyCopy copy : entry.model().copies()) {
+            Entry target = (Entry) entry.relations[copy.relation().place()];
+            copy.fill(entry.instance(), target == null ? null : target.key());
         }
     }
 

@@ -14,8 +14,8 @@ import karzhoul.jpa.model.EntityModel;
 
 /** The identity map of a context: its entries by number, by instance, and by hierarchy and key (chapter 3.1). */
 final class Identities {
-    private final Map<Long, Entry> byNumber = new LinkedHashMap<>();
-    private final Map<Object, Entry> byInstance = new IdentityHashMap<>();
+    private Map<Long, Entry> byNumber = new LinkedHashMap<>();
+    private Map<Object, Entry> byInstance = new IdentityHashMap<>();
     private final Map<EntityModel, Map<List<Object>, Entry>> byKey = new IdentityHashMap<>();
     private final Set<EntityModel> models = Collections.newSetFromMap(new IdentityHashMap<>());
 
@@ -90,12 +90,15 @@ final class Identities {
 
     /** Forgets all numbers, which are of a run that has ended. */
     void forgetNumbers() {
-        byNumber.clear();
+        byNumber = new LinkedHashMap<>();
     }
 
+    /** Forgets all, with tables that may have grown great: to clear one takes as long as it is, each time anew. */
     void clear() {
-        byNumber.clear();
-        byInstance.clear();
+        if (!byInstance.isEmpty() || !byNumber.isEmpty()) {
+            byNumber = new LinkedHashMap<>();
+            byInstance = new IdentityHashMap<>();
+        }
         byKey.clear();
         models.clear();
     }

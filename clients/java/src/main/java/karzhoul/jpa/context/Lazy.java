@@ -3,14 +3,18 @@ package karzhoul.jpa.context;
 import jakarta.persistence.PersistenceException;
 import java.util.Collection;
 import java.util.List;
+import karzhoul.jpa.model.ReadLater;
 import karzhoul.jpa.model.Relation;
 
 /** A collection of the door's: it reads its members when it is first looked at (chapter 11.1.6: LAZY). */
-interface Lazy {
+interface Lazy extends ReadLater {
     /** Whose relation it is; null once it was serialized. */
     Entry owner();
 
-    boolean isRead();
+    @Override
+    default boolean isReadable() {
+        return isRead() || owner() != null && owner().context() != null;
+    }
 
     /** Whether its members were changed since {@link #clean}. */
     boolean isChanged();

@@ -16,11 +16,15 @@ import jakarta.persistence.criteria.CriteriaDelete;
 import jakarta.persistence.criteria.CriteriaQuery;
 import jakarta.persistence.criteria.CriteriaUpdate;
 import jakarta.persistence.metamodel.Metamodel;
+import java.util.ArrayList;
 import java.util.HashMap;
 import java.util.List;
 import java.util.Map;
 import java.util.function.Function;
 import java.util.function.Supplier;
+import karzhoul.jpa.Karzhoul;
+import karzhoul.jpa.graph.Graphs;
+import karzhoul.jpa.graph.RootGraph;
 import karzhoul.jpa.model.EntityModel;
 import karzhoul.jpa.query.Statements;
 
@@ -93,7 +97,34 @@ final class Manager implements EntityManager {
 
     @Override
     public <T> T find(Class<T> entityClass, Object primaryKey, Map<String, Object> given) {
-        return find(entityClass, primaryKey);
+        needOpen();
+        List<RootGraph<?>> graphs = graphs(given);
+        T found = find(entityClass, primaryKey);
+        read(found, graphs);
+        return found;
+    }
+
+    /** The fetch graph and the load graph of properties (chapter 3.7.4). */
+    private List<RootGraph<?>> graphs(Map<String, Object> given) {
+        List<RootGraph<?>> graphs = new ArrayList<>();
+        if (given != null) {
+            try {
+                for (String name : List.of(Graphs.FETCH, Graphs.LOAD)) {
+                    if (given.get(name) != null) {
+                        graphs.add(factory.graphs().given(given.get(name)));
+                    }
+                }
+            } catch (IllegalArgumentException e) {
+                throw context.marked(e);
+            }
+        }
+        return graphs;
+    }
+
+    private void read(Object instance, List<RootGraph<?>> graphs) {
+        if (instance != null) {
+            graphs.forEach(graph -> questions.read(List.of(instance), graph));
+        }
     }
 
     @Override
@@ -107,7 +138,7 @@ final class Manager implements EntityManager {
         if (lockMode != LockModeType.NONE) {
             context.needTransaction();
         }
-        T found = find(entityClass, primaryKey);
+        T found = find(entityClass, primaryKey, given);
         if (found != null && lockMode != LockModeType.NONE) {
             lock(found, lockMode);
         }
@@ -192,7 +223,10 @@ final class Manager implements EntityManager {
 
     @Override
     public void refresh(Object entity, Map<String, Object> given) {
+        needOpen();
+        List<RootGraph<?>> graphs = graphs(given);
         refresh(entity);
+        read(entity, graphs);
     }
 
     @Override
@@ -206,7 +240,7 @@ final class Manager implements EntityManager {
         if (lockMode != LockModeType.NONE) {
             context.needTransaction();
         }
-        refresh(entity);
+        refresh(entity, given);
         if (lockMode != LockModeType.NONE) {
             lock(entity, lockMode);
         }
@@ -287,17 +321,19 @@ final class Manager implements EntityManager {
 
     @Override
     public <T> TypedQuery<T> createQuery(CriteriaQuery<T> criteriaQuery) {
-        return refuse(Later::criteria);
+        return question(statements -> statements.create(questions, factory.criteria().built(criteriaQuery)));
     }
 
     @Override
     public Query createQuery(CriteriaUpdate updateQuery) {
-        return refuse(Later::criteria);
+        return question(statements -> statements.create(questions,
+            factory.criteria().built((CriteriaUpdate<?>) updateQuery)));
     }
 
     @Override
     public Query createQuery(CriteriaDelete deleteQuery) {
-        return refuse(Later::criteria);
+        return question(statements -> statements.create(questions,
+            factory.criteria().built((CriteriaDelete<?>) deleteQuery)));
     }
 
     @Override
@@ -360,7 +396,9 @@ final class Manager implements EntityManager {
     @Override
     public <T> T unwrap(Class<T> cls) {
         needOpen();
-        if (cls.isInstance(this)) {
+        if (cls == Karzhoul.class) {
+            return factory.unwrap(cls);
+        } else if (cls.isInstance(this)) {
             return cls.cast(this);
         }
         throw context.marked(new PersistenceException("an entity manager of Karzhoul is no " + cls.getName()));
@@ -398,31 +436,42 @@ final class Manager implements EntityManager {
 
     @Override
     public CriteriaBuilder getCriteriaBuilder() {
-        return refuse(Later::criteria);
+        needOpen();
+        return factory.getCriteriaBuilder();
     }
 
     @Override
     public Metamodel getMetamodel() {
-        return refuse(Later::metamodel);
+        needOpen();
+        return factory.getMetamodel();
     }
 
     @Override
     public <T> EntityGraph<T> createEntityGraph(Class<T> rootType) {
-        return refuse(Later::graphs);
+        return graph(graphs -> graphs.create(rootType));
     }
 
     @Override
     public EntityGraph<?> createEntityGraph(String graphName) {
-        return refuse(Later::graphs);
+        return graph(graphs -> graphs.copy(graphName));
     }
 
     @Override
     public EntityGraph<?> getEntityGraph(String graphName) {
-        return refuse(Later::graphs);
+        return graph(graphs -> graphs.get(graphName));
     }
 
     @Override
     public <T> List<EntityGraph<? super T>> getEntityGraphs(Class<T> entityClass) {
-        return refuse(Later::graphs);
+        return graph(graphs -> graphs.of(entityClass));
+    }
+
+    private <T> T graph(Function<Graphs, T> asked) {
+        needOpen();
+        try {
+            return asked.apply(factory.graphs());
+        } catch (IllegalArgumentException e) {
+            throw context.marked(e);
+        }
     }
 }

@@ -1,10 +1,14 @@
 package karzhoul.jpa.context;
 
 import jakarta.persistence.CascadeType;
+import jakarta.persistence.EntityExistsException;
 import jakarta.persistence.OptimisticLockException;
+import jakarta.persistence.PersistenceException;
 import java.util.ArrayDeque;
 import java.util.ArrayList;
+import java.util.Collection;
 import java.util.Deque;
+import java.util.IdentityHashMap;
 import java.util.LinkedHashMap;
 import java.util.LinkedHashSet;
 import java.util.List;
@@ -32,10 +36,13 @@ final class Merge {
     private final Map<Object, Entry> sources = new LinkedHashMap<>();
     private final Set<Entry> managed = new LinkedHashSet<>();
     private final Map<Entry, Entry> images = new LinkedHashMap<>();
+    private final List<Entry> prepared = new ArrayList<>();
+    private final JoinedOrphans orphans;
 
     Merge(Context context) {
         this.context = context;
         queue = context.queue();
+        orphans = new JoinedOrphans(context);
     }
 
     /** The managed instance onto which this one was copied. */
@@ -58,7 +65,10 @@ final class Merge {
         } catch (RuntimeException e) {
             throw context.marked(e);
         } finally {
-            sources.values().forEach(this::letGo);
+            sources.forEach((instance, source) -> {
+                source.instance(instance);
+                letGo(source);
+            });
         }
     }
 
@@ -83,6 +93,7 @@ final class Merge {
                 if (Graph.isForeignProxy(instance)) {
                     continue;
                 }
+                new MergedElements(context).adopt(instance);
                 reached.add(instance);
             } else if (entry.isHollow()) {
                 continue;
@@ -102,6 +113,7 @@ final class Merge {
     private void findImages(List<Object> reached) {
         List<EntityModel> models = new ArrayList<>();
         List<List<Object>> keys = new ArrayList<>();
+        List<Object> found = new ArrayList<>();
         for (Object instance : reached) {
             EntityModel model = context.modelOf(instance);
             List<Object> key = Targets.keyOf(model, instance);
@@ -111,8 +123,10 @@ final class Merge {
             } else if (known == null && key != null) {
                 models.add(model.root());
                 keys.add(key);
+                found.add(instance);
             }
         }
+        Map<Object, Long> unread = unreadObjects(found, models, keys);
         if (!keys.isEmpty()) {
             new Fill(context).found(models, keys);
         }
@@ -126,17 +140,115 @@ final class Merge {
             Entry source = new Entry(model, context, Entry.State.NEW);
             source.instance(instance);
             source.key(key);
-            source.number(context.newNumber(model));
+            Entry image = key == null ? null : context.identities().of(model, key);
+            boolean isUnread = unread.containsKey(instance) && isOfSameRow(source, image);
+            source.number(isUnread ? unread.get(instance) : context.newNumber(model));
+            if (isUnread) {
+                beginAs(source, image);
+            }
             context.identities().put(source);
             sources.put(instance, source);
-            Entry image = key == null ? null : context.identities().of(model, key);
             if (image != null) {
                 images.put(source, image);
+            } else if (key == null) {
+                runAhead(source);
             }
         }
     }
 
+    /**
+     * Objects of the rows of those that have read none of their collections, each let go at once: what such an object
+     * hasn't read the program leaves as the image has it, so that nothing of it is loaded. By instance.
+     */
+    private Map<Object, Long> unreadObjects(List<Object> instances, List<EntityModel> models, List<List<Object>> keys) {
+        List<Object> unread = new ArrayList<>();
+        int from = queue.count();
+        for (int i = 0; i < instances.size(); i++) {
+            if (hasNothingRead(instances.get(i))) {
+                queue.find(context.manager(), models.get(i).mappedName(), keys.get(i))
+                    .about(models.get(i).name() + keys.get(i));
+                unread.add(instances.get(i));
+            }
+        }
+        Map<Object, Long> numbers = new IdentityHashMap<>();
+        if (!unread.isEmpty()) {
+            Reply[] replies = context.ask(from);
+            for (int i = 0; i < replies.length; i++) {
+                if (replies[i].ok() != null) {
+                    queue.detach(context.manager(), replies[i].number());
+                    numbers.put(unread.get(i), replies[i].number());
+                }
+            }
+        }
+        return numbers;
+    }
+
+    private boolean hasNothingRead(Object instance) {
+        List<Relation> collections =
+            context.modelOf(instance).relations().stream().filter(Relation::isMany).toList();
+        return !collections.isEmpty() && collections.stream().allMatch(it -> Unread.is(it.get(instance)));
+    }
+
+    /** Whether the program may be given an object of the row as the source: of the same class, and the same version. */
+    private static boolean isOfSameRow(Entry source, Entry image) {
+        if (image == null || image.model() != source.model()) {
+            return false;
+        }
+        Optional<Attribute> version = source.model().version();
+        Object column = version.isEmpty() ? null : Values.column(version.get(), version.get().get(source.instance()));
+        return column == null || Values.isKept(version.get(), column, image.values[version.get().place()]);
+    }
+
+    /** The program has of the source what it has of the row. */
+    private static void beginAs(Entry source, Entry image) {
+        System.arraycopy(image.values, 0, source.values, 0, source.values.length);
+        System.arraycopy(image.relations, 0, source.relations, 0, source.relations.length);
+        for (Relation relation : source.model().relations()) {
+            if (relation.isMany()) {
+                source.relations[relation.place()] = Entry.UNREAD;
+            }
+        }
+    }
+
+    /** PrePersist of a new image may give its key: then it runs before the program is told of it, and not again. */
+    private void runAhead(Entry source) {
+        EntityModel model = source.model();
+        boolean isGiven = model.key().generation() == KeyModel.Generation.ASSIGNED && model.key().derived().isEmpty()
+            && model.callbacks().hears(Callbacks.Event.PrePersist);
+        if (!isGiven) {
+            return;
+        }
+        Entry image = new Entry(model, context, Entry.State.MANAGED);
+        image.instance(copy(model, source.instance()));
+        context.runAhead(Callbacks.Event.PrePersist, image);
+        image.key(Targets.keyOf(model, image.instance()));
+        if (image.key() == null) {
+            throw new PersistenceException("Persistence(key): part of the key of a new " + model.name()
+                + " is null; set it before merge, or in a PrePersist callback");
+        } else if (context.identities().of(model, image.key()) != null
+                || new Fill(context).found(model.root(), image.key()) != null) {
+            throw new EntityExistsException("EntityExists, " + image + ": there is one of the key that PrePersist gave");
+        }
+        source.instance(image.instance());
+        prepared.add(image);
+    }
+
+    private static Object copy(EntityModel model, Object instance) {
+        Object copy = model.newInstance();
+        for (Attribute attribute : model.attributes()) {
+            attribute.set(copy, attribute.get(instance));
+        }
+        for (Relation relation : model.relations()) {
+            Object value = relation.get(instance);
+            boolean isRead = value instanceof Collection<?> && !Unread.is(value);
+            relation.set(copy, !isRead ? value : relation.container() == Relation.Container.SET
+                ? new LinkedHashSet<>((Collection<?>) value) : new ArrayList<>((Collection<?>) value));
+        }
+        return copy;
+    }
+
     private Entry merged(Object root) {
+        orphans.before(images);
         Push push = context.push();
         push.merging();
         List<Entry> there = new ArrayList<>(managed);
@@ -144,6 +256,7 @@ final class Merge {
         push.these(there);
         push.these(sources.values());
         sources.values().forEach(this::versionAndKey);
+        images.forEach(this::keepUnwritten);
         unread();
         Entry source = context.entryOf(root);
         int from = queue.count();
@@ -151,7 +264,21 @@ final class Merge {
         context.touched(true);
         Reply reply = context.ask(from)[0];
         readBack(reply.events(), reply.number());
+        orphans.remove();
         return context.identities().of(reply.number());
+    }
+
+    /** What isn't updated stays as the image's row has it. */
+    private void keepUnwritten(Entry source, Entry image) {
+        if (!image.isStored()) {
+            return;
+        }
+        for (Attribute attribute : source.model().attributes()) {
+            if (!attribute.isUpdatable() && image.model().isA(source.model())) {
+                Object column = Values.columnOfKept(attribute, image.values[attribute.place()]);
+                queue.set(source.number(), attribute.member(), column).about(source);
+            }
+        }
     }
 
     private void versionAndKey(Entry source) {
@@ -161,7 +288,7 @@ final class Merge {
         if (version.isPresent()) {
             Object column = Values.column(version.get(), version.get().get(source.instance()));
             // that of an instance just made, as the zero of an int, says nothing where there is no row
-            if (column != null && (hasRow || !column.equals(versionAtFirst(model, version.get())))) {
+            if (column != null && isNewObject(source) && (hasRow || !column.equals(versionAtFirst(model, version.get())))) {
                 queue.set(source.number(), version.get().member(), column).about(source);
             }
         }
@@ -172,6 +299,11 @@ final class Merge {
         for (KeyModel.Derived derived : model.key().derived()) {
             derive(source, derived);
         }
+    }
+
+    /** Whether its object is a new one, and not one of its row. */
+    private static boolean isNewObject(Entry source) {
+        return source.model().relations().stream().noneMatch(it -> source.relations[it.place()] == Entry.UNREAD);
     }
 
     private static Object versionAtFirst(EntityModel model, Attribute version) {
@@ -196,7 +328,8 @@ final class Merge {
         int from = queue.count();
         for (Map.Entry<Entry, Entry> pair : images.entrySet()) {
             for (Relation relation : pair.getKey().model().relations()) {
-                if (relation.isMany() && Unread.is(relation.get(pair.getKey().instance()))
+                if (relation.isMany() && pair.getKey().relations[relation.place()] != Entry.UNREAD
+                        && Unread.is(relation.get(pair.getKey().instance()))
                         && pair.getValue().model().isA(pair.getKey().model())) {
                     queue.get(pair.getValue().number(), relation.member()).about(pair.getValue());
                     owners.add(pair.getKey());
@@ -228,6 +361,7 @@ final class Merge {
             }
         }
         numbers.addAll(persisted);
+        prepared.forEach(context.identities()::put);
         new Fill(context).merged(numbers, persisted);
         for (long number : persisted) {
             Entry entry = context.identities().of(number);

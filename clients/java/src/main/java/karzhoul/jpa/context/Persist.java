@@ -11,6 +11,7 @@ import karzhoul.jpa.engine.Lines;
 import karzhoul.jpa.engine.Reply;
 import karzhoul.jpa.model.Attribute;
 import karzhoul.jpa.model.Callbacks;
+import karzhoul.jpa.model.ElementRow;
 import karzhoul.jpa.model.EntityModel;
 import karzhoul.jpa.model.KeyModel;
 import karzhoul.jpa.model.Relation;
@@ -85,6 +86,9 @@ final class Persist {
 
     private void prepare(Object instance, Entry entry) {
         EntityModel model = context.modelOf(instance);
+        if (entry == null && instance instanceof ElementRow row) {
+            row.forgetKey();        // its owner may have been persisted before, and rolled back
+        }
         if (entry != null && entry.state() == Entry.State.DETACHED || entry == null && isKnownDetached(model, instance)) {
             throw context.marked(new EntityExistsException("EntityExists: a detached " + model.name()
                 + " can't be persisted, nor be reached by persist: merge it"));

@@ -109,6 +109,8 @@ class Push {
         }
         if (entry.state() != Entry.State.NEW && attribute.role() == Attribute.Role.KEY) {
             throw new PersistenceException("the key of " + entry + " was changed: " + attribute.path() + " is " + now);
+        } else if (entry.isStored() ? !attribute.isUpdatable() : !attribute.isInsertable()) {
+            return;
         } else if (attribute.role() == Attribute.Role.VERSION || isUngiven(entry, attribute, now)) {
             return;
         }
@@ -184,6 +186,7 @@ class Push {
         }
         if (entry.relations[relation.place()] == Entry.UNREAD) {
             targets.read(entry, relation);
+            value = adopted(entry, relation, value);
         }
         List<Entry> now = members(entry, relation, value);
         @SuppressWarnings("unchecked")
@@ -196,6 +199,17 @@ class Push {
         if (value instanceof Lazy lazy && lazy.owner() == entry) {
             lazy.clean();
         }
+    }
+
+    /** What replaced a collection of values that nobody had read, made of the rows that it has. */
+    @SuppressWarnings("unchecked")
+    private static Object adopted(Entry entry, Relation relation, Object value) {
+        if (relation.elements().isEmpty()) {
+            return value;
+        }
+        List<Entry> rows = (List<Entry>) entry.relations[relation.place()];
+        relation.elements().get().adopt(entry.instance(), Members.instances(rows, relation));
+        return relation.get(entry.instance());
     }
 
     private static boolean isAsBefore(Entry entry, Relation relation, Lazy lazy) {

@@ -4,11 +4,13 @@ import jakarta.persistence.FlushModeType;
 import jakarta.persistence.LockModeType;
 import java.util.ArrayList;
 import java.util.HashMap;
-import java.util.LinkedHashSet;
 import java.util.List;
 import java.util.Map;
-import java.util.Set;
+import karzhoul.jpa.engine.Engine;
 import karzhoul.jpa.engine.Reply;
+import karzhoul.jpa.engine.Shown;
+import karzhoul.jpa.graph.RootGraph;
+import karzhoul.jpa.model.EntityModel;
 import karzhoul.jpa.model.Relation;
 import karzhoul.jpa.model.UnitModel;
 import karzhoul.jpa.query.Asking;
@@ -61,29 +63,48 @@ final class Questions implements Asking {
     }
 
     @Override
-    public List<Object[]> rows(String text, List<Parameter> parameters, Integer first, Integer max) {
+    public List<Object[]> rows(String text, List<Parameter> parameters, Integer first, Integer max, boolean findsOne) {
         return context.within(() -> {
-            List<Object> told = ask("query", text, parameters, first, max).list();
-            List<Object> refs = new ArrayList<>();
-            for (Object row : told) {
-                if (row instanceof List<?> items) {
-                    items.stream().filter(karzhoul.jpa.engine.Ref.class::isInstance).forEach(refs::add);
-                } else if (row instanceof karzhoul.jpa.engine.Ref) {
-                    refs.add(row);
-                }
-            }
-            Map<Object, Entry> entries = entries(refs);
+            long[] next = new long[1];
+            Reply[] replies = ask("query", text, parameters, first, max, !findsOne ? null : (lines, number) -> {
+                next[0] = number;
+                lines.values(next, 0, 1);
+            });
+            List<Object> told = replies[0].list();
+            List<Object> refs = refs(told);
+            Map<Object, Entry> entries = entries(refs, next[0],
+                findsOne && !replies[1].isRefused() ? (Shown) replies[1].list().get(0) : null);
             List<Object[]> rows = new ArrayList<>(told.size());
             for (Object row : told) {
-                rows.add(row(row instanceof List<?> items ? items.toArray() : new Object[] {row}, entries));
+                Object[] items = row instanceof List<?> many ? many.toArray() : new Object[] {row};
+                rows.add(entries.isEmpty() ? items : row(items, entries));
             }
             return rows;
         });
     }
 
-    private Map<Object, Entry> entries(List<Object> refs) {
+    private static List<Object> refs(List<Object> told) {
+        List<Object> refs = new ArrayList<>();
+        for (Object row : told) {
+            if (row instanceof List<?> items) {
+                for (Object item : items) {
+                    if (item instanceof karzhoul.jpa.engine.Ref) {
+                        refs.add(item);
+                    }
+                }
+            } else if (row instanceof karzhoul.jpa.engine.Ref) {
+                refs.add(row);
+            }
+        }
+        return refs;
+    }
+
+    private Map<Object, Entry> entries(List<Object> refs, long number, Shown shown) {
+        if (refs.isEmpty()) {
+            return Map.of();
+        }
         Map<Object, Entry> entries = new HashMap<>();
-        List<Entry> found = new Fill(context).entries(refs);
+        List<Entry> found = new Fill(context).entries(refs, number, shown);
         for (int i = 0; i < refs.size(); i++) {
             entries.put(refs.get(i), found.get(i));
         }
@@ -103,10 +124,11 @@ final class Questions implements Asking {
     public int update(String text, List<Parameter> parameters) {
         context.needTransaction();
         context.touched(true);
-        return context.within(() -> ((Long) ask("executeUpdate", text, parameters, null, null).ok()).intValue());
+        return context.within(() -> ((Long) ask("executeUpdate", text, parameters, null, null, null)[0].ok()).intValue());
     }
 
-    private Reply ask(String call, String text, List<Parameter> parameters, Integer first, Integer max) {
+    private Reply[] ask(String call, String text, List<Parameter> parameters, Integer first, Integer max,
+        Engine.Tail tail) {
         List<Object> pairs = new ArrayList<>();
         for (Parameter parameter : parameters) {
             pairs.add(parameter.name());
@@ -115,7 +137,7 @@ final class Questions implements Asking {
         }
         int from = context.queue().count();
         context.queue().statement(call, context.manager(), text, pairs, first, max).about("\"" + text + "\"");
-        return context.ask(from)[0];
+        return context.ask(from, tail);
     }
 
     private long number(Entry entry) {
@@ -123,6 +145,17 @@ final class Questions implements Asking {
             new Targets(context).number(entry);
         }
         return entry.number();
+    }
+
+    @Override
+    public List<Object> found(EntityModel entity, List<Object> keys) {
+        return context.within(() -> new Fetching(context).found(entity, keys));
+    }
+
+    @Override
+    public boolean isManaged(Object instance) {
+        Entry entry = context.entryOf(instance);
+        return entry != null && entry.isManaged();
     }
 
     @Override
@@ -148,16 +181,19 @@ final class Questions implements Asking {
     }
 
     @Override
-    public void fetch(List<Object> instances, Relation relation) {
+    public List<Object> fetch(List<Object> instances, Relation relation) {
+        return context.within(() -> new Fetching(context).relation(instances, relation));
+    }
+
+    @Override
+    public RootGraph<?> graph(Object given) {
+        return context.factory().graphs().given(given);
+    }
+
+    @Override
+    public void read(List<Object> instances, RootGraph<?> graph) {
         context.within(() -> {
-            Set<Entry> owners = new LinkedHashSet<>();
-            for (Object instance : instances) {
-                Entry entry = instance == null ? null : context.entryOf(instance);
-                if (entry != null) {
-                    owners.add(entry);
-                }
-            }
-            new Fill(context).fetch(owners, relation);
+            new Fetching(context).graph(instances, graph);
             return null;
         });
     }

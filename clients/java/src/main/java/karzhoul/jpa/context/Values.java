@@ -26,7 +26,10 @@ final class Values {
     static boolean isSame(Attribute attribute, Object value, Object kept) {
         Codec codec = attribute.codec();
         if (codec.isMutable()) {
-            return isSameColumn(column(attribute, value), kept);
+            Object column = column(attribute, value);
+            // what was read may be kept in another form than it was written in, as the room of a HashMap
+            return isSameColumn(column, kept)
+                || kept != null && isSameColumn(column, column(attribute, codec.toAttribute(kept)));
         }
         if (value == kept || value != null && value.equals(kept)) {
             return true;

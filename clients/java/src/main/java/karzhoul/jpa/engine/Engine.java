@@ -5,8 +5,11 @@ import java.io.IOException;
 import java.io.InputStream;
 import java.io.OutputStream;
 import java.nio.charset.StandardCharsets;
+import java.util.ArrayDeque;
+import java.util.Deque;
 import java.util.List;
 import java.util.concurrent.TimeUnit;
+import java.util.concurrent.atomic.LongAdder;
 import java.util.concurrent.locks.ReentrantLock;
 import java.util.function.ObjLongConsumer;
 
@@ -21,8 +24,24 @@ public final class Engine implements AutoCloseable {
     @FunctionalInterface
     public interface Tail extends ObjLongConsumer<Lines> {}
 
-    static final int WINDOW = 60_000;
+    /** How many bytes are unanswered at most. */
+    public static final int WINDOW = 60_000;
     private static final long PATIENCE = 10;
+
+    /** Calls that were sent ahead. */
+    public static final class Sent {
+        private final Lines lines = new Lines();
+        private Reply refused;
+
+        private Sent(Lines sent) {
+            lines.addAll(sent);
+        }
+
+        /** The first of their replies that is a refusal, once the next {@link #ask} was answered; else null. */
+        public Reply refused() {
+            return refused;
+        }
+    }
 
     private final ReentrantLock lock = new ReentrantLock();
     private final Process process;
@@ -30,8 +49,13 @@ public final class Engine implements AutoCloseable {
     private final InputStream in;
     private final Replies replies;
     private final Journal journal;
+    private final Deque<Sent> unread = new ArrayDeque<>();
+    private int unreadBytes;
     private volatile IOException end;
     private volatile long made;
+    private final LongAdder calls = new LongAdder();
+    private final LongAdder refusals = new LongAdder();
+    private final LongAdder trips = new LongAdder();
 
     /**
      * Starts the program.
@@ -53,6 +77,21 @@ public final class Engine implements AutoCloseable {
     /** How many objects the program has made in this run. */
     public long made() {
         return made;
+    }
+
+    /** How many calls were answered. */
+    public long calls() {
+        return calls.sum();
+    }
+
+    /** How many of them were refused. */
+    public long refusals() {
+        return refusals.sum();
+    }
+
+    /** How many times calls were written to the program. */
+    public long trips() {
+        return trips.sum();
     }
 
     /** Whether it runs still, as far as is known. */
@@ -105,17 +144,67 @@ public final class Engine implements AutoCloseable {
             if (end != null) {
                 throw ended(end, false);
             }
+            while (!unread.isEmpty()) {
+                readOldest();
+            }
             if (tail != null) {
                 tail.accept(lines, made + 1);
             }
             return exchange(lines);
         } catch (IOException e) {
-            end = e;
-            process.destroy();
-            throw ended(e, true);
+            throw broken(e);
         } finally {
             lock.unlock();
         }
+    }
+
+    private ProgramEnded broken(IOException e) {
+        end = e;
+        process.destroy();
+        return ended(e, true);
+    }
+
+    /**
+     * Sends these calls and waits for no reply: the program works on them meanwhile. Their replies are read by the next
+     * {@link #ask}, whoever asks, or before so much is sent that a pipe could be full.
+     *
+     * @param lines at most {@link #WINDOW} bytes
+     * @throws ProgramEnded where the program has ended
+     */
+    public Sent send(Lines lines) {
+        lock.lock();
+        try {
+            if (end != null) {
+                throw ended(end, false);
+            }
+            Sent sent = new Sent(lines);
+            while (!unread.isEmpty() && unreadBytes + lines.length() > WINDOW) {
+                readOldest();
+            }
+            unread.add(sent);
+            unreadBytes += lines.length();
+            trips.increment();
+            out.write(lines.bytes(), 0, lines.length());
+            out.flush();
+            return sent;
+        } catch (IOException e) {
+            throw broken(e);
+        } finally {
+            lock.unlock();
+        }
+    }
+
+    private void readOldest() throws IOException {
+        Sent oldest = unread.remove();
+        unreadBytes -= oldest.lines.length();
+        for (int i = 0; i < oldest.lines.count(); i++) {
+            Reply reply = told(oldest.lines, i);
+            if (reply.isRefused() && oldest.refused == null) {
+                oldest.refused = reply;
+            }
+        }
+        oldest.lines.clear();
+        made = replies.made();
     }
 
     /** All managers and objects are gone after this. */
@@ -143,14 +232,12 @@ public final class Engine implements AutoCloseable {
             while (sent < told.length && (to == from || lines.end(sent) - from <= WINDOW)) {
                 to = lines.end(sent++);
             }
+            trips.increment();
             out.write(bytes, from, to - from);
             out.flush();
             from = to;
             while (done < sent) {
-                told[done] = next(lines.about(done));
-                if (journal != null) {
-                    journal.note(lines, done, told[done]);
-                }
+                told[done] = told(lines, done);
                 done++;
             }
         }
@@ -158,9 +245,17 @@ public final class Engine implements AutoCloseable {
         return told;
     }
 
-    private Reply next(Object about) throws IOException {
+    private Reply told(Lines lines, int place) throws IOException {
         try {
-            return replies.next(about);
+            Reply reply = replies.next(lines.about(place));
+            calls.increment();
+            if (reply.isRefused()) {
+                refusals.increment();
+            }
+            if (journal != null) {
+                journal.note(lines, place, reply);
+            }
+            return reply;
         } catch (IllegalStateException | IndexOutOfBoundsException | ClassCastException e) {
             throw new IOException("a reply can't be read", e);
         }

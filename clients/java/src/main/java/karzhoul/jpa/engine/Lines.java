@@ -26,6 +26,11 @@ public final class Lines {
         return count == 0;
     }
 
+    /** How many bytes they are. */
+    public int length() {
+        return length;
+    }
+
     byte[] bytes() {
         return bytes;
     }

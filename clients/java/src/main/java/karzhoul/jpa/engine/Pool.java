@@ -67,6 +67,16 @@ public final class Pool implements AutoCloseable {
         }
     }
 
+    /** How many managers are in use at this moment. */
+    public int busy() {
+        lock.lock();
+        try {
+            return busy;
+        } finally {
+            lock.unlock();
+        }
+    }
+
     /** The running program. */
     public Engine engine() {
         lock.lock();

@@ -18,6 +18,12 @@ public interface Attribute {
     /** Whether null is refused at a flush. */
     boolean isRequired();
 
+    /** Whether a new row is written with its value (chapter 11.1.9). */
+    boolean isInsertable();
+
+    /** Whether a row that is there is written with another value of it. */
+    boolean isUpdatable();
+
     /** Its place in {@link EntityModel#attributes()} of the entity that declares it and of each below. */
     int place();
 

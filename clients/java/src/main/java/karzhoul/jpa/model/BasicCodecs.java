@@ -24,51 +24,97 @@ import java.util.stream.Collectors;
 
 /** The codecs of the basic types (chapter 2.8), but for those of dates of before Java 8. */
 final class BasicCodecs {
-    private static final Map<Class<?>, Codec> FIXED = new HashMap<>();
-
-    static {
-        number(Long.class, kept -> kept);
-        number(Integer.class, kept -> Math.toIntExact(kept));
-        number(Short.class, kept -> (short) within(kept, Short.MIN_VALUE, Short.MAX_VALUE));
-        number(Byte.class, kept -> (byte) within(kept, Byte.MIN_VALUE, Byte.MAX_VALUE));
-        whole(BigInteger.class, BasicCodecs::whole, BigInteger::valueOf);
-        add(Sort.INT, Boolean.class, "truth", value -> (Boolean) value ? 1L : 0L,
-                kept -> within((Long) kept, 0, 1) == 1);
-        add(Sort.INT, Double.class, "double", value -> sortable(Double.doubleToLongBits((Double) value)),
-                kept -> Double.longBitsToDouble(sortable((Long) kept)));
-        add(Sort.INT, Float.class, "float", value -> (long) sortable(Float.floatToIntBits((Float) value)),
-                kept -> Float.intBitsToFloat(sortable(Math.toIntExact((Long) kept))));
-        add(Sort.TEXT, String.class, "text", value -> Limits.text((String) value), kept -> kept);
-        add(Sort.TEXT, Character.class, "text", value -> Limits.text(value.toString()),
-                kept -> onlyCharacter((String) kept));
-        add(Sort.TEXT, UUID.class, "uuid", Object::toString, kept -> UUID.fromString((String) kept));
-        add(Sort.INT, LocalDate.class, "day", value -> ((LocalDate) value).toEpochDay(),
-                kept -> LocalDate.ofEpochDay((Long) kept));
-        add(Sort.INT, LocalTime.class, "nanosecond of day", value -> ((LocalTime) value).toNanoOfDay(),
-                kept -> LocalTime.ofNanoOfDay((Long) kept));
-        add(Sort.TEXT, LocalDateTime.class, "local time", value -> TimeTexts.write((LocalDateTime) value),
-                kept -> TimeTexts.readLocal((String) kept));
-        add(Sort.TEXT, Instant.class, "instant", value -> TimeTexts.write((Instant) value),
-                kept -> TimeTexts.readInstant((String) kept));
-        add(Sort.TEXT, OffsetDateTime.class, "offset time", value -> TimeTexts.write((OffsetDateTime) value),
-                kept -> TimeTexts.readOffset((String) kept));
-        add(Sort.TEXT, OffsetTime.class, "offset time of day", value -> TimeTexts.write((OffsetTime) value),
-                kept -> TimeTexts.readOffsetTime((String) kept));
-        mutable(Sort.BYTES, byte[].class, "bytes", value -> Limits.bytes((byte[]) value),
-                kept -> ((byte[]) kept).clone());
-        mutable(Sort.BYTES, Byte[].class, "bytes", value -> Limits.bytes(unboxed((Byte[]) value)),
-                kept -> boxed((byte[]) kept));
-        mutable(Sort.TEXT, char[].class, "text", value -> Limits.text(new String((char[]) value)),
-                kept -> ((String) kept).toCharArray());
-        mutable(Sort.TEXT, Character[].class, "text", value -> Limits.text(unboxed((Character[]) value)),
-                kept -> ((String) kept).chars().mapToObj(code -> (char) code).toArray(Character[]::new));
-    }
-
     private BasicCodecs() {}
 
-    /** The codec of a boxed type that needs no annotation, or null. */
+    /**
+     * The codec of a boxed type that needs no annotation, or null. Each is made where it is asked for: a table of all
+     * would make the classes of eighty functions in each first run.
+     */
     static Codec fixed(Class<?> boxed) {
-        return FIXED.get(boxed);
+        Codec codec = number(boxed);
+        codec = codec != null ? codec : text(boxed);
+        codec = codec != null ? codec : time(boxed);
+        return codec != null ? codec : array(boxed);
+    }
+
+    private static Codec number(Class<?> type) {
+        if (type == Long.class) {
+            return whole(type, kept -> kept);
+        } else if (type == Integer.class) {
+            return whole(type, kept -> Math.toIntExact(kept));
+        } else if (type == Short.class) {
+            return whole(type, kept -> (short) within(kept, Short.MIN_VALUE, Short.MAX_VALUE));
+        } else if (type == Byte.class) {
+            return whole(type, kept -> (byte) within(kept, Byte.MIN_VALUE, Byte.MAX_VALUE));
+        } else if (type == BigInteger.class) {
+            return new ValueCodec(Sort.INT, type, false, "whole", BasicCodecs::whole,
+                    kept -> BigInteger.valueOf((Long) kept));
+        } else if (type == Boolean.class) {
+            return new ValueCodec(Sort.INT, type, false, "truth", value -> (Boolean) value ? 1L : 0L,
+                    kept -> within((Long) kept, 0, 1) == 1);
+        } else if (type == Double.class) {
+            return new ValueCodec(Sort.INT, type, false, "double",
+                    value -> sortable(Double.doubleToLongBits((Double) value)),
+                    kept -> Double.longBitsToDouble(sortable((Long) kept)));
+        } else if (type == Float.class) {
+            return new ValueCodec(Sort.INT, type, false, "float",
+                    value -> (long) sortable(Float.floatToIntBits((Float) value)),
+                    kept -> Float.intBitsToFloat(sortable(Math.toIntExact((Long) kept))));
+        }
+        return null;
+    }
+
+    private static Codec text(Class<?> type) {
+        if (type == String.class) {
+            return new ValueCodec(Sort.TEXT, type, false, "text", value -> Limits.text((String) value), kept -> kept);
+        } else if (type == Character.class) {
+            return new ValueCodec(Sort.TEXT, type, false, "text", value -> Limits.text(value.toString()),
+                    kept -> onlyCharacter((String) kept));
+        } else if (type == UUID.class) {
+            return new ValueCodec(Sort.TEXT, type, false, "uuid", Object::toString,
+                    kept -> UUID.fromString((String) kept));
+        }
+        return null;
+    }
+
+    private static Codec time(Class<?> type) {
+        if (type == LocalDate.class) {
+            return new ValueCodec(Sort.INT, type, false, "day", value -> ((LocalDate) value).toEpochDay(),
+                    kept -> LocalDate.ofEpochDay((Long) kept));
+        } else if (type == LocalTime.class) {
+            return new ValueCodec(Sort.INT, type, false, "nanosecond of day",
+                    value -> ((LocalTime) value).toNanoOfDay(), kept -> LocalTime.ofNanoOfDay((Long) kept));
+        } else if (type == LocalDateTime.class) {
+            return new ValueCodec(Sort.TEXT, type, false, "local time",
+                    value -> TimeTexts.write((LocalDateTime) value), kept -> TimeTexts.readLocal((String) kept));
+        } else if (type == Instant.class) {
+            return new ValueCodec(Sort.TEXT, type, false, "instant",
+                    value -> TimeTexts.write((Instant) value), kept -> TimeTexts.readInstant((String) kept));
+        } else if (type == OffsetDateTime.class) {
+            return new ValueCodec(Sort.TEXT, type, false, "offset time",
+                    value -> TimeTexts.write((OffsetDateTime) value), kept -> TimeTexts.readOffset((String) kept));
+        } else if (type == OffsetTime.class) {
+            return new ValueCodec(Sort.TEXT, type, false, "offset time of day",
+                    value -> TimeTexts.write((OffsetTime) value), kept -> TimeTexts.readOffsetTime((String) kept));
+        }
+        return null;
+    }
+
+    private static Codec array(Class<?> type) {
+        if (type == byte[].class) {
+            return new ValueCodec(Sort.BYTES, type, true, "bytes", value -> Limits.bytes((byte[]) value),
+                    kept -> ((byte[]) kept).clone());
+        } else if (type == Byte[].class) {
+            return new ValueCodec(Sort.BYTES, type, true, "bytes", value -> Limits.bytes(unboxed((Byte[]) value)),
+                    kept -> boxed((byte[]) kept));
+        } else if (type == char[].class) {
+            return new ValueCodec(Sort.TEXT, type, true, "text", value -> Limits.text(new String((char[]) value)),
+                    kept -> ((String) kept).toCharArray());
+        } else if (type == Character[].class) {
+            return new ValueCodec(Sort.TEXT, type, true, "text", value -> Limits.text(unboxed((Character[]) value)),
+                    kept -> ((String) kept).chars().mapToObj(code -> (char) code).toArray(Character[]::new));
+        }
+        return null;
     }
 
     /** A decimal by its unscaled value; one that needs more digits is refused. */
@@ -110,10 +156,10 @@ final class BasicCodecs {
         });
     }
 
-    /** What is serializable, as Java writes it. */
-    static Codec serialized(Class<?> type) {
+    /** What is serializable, as Java writes it; its classes are those of this loader. */
+    static Codec serialized(Class<?> type, ClassLoader loader) {
         return new ValueCodec(Sort.BYTES, type, true, "serialized", value -> Limits.bytes(serialize(value)),
-                kept -> deserialize((byte[]) kept, type));
+                kept -> deserialize((byte[]) kept, type, loader));
     }
 
     private static byte[] serialize(Object value) {
@@ -126,8 +172,8 @@ final class BasicCodecs {
         return bytes.toByteArray();
     }
 
-    private static Object deserialize(byte[] bytes, Class<?> type) {
-        try (ObjectInputStream objects = new Objects(bytes, type.getClassLoader())) {
+    private static Object deserialize(byte[] bytes, Class<?> type, ClassLoader loader) {
+        try (ObjectInputStream objects = new Objects(bytes, loader)) {
             return type.cast(objects.readObject());
         } catch (IOException | ClassNotFoundException fault) {
             throw new IllegalArgumentException(fault);
@@ -153,22 +199,9 @@ final class BasicCodecs {
         }
     }
 
-    private static void number(Class<?> type, Function<Long, Object> back) {
-        whole(type, value -> ((Number) value).longValue(), back);
-    }
-
-    private static void whole(Class<?> type, Function<Object, Object> to, Function<Long, Object> back) {
-        FIXED.put(type, new ValueCodec(Sort.INT, type, false, "whole", to, kept -> back.apply((Long) kept)));
-    }
-
-    private static void add(Sort sort, Class<?> type, String meaning, Function<Object, Object> to,
-            Function<Object, Object> back) {
-        FIXED.put(type, new ValueCodec(sort, type, false, meaning, to, back));
-    }
-
-    private static void mutable(Sort sort, Class<?> type, String meaning, Function<Object, Object> to,
-            Function<Object, Object> back) {
-        FIXED.put(type, new ValueCodec(sort, type, true, meaning, to, back));
+    private static Codec whole(Class<?> type, Function<Long, Object> back) {
+        return new ValueCodec(Sort.INT, type, false, "whole", value -> ((Number) value).longValue(),
+                kept -> back.apply((Long) kept));
     }
 
     private static Long whole(Object value) {

@@ -8,11 +8,15 @@ import jakarta.persistence.EnumType;
 import jakarta.persistence.Enumerated;
 import jakarta.persistence.Id;
 import jakarta.persistence.Lob;
+import jakarta.persistence.MapKeyColumn;
+import jakarta.persistence.MapKeyEnumerated;
+import jakarta.persistence.MapKeyTemporal;
 import jakarta.persistence.Temporal;
 import jakarta.persistence.TemporalType;
 import jakarta.persistence.Version;
 import java.io.Serializable;
 import java.math.BigDecimal;
+import java.util.Arrays;
 import java.util.Collection;
 import java.util.Map;
 import java.util.Optional;
@@ -63,6 +67,35 @@ final class Codecs {
         return basic(member, column);
     }
 
+    /** The codec of a map's keys; empty where they have none, which was told then (chapters 11.1.34 and 11.1.36). */
+    Optional<Codec> ofMapKey(Member member, Class<?> type, Scope scope, String path) {
+        Optional<Convert> convert = scope.convert(path + ".key")
+                .or(() -> Arrays.stream(member.annotated().getAnnotationsByType(Convert.class))
+                        .filter(it -> it.attributeName().equals("key")).findFirst());
+        boolean isOff = convert.isPresent() && convert.get().disableConversion();
+        boolean isNamed = member.find(MapKeyEnumerated.class).filter(it -> it.value() == EnumType.STRING).isPresent();
+        if (convert.isPresent() && !isOff) {
+            return converters.of(convert.get().converter());
+        }
+        Optional<Codec> automatic = converters.automatic(type);
+        if (automatic.isPresent() && !isOff && !member.has(MapKeyEnumerated.class)
+                && !member.has(MapKeyTemporal.class)) {
+            return automatic;
+        }
+        MapKeyColumn column = member.find(MapKeyColumn.class).orElse(null);
+        boolean isScaled = column != null && (column.scale() != 0 || column.precision() != 0);
+        TemporalType precision = member.find(MapKeyTemporal.class).map(MapKeyTemporal::value)
+                .orElse(TemporalType.TIMESTAMP);
+        Codec dated = DateCodecs.of(type, precision);
+        Codec codec = type == BigDecimal.class ? BasicCodecs.decimal(isScaled ? column.scale() : USUAL_SCALE)
+                : type.isEnum() ? isNamed ? BasicCodecs.named(type) : BasicCodecs.ordinal(type)
+                : dated != null ? dated : BasicCodecs.fixed(type);
+        if (codec == null) {
+            faults.add(member, type.getName() + " is no type of a map's keys", "Use a basic type, or an enum");
+        }
+        return Optional.ofNullable(codec);
+    }
+
     private static boolean isConverter(Class<?> named) {
         return named != void.class && named != AttributeConverter.class;
     }
@@ -84,8 +117,9 @@ final class Codecs {
         Class<?> type = Types.boxed(member.javaType());
         Codec codec = type == BigDecimal.class ? BasicCodecs.decimal(scale(column))
                 : type.isEnum() ? enumerated(member, type) : dated(member, type);
-        if (codec == null && (member.has(Lob.class) || Serializable.class.isAssignableFrom(type) && isValue(type))) {
-            codec = BasicCodecs.serialized(type);
+        if (codec == null && (member.has(Lob.class) || Serializable.class.isAssignableFrom(type) && !hasEntities(member))) {
+            ClassLoader own = type.getClassLoader();
+            codec = BasicCodecs.serialized(type, own != null ? own : member.declaring().getClassLoader());
         }
         if (codec == null) {
             tellNone(member, type);
@@ -119,17 +153,27 @@ final class Codecs {
         return codec != null ? codec : BasicCodecs.fixed(boxed);
     }
 
-    private static boolean isValue(Class<?> type) {
-        return !Collection.class.isAssignableFrom(type) && !Map.class.isAssignableFrom(type)
-                && !type.isAnnotationPresent(Entity.class);
+    /** Whether it is an entity, or holds some: that is a relation, and no value. */
+    private static boolean hasEntities(Member member) {
+        return isEntity(Types.boxed(member.javaType()))
+                || Types.argument(member.type(), 0).filter(Codecs::isEntity).isPresent()
+                || Types.argument(member.type(), 1).filter(Codecs::isEntity).isPresent();
+    }
+
+    private static boolean isEntity(Class<?> type) {
+        return type.isAnnotationPresent(Entity.class);
     }
 
     private void tellNone(Member member, Class<?> type) {
         if (type.isAnnotationPresent(Entity.class)) {
             faults.add(member, "it leads to an entity, and doesn't say how", "Add @ManyToOne or @OneToOne");
+        } else if (hasEntities(member)) {
+            faults.add(member, "it has entities, and doesn't say how",
+                    "Declare it as List, Set or Collection, with @OneToMany or @ManyToMany");
         } else if (Collection.class.isAssignableFrom(type) || Map.class.isAssignableFrom(type)) {
             faults.add(member, "a collection is no basic value",
-                    "Add @OneToMany or @ManyToMany, or @Convert, or @Transient");
+                    "Add @OneToMany or @ManyToMany, or @Convert, or @Transient; or declare it as a class that is"
+                            + " Serializable, as ArrayList");
         } else {
             faults.add(member, type.getName() + " is no basic type, no enum, and not Serializable",
                     "Add @Convert, @Embedded with an @Embeddable class, or @Transient");

@@ -35,7 +35,13 @@ public interface EntityModel {
     /** All relations in the order of the program's answer to {@code values}: superclass first. */
     List<Relation> relations();
 
+    /** What reads the columns of relations: superclass first. */
+    List<KeyCopy> copies();
+
     Callbacks callbacks();
+
+    /** What the collection of values has, of whose rows this is; empty of an entity of the application. */
+    Optional<Elements> rowsOf();
 
     /** A new instance by the constructor without parameters. */
     Object newInstance();

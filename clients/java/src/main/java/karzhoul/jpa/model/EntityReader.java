@@ -22,29 +22,40 @@ import java.util.Map;
 import java.util.Optional;
 import java.util.Set;
 import java.util.stream.Collectors;
+import java.util.stream.Stream;
 
 /** Reads the members of one entity: its own, and those of the mapped superclasses between it and the entity above. */
 final class EntityReader {
-    private static final int MOST_NESTED = 8;
+    static final int MOST_NESTED = 8;
+
+    /** An attribute that is neither inserted nor updated; its place is found once the relations were read. */
+    private record Unwritten(Member member, Way way, String path, Codec codec, boolean isRequired, String column) {}
 
     private final Faults faults;
     private final Members members;
     private final Codecs codecs;
     private final RelationReader relations;
     private final MemberCheck memberCheck;
+    private final ElementReader elements;
+    private final List<PlainEntity> hidden = new ArrayList<>();
     private final PlainEntity entity;
     private final Names names;
     private final AccessType access;
     private final Map<TypeVariable<?>, Type> known;
     private final List<Member> keyMembers = new ArrayList<>();
+    private final List<Unwritten> unwritten = new ArrayList<>();
 
-    /** @param names the names that the hierarchy has given already */
-    EntityReader(Faults faults, Codecs codecs, PlainEntity entity, Names names) {
+    /**
+     * @param names the names that the hierarchy has given already
+     * @param entityNames the names that entities of the mapping have already
+     */
+    EntityReader(Faults faults, Codecs codecs, PlainEntity entity, Names names, Names entityNames) {
         this.faults = faults;
         this.members = new Members(faults);
         this.codecs = codecs;
         this.relations = new RelationReader(faults);
         this.memberCheck = new MemberCheck(faults);
+        this.elements = new ElementReader(faults, codecs, this, entity, entityNames);
         this.entity = entity;
         this.names = names;
         this.access = Members.accessOf(entity.javaClass());
@@ -69,6 +80,7 @@ final class EntityReader {
         for (Member member : found.values()) {
             read(member, scopes.get(member.declaring().getName()));
         }
+        unwritten.forEach(this::readUnwritten);
         for (Class<?> at : chain) {
             memberCheck.checkOverrides(at, allPaths());
         }
@@ -85,6 +97,11 @@ final class EntityReader {
             }
         }
         return paths;
+    }
+
+    /** The entities of rows that it has, which no application sees. */
+    List<PlainEntity> hidden() {
+        return hidden;
     }
 
     List<Member> keyMembers() {
@@ -148,8 +165,7 @@ final class EntityReader {
      */
     private void read(Member member, Way way, String path, Scope scope, String inScope, int depth) {
         if (member.has(ElementCollection.class)) {
-            faults.add(member, "@ElementCollection isn't kept",
-                    "Make its elements entities, with @OneToMany and cascade ALL");
+            elements.read(member, way, path, names.give(path), scope, inScope).ifPresent(hidden::add);
         } else if (RelationReader.isRelation(member)) {
             readRelation(member, way, path, scope, inScope);
         } else if (member.has(Embedded.class) || member.javaType().isAnnotationPresent(Embeddable.class)) {
@@ -165,20 +181,38 @@ final class EntityReader {
         boolean isRequired = column.filter(it -> !it.nullable()).isPresent()
                 || member.find(Basic.class).filter(it -> !it.optional()).isPresent();
         column.ifPresent(it -> memberCheck.check(member, it));
-        codec.ifPresent(it -> entity.has(new PlainAttribute(path, names.give(path), Attribute.Role.PLAIN, it,
-                isRequired, way,
-                columnName(column, path))));
+        boolean isInserted = column.map(Column::insertable).orElse(true);
+        boolean isUpdated = column.map(Column::updatable).orElse(true);
+        if (codec.isEmpty()) {
+            return;
+        } else if (!isInserted && !isUpdated) {
+            unwritten.add(new Unwritten(member, way, path, codec.get(), isRequired, columnName(column, path)));
+        } else {
+            entity.has(new PlainAttribute(path, names.give(path), Attribute.Role.PLAIN, codec.get(), isRequired, way,
+                    entity.columnOf(columnName(column, path))).written(isInserted, isUpdated));
+        }
+    }
+
+    /** One whose column nobody writes by it: that of a relation, or one of its own, which stays as it is. */
+    private void readUnwritten(Unwritten it) {
+        Optional<PlainRelation> relation = entity.joinedBy(it.column());
+        if (relation.isPresent()) {
+            entity.has(new KeyCopy(it.member(), it.path(), it.codec(), it.way(), relation.get()));
+            return;
+        }
+        if (it.isRequired()) {
+            faults.add(it.member(), "it may not be null, and nothing writes it",
+                    "Leave insertable and updatable out, or give it the column of a relation");
+        }
+        entity.has(new PlainAttribute(it.path(), names.give(it.path()), Attribute.Role.PLAIN, it.codec(),
+                it.isRequired(), it.way(), entity.columnOf(it.column())).written(false, false));
     }
 
     /** Columns of a class below the root are its own, whatever classes beside it have; so are those of other tables. */
     private String columnName(Optional<Column> column, String path) {
         String name = column.map(Column::name).filter(it -> !it.isEmpty()).orElse(path);
         String table = column.map(Column::table).filter(it -> !it.isEmpty()).orElse("");
-        return owned(table.isEmpty() || table.equalsIgnoreCase(entity.root().table()) ? name : table + "." + name);
-    }
-
-    private String owned(String name) {
-        return entity.above() == null ? name : entity.name() + "." + name;
+        return table.isEmpty() || table.equalsIgnoreCase(entity.root().table()) ? name : table + "." + name;
     }
 
     private void readVersion(Member member) {
@@ -210,7 +244,9 @@ final class EntityReader {
         String stored = isOwner ? RelationReader.storedName(member, said.get(), entity.table(), path,
                 scope.association(inScope)) : null;
         boolean isColumn = isOwner && said.get().container() == Relation.Container.ONE;
-        entity.has(new PlainRelation(path, names.give(path), said.get(), way, isColumn ? owned(stored) : stored));
+        Place where = said.get().container() == Relation.Container.MAP
+                ? new MapPlace(way, entity.name() + "." + path) : way;
+        entity.has(new PlainRelation(path, names.give(path), said.get(), where, isColumn ? entity.columnOf(stored) : stored));
     }
 
     private void readEmbedded(Member member, Way way, String path, Scope scope, String inScope, int depth) {
@@ -233,8 +269,8 @@ final class EntityReader {
     }
 
     private Set<String> pathsWithin(String before) {
-        return entity.ownAttributes().stream()
-                .map(PlainAttribute::path)
+        return Stream.concat(entity.ownAttributes().stream().map(PlainAttribute::path),
+                        unwritten.stream().map(Unwritten::path))
                 .filter(it -> it.startsWith(before))
                 .map(it -> it.substring(before.length()))
                 .collect(Collectors.toSet());

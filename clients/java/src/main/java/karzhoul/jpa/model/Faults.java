@@ -15,6 +15,11 @@ final class Faults {
         note(new Fault(javaClass.getName() + "." + member, what, remedy));
     }
 
+    /** @param place the class, and the member where it is of one */
+    void add(String place, String what, String remedy) {
+        note(new Fault(place, what, remedy));
+    }
+
     void add(Member member, String what, String remedy) {
         add(member.declaring(), member.name(), what, remedy);
     }

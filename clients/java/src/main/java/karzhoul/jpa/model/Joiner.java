@@ -1,6 +1,7 @@
 package karzhoul.jpa.model;
 
 import jakarta.persistence.JoinColumn;
+import jakarta.persistence.MapKey;
 import jakarta.persistence.OrderBy;
 import java.util.ArrayList;
 import java.util.HashMap;
@@ -22,14 +23,16 @@ final class Joiner {
 
     void join(List<PlainEntity> all) {
         for (PlainEntity entity : all) {
-            entity.ownRelations().forEach(this::findTarget);
+            entity.ownRelations().stream().filter(it -> it.target() == null).forEach(this::findTarget);
         }
         for (PlainEntity entity : all) {
             entity.ownRelations().stream().filter(it -> it.target() != null).forEach(it -> {
                 findOwner(entity, it);
                 checkReferenced(it);
                 sort(it);
+                findMapKey(it);
             });
+            entity.ownCopies().stream().filter(it -> it.relation().target() != null).forEach(this::checkCopy);
         }
     }
 
@@ -65,6 +68,22 @@ final class Joiner {
         }
     }
 
+    /** What reads the column of a relation is of the type of the key there. */
+    private void checkCopy(KeyCopy copy) {
+        PlainKey key = ((PlainEntity) copy.relation().target()).plainKey();
+        if (key == null) {
+            return;
+        }
+        Codec part = key.parts().get(0).codec();
+        if (key.parts().size() > 1) {
+            faults.add(copy.declared(), "it reads the columns of " + copy.relation().path() + ", which are "
+                    + key.parts().size(), "Leave it out, and read the key of " + copy.relation().path());
+        } else if (part.sort() != copy.codec().sort() || !part.meaning().equals(copy.codec().meaning())) {
+            faults.add(copy.declared(), "it reads the column of " + copy.relation().path() + ", which is of "
+                    + part.javaType().getName(), "Declare it as that");
+        }
+    }
+
     /** A column of a relation refers to the key: to another column it can't. */
     private void checkReferenced(PlainRelation relation) {
         PlainKey key = ((PlainEntity) relation.target()).plainKey();
@@ -77,6 +96,27 @@ final class Joiner {
                         + ", which is no part of its key",
                         "Leave referencedColumnName out, or make that column the key");
             }
+        }
+    }
+
+    /** By which attribute a map of entities is kept; without a name by their key (chapter 11.1.33). */
+    private void findMapKey(PlainRelation relation) {
+        if (relation.map() == null) {
+            return;
+        }
+        PlainEntity target = (PlainEntity) relation.target();
+        String name = relation.said().declared().find(MapKey.class).map(MapKey::name).orElse("");
+        Optional<Attribute> by = name.isEmpty() ? Optional.empty() : target.find(name);
+        boolean isKey = target.plainKey() != null
+                && (name.isEmpty() || target.plainKey().embedded().filter(name::equals).isPresent());
+        if (isKey) {
+            PlainKey key = target.plainKey();
+            relation.map().isKeyedBy(key::of);
+        } else if (by.isPresent()) {
+            relation.map().isKeyedBy(by.get()::get);
+        } else if (target.plainKey() != null) {
+            faults.add(relation.said().declared(), "@MapKey names \"" + name + "\", which is no attribute of "
+                    + target.name(), "Name an attribute of the members, or leave the name out");
         }
     }
 
@@ -104,7 +144,9 @@ final class Joiner {
         }
         PlainEntity target = (PlainEntity) relation.target();
         List<Relation.Order> orders = new ArrayList<>();
-        if (orderBy.get().value().isBlank() && target.plainKey() != null) {
+        if (orderBy.get().value().isBlank() && relation.elements().isPresent()) {
+            relation.elements().get().attributes().forEach(it -> orders.add(new Relation.Order(it, false)));
+        } else if (orderBy.get().value().isBlank() && target.plainKey() != null) {
             target.plainKey().parts().forEach(part -> orders.add(new Relation.Order(part, false)));
         }
         for (String item : orderBy.get().value().isBlank() ? new String[0] : orderBy.get().value().split(",")) {

@@ -32,8 +32,6 @@ final class MemberCheck {
     private static final List<Class<? extends Annotation>> SORTS = List.of(
             EmbeddedId.class, Version.class, ManyToOne.class, OneToOne.class, OneToMany.class, ManyToMany.class,
             ElementCollection.class, Embedded.class);
-    private static final String WRITTEN = "Leave insertable and updatable out, or add @Transient";
-
     private final Faults faults;
 
     MemberCheck(Faults faults) {
@@ -66,7 +64,9 @@ final class MemberCheck {
     private void checkJoinColumns(Member member) {
         for (JoinColumn column : member.annotated().getAnnotationsByType(JoinColumn.class)) {
             if (!column.insertable() || !column.updatable()) {
-                faults.add(member, "a column that isn't written isn't kept", WRITTEN);
+                faults.add(member, "a relation whose column isn't written isn't kept",
+                        "Let the relation be written, and the attribute beside it be insertable = false and"
+                                + " updatable = false; or add @Transient");
             }
             if (column.unique() && !member.has(OneToOne.class)) {
                 faults.add(member, "unique isn't kept", "Leave it out, or use @OneToOne");
@@ -78,8 +78,9 @@ final class MemberCheck {
         if (column.unique()) {
             faults.add(member, "unique isn't kept", "Leave it out, or make it the key");
         }
-        if (!column.insertable() || !column.updatable()) {
-            faults.add(member, "a column that isn't written isn't kept", WRITTEN);
+        if (!column.insertable() && column.updatable()) {
+            faults.add(member, "a column that is updated, and isn't inserted, isn't kept",
+                    "Write updatable = false too, leave insertable out, or add @Transient");
         }
     }
 

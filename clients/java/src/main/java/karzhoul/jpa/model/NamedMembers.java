@@ -16,6 +16,11 @@ public final class NamedMembers {
         return find(instance.getClass(), name).map(member -> member.accessor().get(instance));
     }
 
+    /** The class of what stands in a field, else in a property, of this name; empty where there is neither. */
+    public static Optional<Class<?>> type(Class<?> javaClass, String name) {
+        return find(javaClass, name).map(Member::javaType);
+    }
+
     /** The field of this name, else the property; empty where there is neither, or its module is closed. */
     static Optional<Member> find(Class<?> javaClass, String name) {
         for (Class<?> at = javaClass; at != null && at != Object.class; at = at.getSuperclass()) {

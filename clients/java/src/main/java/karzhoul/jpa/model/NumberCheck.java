@@ -46,8 +46,9 @@ final class NumberCheck {
         }
         if (all.size() > MOST_ENTITIES) {
             PlainEntity last = all.get(MOST_ENTITIES);
-            faults.add(last.javaClass(), "it is one of " + all.size() + " entities, and a unit has at most "
-                    + MOST_ENTITIES,
+            boolean hasRows = all.stream().anyMatch(NumberCheck::isRows);
+            faults.add(last.declaredAt(), "it is one of " + all.size() + " entities"
+                    + (hasRows ? " and collections of values" : "") + ", and a unit has at most " + MOST_ENTITIES,
                     "Divide the unit");
         }
     }
@@ -76,7 +77,7 @@ final class NumberCheck {
     }
 
     private void take(Map<Integer, Taken> taken, String sort, String name, PlainEntity entity, String path) {
-        String place = entity.javaClass().getName() + (path.isEmpty() ? "" : "." + path);
+        String place = entity.declaredAt() + (path.isEmpty() || isRows(entity) ? "" : "." + path);
         int number = Names.number(name);
         Taken other = taken.putIfAbsent(number, new Taken(name, place));
         if (other == null) {
@@ -87,12 +88,14 @@ final class NumberCheck {
                         + " of "
                         + other.place();
         String remedy = "Name one of them otherwise, by "
-                + (sort.equals("column") ? "@Column, @JoinColumn or @AttributeOverride" : "@Table or @JoinTable");
-        if (path.isEmpty()) {
-            faults.add(entity.javaClass(), what, remedy);
-        } else {
-            faults.add(entity.javaClass(), path, what, remedy);
-        }
+                + (sort.equals("column") ? "@Column, @JoinColumn or @AttributeOverride"
+                        : isRows(entity) ? "@CollectionTable" : "@Table or @JoinTable");
+        faults.add(place, what, remedy);
+    }
+
+    /** Whether it is of a collection's rows, and named by that. */
+    private static boolean isRows(PlainEntity entity) {
+        return entity.javaClass() == ElementRow.class;
     }
 
     private void checkCount(PlainEntity entity) {

@@ -9,6 +9,8 @@ final class PlainAttribute implements Attribute {
     private final boolean isRequired;
     private final Place where;
     private final String columnName;
+    private boolean isInsertable = true;
+    private boolean isUpdatable = true;
     private int place = -1;
 
     /**
@@ -32,6 +34,13 @@ final class PlainAttribute implements Attribute {
 
     int column() {
         return Names.number(columnName);
+    }
+
+    /** Says when its column is written. */
+    PlainAttribute written(boolean isInsertable, boolean isUpdatable) {
+        this.isInsertable = isInsertable;
+        this.isUpdatable = isUpdatable;
+        return this;
     }
 
     void stands(int place) {
@@ -61,6 +70,16 @@ final class PlainAttribute implements Attribute {
     @Override
     public boolean isRequired() {
         return isRequired;
+    }
+
+    @Override
+    public boolean isInsertable() {
+        return isInsertable;
+    }
+
+    @Override
+    public boolean isUpdatable() {
+        return isUpdatable;
     }
 
     @Override

@@ -22,13 +22,17 @@ final class PlainEntity implements EntityModel {
     private final Set<String> names = new HashSet<>();
     private final List<PlainAttribute> ownAttributes = new ArrayList<>();
     private final List<PlainRelation> ownRelations = new ArrayList<>();
+    private final List<KeyCopy> ownCopies = new ArrayList<>();
     private List<Attribute> attributes = List.of();
     private List<Relation> relations = List.of();
+    private List<KeyCopy> copies = List.of();
     private PlainKey key;
     private String keyName;
     private PlainAttribute version;
     private Callbacks callbacks;
     private MethodHandle constructor;
+    private Elements elements;
+    private String declaredAt;
 
     PlainEntity(Class<?> javaClass, String name, String mappedName, PlainEntity above, String table,
             String discriminator) {
@@ -72,8 +76,23 @@ final class PlainEntity implements EntityModel {
         ownRelations.add(relation);
     }
 
+    void has(KeyCopy copy) {
+        ownCopies.add(copy);
+    }
+
     void tells(Callbacks callbacks) {
         this.callbacks = callbacks;
+    }
+
+    /** @param declared the class and the member of the collection */
+    void isRowsOf(Elements collection, String declared) {
+        elements = collection;
+        declaredAt = declared;
+    }
+
+    /** Where it is declared: its class, or the collection whose rows it has. */
+    String declaredAt() {
+        return declaredAt == null ? javaClass.getName() : declaredAt;
     }
 
     void isMadeBy(MethodHandle constructor) {
@@ -99,6 +118,7 @@ final class PlainEntity implements EntityModel {
         for (int i = 0; i < leading.size(); i++) {
             ((PlainRelation) leading.get(i)).stands(i);
         }
+        copies = Stream.concat(above == null ? Stream.empty() : above.copies.stream(), ownCopies.stream()).toList();
         attributes = List.copyOf(all);
         relations = List.copyOf(leading);
     }
@@ -129,6 +149,28 @@ final class PlainEntity implements EntityModel {
 
     List<PlainRelation> ownRelations() {
         return ownRelations;
+    }
+
+    List<KeyCopy> ownCopies() {
+        return ownCopies;
+    }
+
+    /** The name of a column that a class of the hierarchy declares: below the root columns are a class's own. */
+    String columnOf(String name) {
+        return above == null ? name : this.name + "." + name;
+    }
+
+    /** The relation to one that this entity or one above keeps in the column of this name. */
+    Optional<PlainRelation> joinedBy(String column) {
+        for (PlainEntity at = this; at != null; at = at.above) {
+            for (PlainRelation relation : at.ownRelations) {
+                if (relation.isOwner() && !relation.isMany()
+                        && relation.storedName().equalsIgnoreCase(at.columnOf(column))) {
+                    return Optional.of(relation);
+                }
+            }
+        }
+        return Optional.empty();
     }
 
     /** The relation of this path that this entity or one above declares. */
@@ -204,6 +246,16 @@ final class PlainEntity implements EntityModel {
     @Override
     public List<Relation> relations() {
         return relations;
+    }
+
+    @Override
+    public List<KeyCopy> copies() {
+        return copies;
+    }
+
+    @Override
+    public Optional<Elements> rowsOf() {
+        return Optional.ofNullable(elements);
     }
 
     @Override

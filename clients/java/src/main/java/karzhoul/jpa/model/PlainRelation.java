@@ -55,8 +55,16 @@ final class PlainRelation implements Relation {
         this.owner = owner;
     }
 
+    /** Where it stands, where that is a map; else null. */
+    MapPlace map() {
+        return where instanceof MapPlace map ? map : null;
+    }
+
     void isSortedBy(List<Order> orders) {
         this.orders = List.copyOf(orders);
+        if (where instanceof ElementPlace elements) {
+            elements.isSorted();
+        }
     }
 
     void stands(int place) {
@@ -126,6 +134,11 @@ final class PlainRelation implements Relation {
     @Override
     public boolean isRequired() {
         return said.isRequired;
+    }
+
+    @Override
+    public Optional<Elements> elements() {
+        return where instanceof ElementPlace elements ? Optional.of(elements) : Optional.empty();
     }
 
     @Override

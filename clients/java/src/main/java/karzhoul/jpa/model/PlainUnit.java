@@ -7,13 +7,16 @@ import java.util.Map;
 /** The entities of a unit as they were read. */
 final class PlainUnit implements UnitModel {
     private final List<EntityModel> entities;
+    private final List<EntityModel> hidden;
     private final Map<Class<?>, EntityModel> byClass = new HashMap<>();
     private final Map<String, EntityModel> byName = new HashMap<>();
     private final Map<String, Named> namedQueries;
     private final String mapping;
     private final String description;
 
-    PlainUnit(List<PlainEntity> entities, Map<String, Named> namedQueries, String mapping, String description) {
+    PlainUnit(List<PlainEntity> entities, List<PlainEntity> hidden, Map<String, Named> namedQueries, String mapping,
+            String description) {
+        this.hidden = List.copyOf(hidden);
         this.entities = List.copyOf(entities);
         this.namedQueries = Map.copyOf(namedQueries);
         this.mapping = mapping;
@@ -27,6 +30,11 @@ final class PlainUnit implements UnitModel {
     @Override
     public List<EntityModel> entities() {
         return entities;
+    }
+
+    @Override
+    public List<EntityModel> hidden() {
+        return hidden;
     }
 
     @Override

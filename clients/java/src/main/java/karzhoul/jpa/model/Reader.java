@@ -6,6 +6,7 @@ import jakarta.persistence.Embeddable;
 import jakarta.persistence.Entity;
 import jakarta.persistence.MappedSuperclass;
 import jakarta.persistence.Table;
+import java.util.ArrayList;
 import java.util.Collection;
 import java.util.Comparator;
 import java.util.LinkedHashMap;
@@ -13,6 +14,7 @@ import java.util.LinkedHashSet;
 import java.util.List;
 import java.util.Map;
 import java.util.Set;
+import java.util.stream.Stream;
 
 /** Reads annotated classes as the entities of a unit (chapters 2, 3.5, 3.8 and 11). */
 public final class Reader {
@@ -23,6 +25,7 @@ public final class Reader {
     private final Map<Class<?>, PlainEntity> entities = new LinkedHashMap<>();
     private final Map<Class<?>, KeyReader.Draft> roots = new LinkedHashMap<>();
     private final Names entityNames = new Names();
+    private final List<PlainEntity> hidden = new ArrayList<>();
 
     private Reader() {
         entityNames.give(StoredDescription.ENTITY);
@@ -60,7 +63,8 @@ public final class Reader {
                 .sorted(Comparator.comparingInt(Classes::depth))
                 .forEach(this::readEntity);
         new KeyReader(faults, codecs, generators, roots).readAll();
-        List<PlainEntity> all = List.copyOf(entities.values());
+        List<PlainEntity> visible = List.copyOf(entities.values());
+        List<PlainEntity> all = Stream.concat(visible.stream(), hidden.stream()).toList();
         new Joiner(faults, entities).join(all);
         new NumberCheck(faults).check(all);
         Map<String, UnitModel.Named> queries = new NamedQueryReader(faults).read(classes);
@@ -70,7 +74,7 @@ public final class Reader {
             return null;
         }
         all.forEach(PlainEntity::order);
-        return new PlainUnit(all, queries, MappingWriter.write(all), DescriptionWriter.write(all));
+        return new PlainUnit(visible, hidden, queries, MappingWriter.write(all), DescriptionWriter.write(all));
     }
 
     private void readEntity(Class<?> javaClass) {
@@ -97,8 +101,9 @@ public final class Reader {
         // Names are those of a whole hierarchy: a class below has those of the classes above.
         KeyReader.Draft root = above == null ? null : roots.get(entity.root().javaClass());
         Names names = root == null ? new Names() : root.names();
-        EntityReader reader = new EntityReader(faults, codecs, entity, names);
+        EntityReader reader = new EntityReader(faults, codecs, entity, names, entityNames);
         reader.read();
+        hidden.addAll(reader.hidden());
         if (above == null) {
             roots.put(javaClass, new KeyReader.Draft(entity, reader, names));
         } else if (!reader.keyMembers().isEmpty()) {

@@ -57,6 +57,11 @@ public interface Relation {
 
     List<Order> orders();
 
+    /** What a collection of values has, whose rows this leads to; empty of a relation to entities. */
+    default Optional<Elements> elements() {
+        return Optional.empty();
+    }
+
     /** What an instance holds: the other instance, a collection, or null. */
     Object get(Object instance);
 

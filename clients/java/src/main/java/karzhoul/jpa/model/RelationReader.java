@@ -45,7 +45,7 @@ final class RelationReader {
         if (container.isEmpty() || !fits(member, container.get(), isMany)) {
             return Optional.empty();
         }
-        Class<?> type = isMany ? Types.argument(member.type(), 0).orElse(null) : member.javaType();
+        Class<?> type = isMany ? Types.argument(member.type(), container.get() == Container.MAP ? 1 : 0).orElse(null) : member.javaType();
         var one = member.find(ManyToOne.class);
         if (one.isPresent()) {
             return said(member, container.get(), Kind.MANY_TO_ONE, one.get().targetEntity(), type, "", one.get()
@@ -121,10 +121,13 @@ final class RelationReader {
     }
 
     private boolean fits(Member member, Container container, boolean isMany) {
-        boolean isMap = container == Container.MAP || member.has(MapKey.class) || member.has(MapKeyColumn.class)
-                || member.has(MapKeyClass.class) || member.has(MapKeyJoinColumn.class);
-        if (isMap) {
-            faults.add(member, "maps of entities aren't kept", "Declare it as a List or a Set");
+        boolean isByItself = member.has(MapKeyColumn.class) || member.has(MapKeyClass.class)
+                || member.has(MapKeyJoinColumn.class) || container == Container.MAP && !member.has(MapKey.class);
+        if (isByItself) {
+            faults.add(member, "keys of maps of entities aren't kept by themselves",
+                    "Let an attribute of the members be the key, with @MapKey(name)");
+        } else if (member.has(MapKey.class) && container != Container.MAP) {
+            faults.add(member, "it has @MapKey, and is no map", "Declare it as Map");
         }
         if (member.has(OrderColumn.class)) {
             faults.add(member, "@OrderColumn isn't kept",
@@ -136,7 +139,7 @@ final class RelationReader {
                     isMany ? "Declare it as List, Set or Collection, or use @ManyToOne"
                             : "Use @OneToMany or @ManyToMany");
         }
-        return !isMap && isMany == (container != Container.ONE);
+        return !isByItself && isMany == (container != Container.ONE);
     }
 
     /** The name of which the number of an owned relation's column or join table is made. */

@@ -10,6 +10,9 @@ public interface UnitModel {
 
     List<EntityModel> entities();
 
+    /** Those of which the rows of collections of values are; no application sees them. */
+    List<EntityModel> hidden();
+
     /**
      * The entity of a class, also of a proxy's.
      *

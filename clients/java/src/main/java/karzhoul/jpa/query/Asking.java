@@ -3,6 +3,8 @@ package karzhoul.jpa.query;
 import jakarta.persistence.FlushModeType;
 import jakarta.persistence.LockModeType;
 import java.util.List;
+import karzhoul.jpa.graph.RootGraph;
+import karzhoul.jpa.model.EntityModel;
 import karzhoul.jpa.model.Relation;
 import karzhoul.jpa.model.UnitModel;
 
@@ -38,15 +40,22 @@ public interface Asking {
      * The rows of a statement of the program's language. An item is null, a Long, a String, a byte[] or a {@link Ref}.
      * A parameter is one of these, by its name or its number in the text.
      *
+     * @param findsOne whether one object is expected at most: then it is read in the same trip
      * @throws jakarta.persistence.PersistenceException or IllegalArgumentException, as the program's refusal says
      */
-    List<Object[]> rows(String text, List<Parameter> parameters, Integer first, Integer max);
+    List<Object[]> rows(String text, List<Parameter> parameters, Integer first, Integer max, boolean findsOne);
 
     /** How many objects an UPDATE or a DELETE concerned. */
     int update(String text, List<Parameter> parameters);
 
     /** A parameter: a name (a text) or a number, and its value. */
     record Parameter(Object name, Object value) {}
+
+    /** The instances with these keys, in this order, read in one trip; null for each without a row, and for null. */
+    List<Object> found(EntityModel entity, List<Object> keys);
+
+    /** Whether an instance is managed. */
+    boolean isManaged(Object instance);
 
     /** The instances of these objects, each filled, in this order; of many at a time in one trip. */
     List<Object> instances(List<Ref> refs);
@@ -58,6 +67,16 @@ public interface Asking {
      */
     Ref refOf(Object instance);
 
-    /** Reads a relation of these instances in one trip, as JOIN FETCH asks. */
-    void fetch(List<Object> instances, Relation relation);
+    /** Reads a relation of these instances in one trip, as JOIN FETCH asks; its members, each once. */
+    List<Object> fetch(List<Object> instances, Relation relation);
+
+    /**
+     * The entity graph that a hint gives, or names.
+     *
+     * @throws IllegalArgumentException where it is none
+     */
+    RootGraph<?> graph(Object given);
+
+    /** Reads what a graph names of those instances that are of its entity. */
+    void read(List<Object> instances, RootGraph<?> graph);
 }

@@ -2,9 +2,9 @@ package karzhoul.jpa.query;
 
 import jakarta.persistence.PersistenceException;
 import java.nio.ByteBuffer;
-import java.time.LocalDateTime;
 import java.util.ArrayList;
 import java.util.HashMap;
+import java.util.IdentityHashMap;
 import java.util.List;
 import java.util.Map;
 import karzhoul.jpa.model.Codec;
@@ -12,7 +12,9 @@ import karzhoul.jpa.query.Tree.Asked;
 import karzhoul.jpa.query.Tree.Literal;
 import karzhoul.jpa.query.Tree.Now;
 import karzhoul.jpa.query.Tree.Parameter;
+import karzhoul.jpa.query.Tree.Outer;
 import karzhoul.jpa.query.Tree.PartOf;
+import karzhoul.jpa.query.Tree.Reference;
 import karzhoul.jpa.query.Tree.Value;
 
 /** The values of one execution, and the program's parameters that are made of them. */
@@ -22,22 +24,39 @@ final class Binding {
 
     final Asking asking;
     final Clock clock;
+    final Hints.Deadline deadline;
     private final Map<Object, Object> given;
-    private final Map<Integer, Object> asked = new HashMap<>();
+    private final Map<Reference, Object> outside;
+    private Map<Integer, Object> asked = Map.of();
     private final List<Asking.Parameter> bound = new ArrayList<>();
     private final Map<Object, String> names = new HashMap<>();
 
-    Binding(Asking asking, Map<Object, Object> given) {
+    Binding(Asking asking, Map<Object, Object> given, Hints.Deadline deadline) {
         this.asking = asking;
         this.given = given;
-        this.clock = new Clock(LocalDateTime.now());
+        this.deadline = deadline;
+        this.outside = Map.of();
+        this.clock = new Clock();
     }
 
     /** The same execution, of a block that is asked before. */
     Binding(Binding outer) {
+        this(outer, outer.outside);
+    }
+
+    private Binding(Binding outer, Map<Reference, Object> outside) {
         this.asking = outer.asking;
         this.given = outer.given;
+        this.deadline = outer.deadline;
+        this.outside = outside;
         this.clock = outer.clock;
+    }
+
+    /** The same execution, of a block that is asked for a row: what its paths from outside are there. */
+    static Binding ofRow(Binding outer, Map<Reference, Object> row) {
+        Map<Reference, Object> outside = new IdentityHashMap<>(outer.outside);
+        outside.putAll(row);
+        return new Binding(outer, outside);
     }
 
     /** The parameters of the text that was written last. */
@@ -62,13 +81,16 @@ final class Binding {
 
     /** Keeps what a block of its own has answered. */
     void answer(int number, Object value) {
+        if (asked.isEmpty()) {
+            asked = new HashMap<>();
+        }
         asked.put(number, value);
     }
 
     /** Whether a value is known before any row is read. */
     static boolean isConstant(Value value) {
         return value instanceof Literal || value instanceof Parameter || value instanceof Now || value instanceof Asked
-                || value instanceof PartOf;
+                || value instanceof PartOf || value instanceof Outer;
     }
 
     /** What a literal, a parameter or the like is. */
@@ -81,6 +103,9 @@ final class Binding {
         }
         if (value instanceof Asked block) {
             return asked.get(block.number());
+        }
+        if (value instanceof Outer outer) {
+            return outside.get(outer.path());
         }
         if (value instanceof PartOf part) {
             Object key = constant(part.parameter());

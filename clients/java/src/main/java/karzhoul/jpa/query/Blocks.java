@@ -11,6 +11,7 @@ import karzhoul.jpa.query.Tree.Aggregate;
 import karzhoul.jpa.query.Tree.Always;
 import karzhoul.jpa.query.Tree.And;
 import karzhoul.jpa.query.Tree.Asked;
+import karzhoul.jpa.query.Tree.ByRows;
 import karzhoul.jpa.query.Tree.Call;
 import karzhoul.jpa.query.Tree.Compare;
 import karzhoul.jpa.query.Tree.Condition;
@@ -42,6 +43,7 @@ final class Blocks extends Rewriting {
     private final Set<Variable> optional = Collections.newSetFromMap(new IdentityHashMap<>());
     private List<Reference> moved = new ArrayList<>();
     private boolean isHaving;
+    private boolean isWithin;
 
     Blocks(String text) {
         this.text = text;
@@ -54,6 +56,7 @@ final class Blocks extends Rewriting {
 
     /** WHERE of an UPDATE or DELETE. */
     Condition filter(Condition where) {
+        isWithin = true;
         return kept(conditionOrNull(where));
     }
 
@@ -63,15 +66,33 @@ final class Blocks extends Rewriting {
         boolean outerHaving = isHaving;
         moved = new ArrayList<>();
         isHaving = false;
+        boolean isBlock = isWithin;
+        isWithin = true;
         List<Source> sources = each(select.sources(), this::source);
-        List<Item> items = each(select.items(), this::item);
+        List<Item> items = each(select.items(), isBlock ? this::item : this::itemAround);
         Condition where = kept(conditionOrNull(select.where()));
         isHaving = true;
         Condition having = conditionOrNull(select.having());
         isHaving = outerHaving;
         moved = outer;
+        isWithin = isBlock;
         return new Select(select.at(), select.isDistinct(), items, sources, where, select.groups(), having,
                 each(select.order(), key -> new Key(value(key.value()), key.isDescending())));
+    }
+
+    /** Of a statement's item only blocks that are asked before: others are asked for each row. */
+    private Item itemAround(Item item) {
+        return new Item(new Rewriting() {
+            @Override
+            Value value(Value value) {
+                return value instanceof Scalar scalar && isAlone(scalar.select()) ? asked(scalar) : valueWithin(value);
+            }
+
+            @Override
+            Select select(Select select) {
+                return select;
+            }
+        }.value(item.value()), item.name());
     }
 
     /** A condition with tests that name the paths that went into blocks. */
@@ -150,7 +171,9 @@ final class Blocks extends Rewriting {
 
     @Override
     Condition condition(Condition condition) {
-        if (condition instanceof Quantified of) {
+        if (condition instanceof ByRows) {
+            return condition;
+        } else if (condition instanceof Quantified of) {
             return quantified(of);
         } else if (condition instanceof Compare of && of.right() instanceof Scalar scalar
                 && !isAlone(scalar.select())) {
@@ -310,7 +333,7 @@ final class Blocks extends Rewriting {
     }
 
     /** Whether a block has one row at most: one variable whose key its condition tells, or a link. */
-    private static boolean isOneRow(Select select) {
+    static boolean isOneRow(Select select) {
         if (select.sources().size() != 1) {
             return false;
         }

@@ -31,8 +31,10 @@ final class ChangePlanner {
 
     ChangePlan plan(Statement statement) {
         if (statement instanceof Delete delete) {
-            Text whole = Text.of("DELETE FROM ").add(range(delete.range())).add(where(delete.where()));
-            return new ChangePlan(whole, null, planner.asked(blocks.asked()));
+            String range = range(delete.range());
+            Text where = where(delete.where());
+            return new ChangePlan(Text.of("DELETE FROM " + range).add(where), null, planner.asked(blocks.asked()),
+                    RowsGone.of(delete.range().variable().entity, writer.names.of(delete.range().variable()), where));
         }
         Update update = (Update) statement;
         String range = range(update.range());
@@ -49,7 +51,7 @@ final class ChangePlanner {
             check = Text.of("SELECT COUNT(" + name + ") FROM " + range).add(where)
                     .add(update.where() == null ? " WHERE (" : " AND (").add(Text.joined(" OR ", checks)).add(")");
         }
-        return new ChangePlan(whole, check, planner.asked(blocks.asked()));
+        return new ChangePlan(whole, check, planner.asked(blocks.asked()), List.of());
     }
 
     private String range(Range range) {
@@ -61,7 +63,7 @@ final class ChangePlanner {
             return new Text();
         }
         Condition lowered = new Joins(text, true).condition(blocks.filter(new WholeKeys().condition(
-                new Negation().condition(where))));
+                new Treats(text).filter(new Negation().condition(where)))));
         try {
             return Text.of(" WHERE ").add(writer.conditions.condition(lowered));
         } catch (NotKept e) {

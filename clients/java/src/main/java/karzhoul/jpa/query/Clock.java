@@ -11,10 +11,14 @@ import karzhoul.jpa.query.Tree.Now;
 
 /** The time at which a statement is executed: one for all of it (chapter 4.7.2.3). */
 final class Clock {
-    private final LocalDateTime now;
+    private LocalDateTime now;
 
-    Clock(LocalDateTime now) {
-        this.now = now.truncatedTo(ChronoUnit.MICROS);
+    /** The time at which the statement asked for it first. */
+    private LocalDateTime now() {
+        if (now == null) {
+            now = LocalDateTime.now().truncatedTo(ChronoUnit.MICROS);
+        }
+        return now;
     }
 
     /** The type of a value of these. */
@@ -43,18 +47,18 @@ final class Clock {
     /** The date or the time in java.time, for comparisons with attributes of any type. */
     Object local(Now.Kind kind) {
         return switch (kind) {
-            case CURRENT_DATE, LOCAL_DATE -> now.toLocalDate();
-            case CURRENT_TIME, LOCAL_TIME -> now.toLocalTime();
-            case CURRENT_TIMESTAMP, LOCAL_DATETIME -> now;
+            case CURRENT_DATE, LOCAL_DATE -> now().toLocalDate();
+            case CURRENT_TIME, LOCAL_TIME -> now().toLocalTime();
+            case CURRENT_TIMESTAMP, LOCAL_DATETIME -> now();
         };
     }
 
     /** The value as an item of the result has it. */
     Object value(Now.Kind kind) {
         return switch (kind) {
-            case CURRENT_DATE -> Date.valueOf(now.toLocalDate());
-            case CURRENT_TIME -> Time.valueOf(now.toLocalTime());
-            case CURRENT_TIMESTAMP -> Timestamp.valueOf(now);
+            case CURRENT_DATE -> Date.valueOf(now().toLocalDate());
+            case CURRENT_TIME -> Time.valueOf(now().toLocalTime());
+            case CURRENT_TIMESTAMP -> Timestamp.valueOf(now());
             default -> local(kind);
         };
     }

@@ -6,6 +6,7 @@ import karzhoul.jpa.query.Tree.And;
 import karzhoul.jpa.query.Tree.Between;
 import karzhoul.jpa.query.Tree.Compare;
 import karzhoul.jpa.query.Tree.Condition;
+import karzhoul.jpa.query.Tree.Embedded;
 import karzhoul.jpa.query.Tree.Exists;
 import karzhoul.jpa.query.Tree.In;
 import karzhoul.jpa.query.Tree.InParameter;
@@ -18,7 +19,6 @@ import karzhoul.jpa.query.Tree.Member;
 import karzhoul.jpa.query.Tree.Not;
 import karzhoul.jpa.query.Tree.Or;
 import karzhoul.jpa.query.Tree.Quantified;
-import karzhoul.jpa.query.Tree.Reference;
 import karzhoul.jpa.query.Tree.TypeOf;
 import karzhoul.jpa.query.Tree.Value;
 
@@ -44,7 +44,9 @@ final class ConditionTyper {
         } else if (condition instanceof Like like) {
             like(like, takesAggregates);
         } else if (condition instanceof IsNull isNull) {
-            typer.typed(isNull.value(), takesAggregates);
+            if (!(isNull.value() instanceof Embedded)) {
+                typer.typed(isNull.value(), takesAggregates);
+            }
         } else if (condition instanceof IsEmpty isEmpty) {
             typer.collection(isEmpty.path(), "IS EMPTY");
         } else if (condition instanceof Member member) {
@@ -147,10 +149,10 @@ final class ConditionTyper {
     private void member(Member member) {
         typer.collection(member.path(), "MEMBER OF");
         Type type = typer.typed(member.value(), false);
-        Type target = Type.of(((Reference) member.path()).entity());
+        Type target = Type.of(Typer.path(member.path()).entity());
         typer.expect(member.value(), target);
         if (!type.goesWith(target)) {
-            throw typer.fault(member.value().at(), "the members of \"" + member.path() + "\" are of " + target.told()
+            throw typer.fault(member.value().at(), "the members of \"" + Typer.path(member.path()) + "\" are of " + target.told()
                     + ", and this is " + type.told());
         }
     }

@@ -4,17 +4,26 @@ import jakarta.persistence.PersistenceException;
 import java.math.BigDecimal;
 import java.math.BigInteger;
 import java.util.ArrayList;
+import java.util.HashMap;
 import java.util.HashSet;
+import java.util.IdentityHashMap;
 import java.util.List;
+import java.util.Map;
 import java.util.Set;
+import karzhoul.jpa.model.EntityModel;
+import karzhoul.jpa.model.NamedMembers;
 import karzhoul.jpa.query.Tree.Aggregate;
 import karzhoul.jpa.query.Tree.Arithmetic;
 import karzhoul.jpa.query.Tree.Average;
 import karzhoul.jpa.query.Tree.Call;
 import karzhoul.jpa.query.Tree.Case;
 import karzhoul.jpa.query.Tree.Condition;
+import karzhoul.jpa.query.Tree.Embedded;
 import karzhoul.jpa.query.Tree.EntityName;
 import karzhoul.jpa.query.Tree.Now;
+import karzhoul.jpa.query.Tree.Reference;
+import karzhoul.jpa.query.Tree.Scalar;
+import karzhoul.jpa.query.Tree.Select;
 import karzhoul.jpa.query.Tree.Signed;
 import karzhoul.jpa.query.Tree.TypeOf;
 import karzhoul.jpa.query.Tree.Value;
@@ -25,9 +34,28 @@ final class Evaluator {
     /** A row of the program, or a group of them with its first; a group of nothing has no row. */
     record Frame(Object[] row, List<Object[]> group) {}
 
+    /** The most answers of blocks that are held; then they are asked for again. */
+    private static final int MOST_HELD = 100_000;
+
     private final Leaves leaves;
     private final Binding binding;
     private final Truths truths = new Truths(this);
+    private final Map<Asked, List<SelectPlan.Answer>> answers = new HashMap<>();
+    private int held;
+
+    /** A block that was asked for what it names from outside. */
+    private record Asked(SelectPlan plan, List<Object> outside, boolean isAny) {
+        @Override
+        public boolean equals(Object other) {
+            return other instanceof Asked that && plan == that.plan && isAny == that.isAny
+                    && outside.equals(that.outside);
+        }
+
+        @Override
+        public int hashCode() {
+            return 31 * System.identityHashCode(plan) + outside.hashCode();
+        }
+    }
 
     Evaluator(Leaves leaves, Binding binding) {
         this.leaves = leaves;
@@ -71,7 +99,9 @@ final class Evaluator {
             return frame.row() == null ? null : decoded(column, frame.row()[place]);
         }
         List<Value> key = leaves.key(value);
-        if (key != null) {
+        if (value instanceof Embedded whole) {
+            return embedded(whole, frame);
+        } else if (key != null) {
             List<Object> columns = key.stream().map(part -> raw(leaves.place(part), frame)).toList();
             return columns.contains(null) ? null
                     : ((Tree.Reference) value).entity().key().fromColumns(columns);
@@ -80,6 +110,28 @@ final class Evaluator {
             return binding.clock.value(now.kind());
         }
         return Binding.isConstant(value) ? binding.constant(value) : computed(value, frame);
+    }
+
+    /** An embedded object, as one that no entity holds (chapter 4.8.4); null where all that it has is. */
+    private Object embedded(Embedded whole, Frame frame) {
+        EntityModel entity = whole.parts().get(0).entity();
+        while (entity.isAbstract()) {
+            entity = entity.subEntities().get(0);
+        }
+        Object at = entity.newInstance();
+        boolean isNone = true;
+        for (Reference part : whole.parts()) {
+            Object value = value(part, frame);
+            isNone &= value == null;
+            part.attribute().set(at, value);
+        }
+        if (entity.rowsOf().isPresent()) {
+            return isNone ? null : entity.rowsOf().get().element(at);
+        }
+        for (String name : whole.names()) {
+            at = at == null ? null : NamedMembers.value(at, name).orElse(null);
+        }
+        return at;
     }
 
     private static Object decoded(Leaves.Column column, Object raw) {
@@ -112,6 +164,9 @@ final class Evaluator {
             return aggregate(of, frame);
         } else if (value instanceof TypeOf of) {
             return typeOf(value(of.operand(), frame));
+        } else if (value instanceof Scalar of) {
+            SelectPlan.Answer one = one(of.select(), frame);
+            return one == null ? null : one.value();
         } else if (value instanceof EntityName of) {
             return of.entity().javaClass();
         }
@@ -139,6 +194,46 @@ final class Evaluator {
         }
         Object instance = entity instanceof Asking.Ref ref ? binding.asking.instances(List.of(ref)).get(0) : entity;
         return binding.asking.unit().of(instance.getClass()).javaClass();
+    }
+
+    // ---- blocks that are asked for each row, once for what they name from outside
+
+    /** What a block answers beside a row; one answer at most, where it is asked whether there is any. */
+    List<SelectPlan.Answer> answers(Select select, Frame frame, boolean isAny) {
+        RowBlocks.Block block = leaves.block(select);
+        Map<Reference, Object> row = new IdentityHashMap<>();
+        List<Object> key = new ArrayList<>();
+        for (Reference path : block.outside()) {
+            Object value = value(path, frame);
+            row.put(path, value);
+            key.add(key(path, value, frame));
+        }
+        Asked asked = new Asked(block.plan(), key, isAny);
+        List<SelectPlan.Answer> known = answers.get(asked);
+        if (known == null) {
+            known = block.plan().answers(Binding.ofRow(binding, row), isAny ? 1 : null);
+            held += known.size() + 1;
+            if (held > MOST_HELD) {
+                answers.clear();
+                held = known.size() + 1;
+            }
+            answers.put(asked, known);
+        }
+        return known;
+    }
+
+    /** The unit of what a block answers, where it is a column; else null. */
+    Unit unit(Select select) {
+        return leaves.block(select).plan().unit();
+    }
+
+    /** The one row of a block; null of none. */
+    SelectPlan.Answer one(Select select, Frame frame) {
+        List<SelectPlan.Answer> found = answers(select, frame, false);
+        if (found.size() > 1) {
+            throw SelectPlan.several();
+        }
+        return found.isEmpty() ? null : found.get(0);
     }
 
     // ---- aggregates
@@ -180,6 +275,12 @@ final class Evaluator {
 
     /** What equal values have in common: where it is a column, what the program has. */
     Object key(Value value, Object computed, Frame frame) {
+        List<Value> parts = leaves.key(value);
+        if (parts != null) {
+            List<Object> keys = new ArrayList<>();
+            parts.forEach(part -> keys.add(key(part, null, frame)));
+            return keys;
+        }
         Integer place = leaves.place(value);
         Object key = place == null ? computed : raw(place, frame);
         return key instanceof Asking.Ref ref ? (Object) ref.number() : Comparing.key(key);

@@ -386,9 +386,7 @@ final class ExpressionParser {
             case "EXTRACT" -> extracted(token.at());
             case "TYPE" -> typeOf(token.at());
             case "TREAT" -> treated(token.at());
-            case "KEY", "VALUE", "ENTRY" -> mapPart(token.at(), name);
-            case "INDEX" -> throw QueryFault.refusal(tokens.text, token.at(),
-                    "INDEX isn't served; keep the place as an attribute and ask for that");
+            case "KEY", "VALUE", "ENTRY", "INDEX" -> mapPart(token.at(), name);
             case "FUNCTION" -> throw QueryFault.refusal(tokens.text, token.at(),
                     "FUNCTION isn't served: there is no database with functions of its own");
             default -> plain(token, Function.named(name));

@@ -5,7 +5,7 @@ import java.util.Locale;
 import java.util.Map;
 
 /** The functions of the language (chapters 4.7.2 and 4.7.10). */
-enum Function {
+public enum Function {
     LENGTH(1, 1, true), CONCAT(2, 99, true), SUBSTRING(2, 3, true), LOCATE(2, 3, true), ABS(1, 1, true),
     MOD(2, 2, true), SIZE(1, 1, true), COALESCE(2, 99, true), NULLIF(2, 2, true),
     UPPER(1, 1, false), LOWER(1, 1, false), SQRT(1, 1, false), CEILING(1, 1, false), FLOOR(1, 1, false),

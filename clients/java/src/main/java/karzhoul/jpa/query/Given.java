@@ -18,10 +18,20 @@ final class Given {
             implements Parameter<T> {}
 
     private final Prepared statement;
+    /** The parameters of a criteria query with their keys; empty for one of a text. */
+    private final Map<Parameter<?>, Object> expressions;
     private final Map<Object, Object> values = new HashMap<>();
 
     Given(Prepared statement) {
         this.statement = statement;
+        this.expressions = Map.of();
+    }
+
+    /** Those of a criteria query; what stands in it as a value is given already. */
+    Given(Prepared statement, Built built) {
+        this.statement = statement;
+        this.expressions = built.parameters();
+        values.putAll(built.values());
     }
 
     Map<Object, Object> values() {
@@ -44,11 +54,27 @@ final class Given {
      */
     void set(Object key, Object value) {
         ParameterModel model = model(key);
+        needDeclared(model, value);
         if (!takes(model.type(), value)) {
             throw new IllegalArgumentException("the parameter " + model.told() + " is of " + model.type().getName()
                     + ", and " + value + " of " + value.getClass().getName() + ": " + statement.text());
         }
         values.put(key, value);
+    }
+
+    /** Refuses what isn't of the type with which a criteria query's parameter was made (chapter 6.5.13). */
+    private void needDeclared(ParameterModel model, Object value) {
+        boolean isList = model.type() == Collection.class && (value instanceof Collection || value instanceof Object[]);
+        if (value == null || isList) {
+            return;
+        }
+        expressions.forEach((parameter, key) -> {
+            Class<?> declared = parameter.getParameterType();
+            if (key.equals(model.key()) && declared != null && !Classes.boxed(declared).isInstance(value)) {
+                throw new IllegalArgumentException("the parameter " + model.told() + " is of " + declared.getName()
+                        + ", and " + value + " of " + value.getClass().getName() + ": " + statement.text());
+            }
+        });
     }
 
     private static boolean takes(Class<?> type, Object value) {
@@ -102,17 +128,29 @@ final class Given {
 
     /** The name or the number of a parameter object. */
     Object keyOf(Parameter<?> parameter) {
+        if (expressions.containsKey(parameter)) {
+            return expressions.get(parameter);
+        }
         Object key = parameter.getName() != null ? parameter.getName() : parameter.getPosition();
         return model(key).key();
     }
 
     Set<Parameter<?>> parameters() {
-        Set<Parameter<?>> all = new LinkedHashSet<>();
-        statement.parameters().keySet().forEach(key -> all.add(parameter(key)));
+        Set<Parameter<?>> all = new LinkedHashSet<>(expressions.keySet());
+        if (!all.isEmpty()) {
+            return all;
+        }
+        statement.parameters().keySet().stream().filter(key -> !(key instanceof Built.Key))
+                .forEach(key -> all.add(parameter(key)));
         return all;
     }
 
     Parameter<?> parameter(Object key) {
+        for (Map.Entry<Parameter<?>, Object> expression : expressions.entrySet()) {
+            if (expression.getValue().equals(key)) {
+                return expression.getKey();
+            }
+        }
         return described(key, model(key).type());
     }
 
@@ -122,10 +160,16 @@ final class Given {
      * @throws IllegalArgumentException where it isn't assignable to the type
      */
     <T> Parameter<T> parameter(Object key, Class<T> type) {
-        Class<?> has = model(key).type();
+        Parameter<?> known = parameter(key);
+        Class<?> has = known.getParameterType() == null ? Object.class : Classes.boxed(known.getParameterType());
         if (!Classes.boxed(type).isAssignableFrom(has) && has != Object.class) {
             throw new IllegalArgumentException("the parameter " + model(key).told() + " is of " + has.getName()
                     + ", and no " + type.getName());
+        }
+        if (expressions.containsKey(known)) {
+            @SuppressWarnings("unchecked")
+            Parameter<T> expression = (Parameter<T>) known;
+            return expression;
         }
         return described(key, type);
     }

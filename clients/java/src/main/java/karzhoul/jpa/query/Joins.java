@@ -4,6 +4,7 @@ import java.util.ArrayList;
 import java.util.List;
 import karzhoul.jpa.query.Tree.And;
 import karzhoul.jpa.query.Tree.Arithmetic;
+import karzhoul.jpa.query.Tree.ByRows;
 import karzhoul.jpa.query.Tree.Call;
 import karzhoul.jpa.query.Tree.Case;
 import karzhoul.jpa.query.Tree.Condition;
@@ -53,6 +54,12 @@ final class Joins extends Rewriting {
         }
         return new Select(found.at(), found.isDistinct(), found.items(), sources, where, found.groups(), found.having(),
                 found.order());
+    }
+
+    /** What the door decides is planned by itself, block by block. */
+    @Override
+    Condition condition(Condition condition) {
+        return condition instanceof ByRows ? condition : conditionWithin(condition);
     }
 
     private void add(Source source, boolean isBlock, List<Variable> own, List<Source> sources, List<Condition> moved) {

@@ -8,6 +8,8 @@ import karzhoul.jpa.model.Attribute;
 import karzhoul.jpa.query.Tree.Aggregate;
 import karzhoul.jpa.query.Tree.Condition;
 import karzhoul.jpa.query.Tree.Construct;
+import karzhoul.jpa.query.Tree.Embedded;
+import karzhoul.jpa.query.Tree.Exists;
 import karzhoul.jpa.query.Tree.Item;
 import karzhoul.jpa.query.Tree.Reference;
 import karzhoul.jpa.query.Tree.Select;
@@ -19,15 +21,18 @@ final class Leaves {
     /** A column of the program's rows. */
     record Column(Text text, Unit unit, Type type) {}
 
+    private final Planner planner;
     private final ValueWriter writer;
     private final boolean areGroups;
+    private final Map<Select, RowBlocks.Block> blocks = new IdentityHashMap<>();
     private final List<Column> columns = new ArrayList<>();
     private final Map<Value, Integer> places = new IdentityHashMap<>();
     private final Map<Value, List<Value>> keys = new IdentityHashMap<>();
     private final List<Reference> paths = new ArrayList<>();
 
     /** Columns over groups that the program makes, or over the rows before there are groups. */
-    Leaves(ValueWriter writer, boolean areGroups) {
+    Leaves(Planner planner, ValueWriter writer, boolean areGroups) {
+        this.planner = planner;
         this.writer = writer;
         this.areGroups = areGroups;
     }
@@ -41,7 +46,12 @@ final class Leaves {
         return places.get(value);
     }
 
-    /** The parts of an embedded key that is asked for as a whole, or null. */
+    /** The question of a block that is asked for each row. */
+    RowBlocks.Block block(Select select) {
+        return blocks.get(select);
+    }
+
+    /** The parts of an embedded key or object that is asked for as a whole, or null. */
     List<Value> key(Value value) {
         return keys.get(value);
     }
@@ -59,6 +69,9 @@ final class Leaves {
             construct.arguments().stream().map(Item::value).forEach(this::add);
         } else if (value instanceof Reference key && key.isWholeKey()) {
             addKey(key);
+        } else if (value instanceof Embedded whole) {
+            whole.parts().forEach(this::add);
+            keys.put(whole, List.copyOf(whole.parts()));
         } else if (!addWhole(value)) {
             addParts(value);
         }
@@ -127,14 +140,25 @@ final class Leaves {
 
             @Override
             Condition condition(Condition condition) {
-                return conditionWithin(condition);
+                add(condition);
+                return condition;
             }
 
             @Override
             Select select(Select select) {
-                throw new NotKept(select.at(), "a subquery stands in what the program doesn't compute");
+                add(select, false);
+                return select;
             }
         }.valueWithin(value);
+    }
+
+    /** Finds the columns that a block names from outside; it is a question for each row. */
+    private void add(Select select, boolean isExists) {
+        if (!blocks.containsKey(select)) {
+            RowBlocks.Block block = RowBlocks.of(planner, select, isExists);
+            blocks.put(select, block);
+            block.outside().forEach(this::add);
+        }
     }
 
     /** Finds the columns of a condition that the door decides. */
@@ -150,8 +174,18 @@ final class Leaves {
             }
 
             @Override
+            Condition condition(Condition part) {
+                if (part instanceof Exists exists) {
+                    add(exists.select(), true);
+                    return part;
+                }
+                return conditionWithin(part);
+            }
+
+            @Override
             Select select(Select select) {
-                throw new NotKept(select.at(), "a subquery stands in what the program doesn't decide");
+                add(select, false);
+                return select;
             }
         }.condition(condition);
     }

@@ -6,6 +6,7 @@ import java.util.function.Predicate;
 import karzhoul.jpa.model.UnitModel;
 import karzhoul.jpa.query.Tree.And;
 import karzhoul.jpa.query.Tree.Asked;
+import karzhoul.jpa.query.Tree.ByRows;
 import karzhoul.jpa.query.Tree.Condition;
 import karzhoul.jpa.query.Tree.Delete;
 import karzhoul.jpa.query.Tree.InParameter;
@@ -59,7 +60,8 @@ final class Planner {
         return plans;
     }
 
-    private SelectPlan select(Select typed) {
+    /** A SELECT, or a block that is a question of its own. */
+    SelectPlan select(Select typed) {
         SelectPlan withoutLists = null;
         if (Planner.conjuncts(typed.where()).stream().anyMatch(Planner::isList)) {
             withoutLists = select(typed, Planner::isList, null);
@@ -79,7 +81,8 @@ final class Planner {
     private SelectPlan select(Select typed, Predicate<Condition> byDoor, SelectPlan withoutLists) {
         Fetches.Split split = Fetches.of(text, typed);
         Blocks blocks = new Blocks(text);
-        Select lowered = blocks.select(new WholeKeys().select(new Negation().select(split.select())));
+        Select decided = byRows(new WholeKeys().select(new Treats(text).select(new Negation().select(split.select()))));
+        Select lowered = blocks.select(decided);
         lowered = new Averages().select(new Joins(text, false).select(lowered));
         Parts parts = new Parts(lowered, asked(blocks.asked()), split.fetches(), withoutLists);
         BlockWriter writer = new BlockWriter(unit);
@@ -94,7 +97,7 @@ final class Planner {
             try {
                 kept.add(writer.conditions.condition(conjunct));
             } catch (NotKept e) {
-                if (Visiting.hasBlock(conjunct)) {
+                if (!(conjunct instanceof ByRows) && Visiting.hasBlock(conjunct)) {
                     throw new NotKept(e.at, e.getMessage()
                             + "; where no subquery stands beside it but by AND, the door "
                             + "decides it");
@@ -110,6 +113,46 @@ final class Planner {
         SelectPlan plan = new Body(writer, parts, body, filters).plan();
         checkParentheses(typed, plan);
         return plan;
+    }
+
+    // ---- blocks that the program can't be asked with the statement
+
+    /** The SELECT with a mark on those tests whose blocks the program can't say: the door decides them row by row. */
+    private Select byRows(Select select) {
+        List<Condition> tests = new ArrayList<>();
+        for (Condition test : conjuncts(select.where())) {
+            tests.add(Visiting.hasBlock(test) && !isKept(select, test, null) ? byRows(test) : test);
+        }
+        Condition having = select.having();
+        if (having != null && Visiting.hasBlock(having) && !isKept(select, null, having)) {
+            having = byRows(having);
+        }
+        Condition where = tests.isEmpty() ? null : tests.size() == 1 ? tests.get(0) : new And(tests.get(0).at(), tests);
+        return new Select(select.at(), select.isDistinct(), select.items(), select.sources(), where, select.groups(),
+                having, select.order());
+    }
+
+    private static Condition byRows(Condition test) {
+        return new ByRows(test.at(), RowBlocks.ofCollections(test));
+    }
+
+    private boolean isKept(Select select, Condition where, Condition having) {
+        try {
+            Blocks blocks = new Blocks(text);
+            Select alone = new Joins(text, false).select(blocks.select(new Select(select.at(), false, List.of(),
+                    select.sources(), where, select.groups(), having, List.of())));
+            BlockWriter writer = new BlockWriter(unit);
+            writer.from(alone.sources());
+            conjuncts(alone.where()).forEach(writer.conditions::condition);
+            return true;
+        } catch (NotKept e) {
+            return false;
+        } catch (QueryFault e) {
+            if (e.isRefusal()) {
+                return false;
+            }
+            throw e;
+        }
     }
 
     /** What all plans of one SELECT share. */
@@ -181,7 +224,7 @@ final class Planner {
 
         /** The program makes no groups; the door does, where there are some. */
         private SelectPlan byRows(List<Value> groups) {
-            Leaves leaves = new Leaves(writer.values, false);
+            Leaves leaves = new Leaves(Planner.this, writer.values, false);
             addItems(leaves);
             filters.forEach(leaves::add);
             if (groups != null) {
@@ -199,7 +242,7 @@ final class Planner {
         /** The program makes the groups. */
         private SelectPlan byGroups() {
             Select completed = Grouping.completed(select);
-            Leaves leaves = new Leaves(writer.values, true);
+            Leaves leaves = new Leaves(Planner.this, writer.values, true);
             addItems(leaves);
             Text tail = new Text();
             List<Text> groups = new ArrayList<>();
@@ -287,7 +330,7 @@ final class Planner {
             }
             return new SelectPlan(whole, leaves, select.items(), filters, groups, having,
                     select.isDistinct() && !isDistinctByProgram, sorted, parts.asked(), parts.fetches(),
-                    parts.withoutLists());
+                    parts.withoutLists(), Blocks.isOneRow(select));
         }
 
         /** The keys by which the door sorts. */

@@ -12,8 +12,9 @@ import karzhoul.jpa.query.Tree.Item;
  * @param plan how it is answered
  * @param parameters by name or number, in the order of the text
  * @param items what a row of a SELECT has
+ * @param pages how its rows are streamed
  */
-record Prepared(String text, Plan plan, Map<Object, ParameterModel> parameters, List<Column> items) {
+record Prepared(String text, Plan plan, Map<Object, ParameterModel> parameters, List<Column> items, Pages pages) {
     /**
      * An item of a SELECT.
      *

@@ -3,20 +3,30 @@ package karzhoul.jpa.query;
 import java.util.ArrayList;
 import java.util.HashSet;
 import java.util.List;
+import java.util.Optional;
 import java.util.Set;
 import karzhoul.jpa.model.Attribute;
+import karzhoul.jpa.model.Elements;
 import karzhoul.jpa.model.EntityModel;
 import karzhoul.jpa.model.UnitModel;
 import karzhoul.jpa.query.Tree.Assignment;
+import karzhoul.jpa.query.Tree.Compare;
+import karzhoul.jpa.query.Tree.Condition;
 import karzhoul.jpa.query.Tree.Delete;
 import karzhoul.jpa.query.Tree.Derived;
+import karzhoul.jpa.query.Tree.Downcast;
+import karzhoul.jpa.query.Tree.Embedded;
 import karzhoul.jpa.query.Tree.EntityName;
+import karzhoul.jpa.query.Tree.Exists;
 import karzhoul.jpa.query.Tree.Item;
 import karzhoul.jpa.query.Tree.ItemName;
 import karzhoul.jpa.query.Tree.Join;
 import karzhoul.jpa.query.Tree.Key;
 import karzhoul.jpa.query.Tree.Literal;
 import karzhoul.jpa.query.Tree.MapPart;
+import karzhoul.jpa.query.Tree.Member;
+import karzhoul.jpa.query.Tree.Not;
+import karzhoul.jpa.query.Tree.Or;
 import karzhoul.jpa.query.Tree.Path;
 import karzhoul.jpa.query.Tree.Range;
 import karzhoul.jpa.query.Tree.Reference;
@@ -33,6 +43,7 @@ final class Resolver extends Rewriting {
     private final UnitModel unit;
     private final String text;
     private final Paths paths;
+    private final List<Downcast> downcasts = new ArrayList<>();
     private Scope scope;
     /** The variable of an UPDATE or DELETE that may be left out before a path. */
     private Variable implied;
@@ -127,7 +138,7 @@ final class Resolver extends Rewriting {
                     declared(range.at(), range.name(), entity(range)));
         }
         if (source instanceof Derived derived) {
-            Reference path = related(derived.path());
+            Reference path = related(treatedPath(derived.path()));
             if (derived.isMember() && !path.isCollection()) {
                 throw fault(derived.at(), "IN asks for a collection, and \"" + path + "\" is none");
             }
@@ -135,15 +146,32 @@ final class Resolver extends Rewriting {
                 throw fault(derived.at(), "a path of the block's own variable \"" + path.variable().name
                         + "\" is joined: JOIN " + path);
             }
-            Variable variable = declared(derived.at(), derived.name(), path.entity());
+            Variable variable = declared(derived.at(), derived.name(), treatedEntity(derived.path(), path));
             return new Derived(derived.at(), derived.isMember(), path, derived.name(), variable);
         }
         Join join = (Join) source;
-        Reference path = related(join.path());
-        Variable variable = join.name() == null ? new Variable("fetched", path.entity())
-                : declared(join.at(), join.name(), path.entity());
+        Reference path = related(treatedPath(join.path()));
+        EntityModel entity = treatedEntity(join.path(), path);
+        if (join.isFetch() && entity != path.entity()) {
+            throw QueryFault.refusal(text, join.at(), "a fetch join of TREAT isn't served: it reads the whole relation");
+        }
+        Variable variable = join.name() == null ? new Variable("fetched", entity)
+                : declared(join.at(), join.name(), entity);
         return new Join(join.at(), join.isLeft(), join.isFetch(), path, join.name(), variable,
                 conditionOrNull(join.on()));
+    }
+
+    /** The path that a join of TREAT is along. */
+    private Value treatedPath(Value path) {
+        if (path instanceof Treated treated && !treated.names().isEmpty()) {
+            throw fault(path.at(), "a join is along a path of a variable; join TREAT(..) first, and go on from the "
+                    + "variable of that");
+        }
+        return path instanceof Treated treated ? treated.path() : path;
+    }
+
+    private EntityModel treatedEntity(Value path, Reference found) {
+        return path instanceof Treated treated ? below(treated, found.entity()) : found.entity();
     }
 
     private Reference related(Value path) {
@@ -183,30 +211,102 @@ final class Resolver extends Rewriting {
             return named(path);
         }
         if (value instanceof MapPart part) {
-            if (!part.part().equals("VALUE")) {
-                throw QueryFault.refusal(text, part.at(), part.part() + " isn't served; make the key of the map an "
-                        + "attribute of the members, and ask for that");
-            }
-            List<String> names = new ArrayList<>(List.of(part.variable()));
-            names.addAll(part.names());
-            return named(new Path(part.at(), names));
+            return mapPart(part);
         }
         if (value instanceof Treated treated) {
-            throw QueryFault.refusal(text, treated.at(), "TREAT isn't served; let a variable range over "
-                    + entity(treated.at(), treated.entity()).name() + " and compare it, as FROM .., " + treated.entity()
-                    + " t WHERE t = ..");
+            return downcast(treated);
         }
         return valueWithin(value);
+    }
+
+    /** KEY, VALUE and INDEX of a variable along a collection of values (chapters 4.4.2.1 and 4.6.17.2.2). */
+    private Value mapPart(MapPart part) {
+        List<String> names = new ArrayList<>(List.of(part.variable()));
+        names.addAll(part.names());
+        Variable variable = scope.find(part.variable());
+        Optional<Elements> elements = variable == null ? Optional.empty() : variable.entity.rowsOf();
+        if (part.part().equals("VALUE") || variable == null) {
+            return named(new Path(part.at(), names));
+        }
+        Optional<Attribute> asked = elements.flatMap(it -> switch (part.part()) {
+            case "KEY" -> it.key();
+            case "INDEX" -> it.index();
+            default -> Optional.empty();
+        });
+        if (asked.isPresent() && part.names().isEmpty()) {
+            return new Reference(part.at(), variable, List.of(), asked.get(), false);
+        }
+        throw part.part().equals("ENTRY") ? QueryFault.refusal(text, part.at(),
+                "ENTRY isn't served; ask for KEY(" + part.variable() + ") and VALUE(" + part.variable() + ")")
+                : QueryFault.at(text, part.at(), part.part() + " takes a variable along "
+                        + (part.part().equals("KEY") ? "a Map of values; of a map of entities ask for the attribute that @MapKey names" : "a List of values with @OrderColumn")
+                        + ", and \"" + part.variable() + "\" is of " + variable.entity.name());
+    }
+
+    @Override
+    Condition condition(Condition condition) {
+        if (condition instanceof Member member && value(member.path()) instanceof Reference path
+                && path.isCollection() && path.entity().rowsOf().isPresent()) {
+            return elementOf(member, path);
+        }
+        return conditionWithin(condition);
+    }
+
+    /** MEMBER OF a collection of values: a row of it has the value; unknown where the value is null. */
+    private Condition elementOf(Member member, Reference path) {
+        Optional<Attribute> basic = path.entity().rowsOf().orElseThrow().basic();
+        if (basic.isEmpty()) {
+            throw QueryFault.refusal(text, member.at(), "MEMBER OF a collection of embeddables isn't served; ask EXISTS"
+                    + " of a variable along it, by its attributes");
+        }
+        Variable variable = new Variable("element", path.entity());
+        Reference element = new Reference(member.at(), variable, List.of(), basic.get(), false);
+        Value value = value(member.value());
+        Condition has = new Exists(member.at(), false, new Select(member.at(), false, List.of(new Item(element, null)),
+                List.of(new Derived(member.at(), false, path, "element", variable)),
+                new Compare(member.at(), "=", element, value), List.of(), null, List.of()));
+        if (value instanceof Reference of) {
+            has = new Or(member.at(), List.of(has, new Compare(member.at(), "<>", of, of)));
+        }
+        return member.isNot() ? new Not(member.at(), has) : has;
+    }
+
+    private Value downcast(Treated treated) {
+        if (!(value(treated.path()) instanceof Reference of) || !of.isEntity()) {
+            throw fault(treated.path().at(), "TREAT takes a variable or a path to one entity");
+        }
+        EntityModel entity = below(treated, of.entity());
+        if (of.entity() == entity) {
+            return paths.of(treated.at(), of, treated.names());
+        }
+        for (Downcast known : downcasts) {
+            if (known.of().isSame(of) && known.path().variable().entity == entity) {
+                return new Downcast(treated.at(), of, paths.of(treated.at(), known.path().variable(), treated.names()));
+            }
+        }
+        Variable variable = new Variable("treated", entity);
+        Downcast found = new Downcast(treated.at(), of, paths.of(treated.at(), variable, treated.names()));
+        downcasts.add(found);
+        return found;
+    }
+
+    /** The entity of a TREAT: the one of its path, or one below. */
+    private EntityModel below(Treated treated, EntityModel of) {
+        EntityModel entity = entity(treated.at(), treated.entity());
+        if (!entity.isA(of)) {
+            throw fault(treated.at(), "TREAT takes what is below " + of.name() + ", and " + entity.name() + " isn't");
+        }
+        return entity;
     }
 
     private Value named(Path path) {
         List<String> names = path.names();
         Variable variable = scope.find(names.get(0));
         if (variable != null) {
-            return paths.of(path.at(), variable, names.subList(1, names.size()));
+            return path(path.at(), variable, names.subList(1, names.size()));
         }
         if (implied != null && isMember(implied.entity, names.get(0))) {
-            return paths.of(path.at(), implied, names);
+            return path(path.at(), implied, names);
         }
         if (names.size() == 1) {
             EntityModel entity = unit.named(names.get(0));
@@ -216,6 +316,22 @@ final class Resolver extends Rewriting {
             throw fault(path.at(), "there is no variable \"" + path + "\"" + Nearest.hint(names.get(0), known()));
         }
         return constant(path);
+    }
+
+    private Value path(int at, Variable variable, List<String> names) {
+        if (names.isEmpty() && variable.entity.rowsOf().isPresent()) {
+            return element(at, variable, variable.entity.rowsOf().get());
+        }
+        Embedded embedded = names.isEmpty() ? null : paths.embedded(at, new Reference(at, variable, List.of(), null, false),
+                names);
+        return embedded != null ? embedded : paths.of(at, variable, names);
+    }
+
+    /** What a variable along a collection of values stands for: the value, or the embeddable. */
+    private static Value element(int at, Variable variable, Elements elements) {
+        List<Reference> parts = new ArrayList<>();
+        elements.attributes().forEach(it -> parts.add(new Reference(at, variable, List.of(), it, false)));
+        return elements.basic().isPresent() ? parts.get(0) : new Embedded(at, elements.javaClass(), List.of(), parts);
     }
 
     private List<String> known() {

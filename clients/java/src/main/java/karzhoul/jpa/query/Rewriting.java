@@ -10,12 +10,15 @@ import karzhoul.jpa.query.Tree.Arithmetic;
 import karzhoul.jpa.query.Tree.Asked;
 import karzhoul.jpa.query.Tree.Average;
 import karzhoul.jpa.query.Tree.Between;
+import karzhoul.jpa.query.Tree.ByRows;
 import karzhoul.jpa.query.Tree.Call;
 import karzhoul.jpa.query.Tree.Case;
 import karzhoul.jpa.query.Tree.Compare;
 import karzhoul.jpa.query.Tree.Condition;
 import karzhoul.jpa.query.Tree.Construct;
 import karzhoul.jpa.query.Tree.Derived;
+import karzhoul.jpa.query.Tree.Downcast;
+import karzhoul.jpa.query.Tree.Embedded;
 import karzhoul.jpa.query.Tree.Exists;
 import karzhoul.jpa.query.Tree.Expression;
 import karzhoul.jpa.query.Tree.In;
@@ -32,6 +35,7 @@ import karzhoul.jpa.query.Tree.Not;
 import karzhoul.jpa.query.Tree.Or;
 import karzhoul.jpa.query.Tree.Quantified;
 import karzhoul.jpa.query.Tree.Range;
+import karzhoul.jpa.query.Tree.Reference;
 import karzhoul.jpa.query.Tree.Scalar;
 import karzhoul.jpa.query.Tree.Select;
 import karzhoul.jpa.query.Tree.Signed;
@@ -102,6 +106,10 @@ abstract class Rewriting {
             return new Construct(of.at(), of.className(), each(of.arguments(), this::item));
         } else if (value instanceof Asked of) {
             return of;
+        } else if (value instanceof Downcast of) {
+            return new Downcast(of.at(), (Reference) value(of.of()), of.path());
+        } else if (value instanceof Embedded of) {
+            return new Embedded(of.at(), of.java(), of.names(), each(of.parts(), part -> (Reference) value(part)));
         } else if (value instanceof Average of) {
             return new Average(of.at(), value(of.sum()), value(of.count()));
         }
@@ -154,6 +162,8 @@ abstract class Rewriting {
             return new InSelect(of.at(), of.isNot(), value(of.value()), select(of.select()));
         } else if (condition instanceof Exists of) {
             return new Exists(of.at(), of.isNot(), select(of.select()));
+        } else if (condition instanceof ByRows of) {
+            return new ByRows(of.at(), condition(of.condition()));
         }
         return (Always) condition;
     }

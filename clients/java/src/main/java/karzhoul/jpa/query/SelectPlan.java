@@ -32,10 +32,11 @@ import karzhoul.jpa.query.Tree.Value;
  * @param asked the blocks that are asked before, by their numbers
  * @param fetches what is read of the results' instances
  * @param withoutLists how it is answered where its lists make the text too long; null where no list stands in WHERE
+ * @param isOne whether it has one row at most
  */
 record SelectPlan(Text text, Leaves leaves, List<Item> items, List<Condition> filters, List<Value> groups,
         Condition having, boolean isDistinct, List<Sorted> order, List<SelectPlan> asked,
-        List<Fetches.Fetch> fetches, SelectPlan withoutLists) implements Plan {
+        List<Fetches.Fetch> fetches, SelectPlan withoutLists, boolean isOne) implements Plan {
     /** The most bytes of a text; a parameter's name has one for each letter. */
     static final int LONGEST = 16_384;
 
@@ -43,7 +44,20 @@ record SelectPlan(Text text, Leaves leaves, List<Item> items, List<Condition> fi
     record Sorted(Value value, boolean isDescending) {}
 
     /** A row with what it is sorted by. */
-    private record Row(Object[] items, List<Object> key, List<Object> order) {}
+    private record Row(Object[] items, List<Object> key, List<Object> order, Frame frame) {}
+
+    /** The first item of a row, and what the program has of it where it is a column. */
+    record Answer(Object value, Object column) {}
+
+    /** Whether one object is found at most, or the caller looks at the first ones alone. */
+    private boolean findsOne(Integer max) {
+        return (isOne || max != null && max <= 2) && columns() == 1;
+    }
+
+    /** How many columns are objects. */
+    private long columns() {
+        return leaves.columns().stream().filter(column -> column.unit() instanceof Unit.Thing).count();
+    }
 
     /** Whether the program cuts. */
     boolean isCutByProgram() {
@@ -52,22 +66,45 @@ record SelectPlan(Text text, Leaves leaves, List<Item> items, List<Condition> fi
 
     /** The rows: a value for each item, an object of NEW for each argument of it in its place. */
     List<Object[]> rows(Binding binding, Integer first, Integer max) {
+        return instances(binding, computed(binding, first, max).stream().map(Row::items).toList());
+    }
+
+    /** What a block of one item answers; objects stay as the program names them. */
+    List<Answer> answers(Binding binding, Integer max) {
+        Value item = items.get(0).value();
+        Integer place = leaves.place(item);
+        List<Answer> answers = new ArrayList<>();
+        for (Row row : computed(binding, null, max)) {
+            boolean isColumn = place != null && row.frame().row() != null;
+            answers.add(new Answer(row.items()[0], isColumn ? row.frame().row()[place] : null));
+        }
+        return answers;
+    }
+
+    /** The unit of the first item, where it is a column; else null. */
+    Unit unit() {
+        Integer place = leaves.place(items.get(0).value());
+        return place == null ? null : leaves.columns().get(place).unit();
+    }
+
+    private List<Row> computed(Binding binding, Integer first, Integer max) {
         for (int number = 0; number < asked.size(); number++) {
             binding.answer(number, asked.get(number).single(binding));
         }
         return answered(binding, first, max);
     }
 
-    private List<Object[]> answered(Binding binding, Integer first, Integer max) {
+    private List<Row> answered(Binding binding, Integer first, Integer max) {
         binding.clear();
         String written = text.written(binding);
         if (written.length() > LONGEST && withoutLists != null) {
             return withoutLists.answered(binding, first, max);
         }
         binding.checkLength(written);
+        binding.deadline.check();
         boolean isCut = isCutByProgram();
-        List<Object[]> found = binding.asking.rows(written, binding.parameters(), isCut ? first : null, isCut ? max
-                : null);
+        List<Object[]> found = binding.asking.rows(written, binding.parameters(), isCut ? first : null,
+                isCut ? max : null, isCut && findsOne(max));
         Evaluator evaluator = new Evaluator(leaves, binding);
         List<Row> rows = new ArrayList<>();
         for (Frame frame : frames(evaluator, found)) {
@@ -77,7 +114,7 @@ record SelectPlan(Text text, Leaves leaves, List<Item> items, List<Condition> fi
         if (!order.isEmpty()) {
             rows.sort(this::compare);
         }
-        return instances(binding, isCut ? rows : cut(rows, first, max));
+        return isCut ? rows : cut(rows, first, max);
     }
 
     /** The one value of a block of its own; null of no row. */
@@ -85,16 +122,20 @@ record SelectPlan(Text text, Leaves leaves, List<Item> items, List<Condition> fi
         Binding own = new Binding(binding);
         List<Object[]> rows = rows(own, null, 2);
         if (rows.size() > 1) {
-            throw new PersistenceException("a subquery that is compared as one value has several rows");
+            throw several();
         }
         return rows.isEmpty() ? null : rows.get(0)[0];
+    }
+
+    static PersistenceException several() {
+        return new PersistenceException("a subquery that is taken as one value has several rows");
     }
 
     private List<Frame> frames(Evaluator evaluator, List<Object[]> found) {
         List<Frame> frames = new ArrayList<>(found.size());
         for (Object[] row : found) {
             Frame frame = new Frame(row, List.of());
-            if (filters.stream().allMatch(filter -> evaluator.isTrue(filter, frame))) {
+            if (filters.isEmpty() || isKept(evaluator, frame)) {
                 frames.add(frame);
             }
         }
@@ -105,6 +146,15 @@ record SelectPlan(Text text, Leaves leaves, List<Item> items, List<Condition> fi
             frames.removeIf(frame -> !evaluator.isTrue(having, frame));
         }
         return frames;
+    }
+
+    private boolean isKept(Evaluator evaluator, Frame frame) {
+        for (Condition filter : filters) {
+            if (!evaluator.isTrue(filter, frame)) {
+                return false;
+            }
+        }
+        return true;
     }
 
     /** Groups in the order of their first rows; without GROUP BY one, also of nothing. */
@@ -125,7 +175,7 @@ record SelectPlan(Text text, Leaves leaves, List<Item> items, List<Condition> fi
 
     private Row row(Evaluator evaluator, Frame frame) {
         Object[] values = new Object[items.size()];
-        List<Object> key = new ArrayList<>();
+        List<Object> key = isDistinct ? new ArrayList<>() : List.of();
         for (int place = 0; place < values.length; place++) {
             Value value = items.get(place).value();
             if (value instanceof Construct construct) {
@@ -134,7 +184,9 @@ record SelectPlan(Text text, Leaves leaves, List<Item> items, List<Condition> fi
                     arguments[argument] = evaluator.value(construct.arguments().get(argument).value(), frame);
                 }
                 values[place] = arguments;
-                key.add(Arrays.asList(arguments));
+                if (isDistinct) {
+                    key.add(Arrays.asList(arguments));
+                }
             } else {
                 values[place] = evaluator.value(value, frame);
                 if (isDistinct) {
@@ -142,9 +194,13 @@ record SelectPlan(Text text, Leaves leaves, List<Item> items, List<Condition> fi
                 }
             }
         }
+        return new Row(values, key, order.isEmpty() ? List.of() : orderOf(evaluator, frame), frame);
+    }
+
+    private List<Object> orderOf(Evaluator evaluator, Frame frame) {
         List<Object> keys = new ArrayList<>();
         order.forEach(sorted -> keys.add(evaluator.order(sorted.value(), frame)));
-        return new Row(values, key, keys);
+        return keys;
     }
 
     private static List<Row> distinct(List<Row> rows) {
@@ -175,20 +231,18 @@ record SelectPlan(Text text, Leaves leaves, List<Item> items, List<Condition> fi
     }
 
     /** The rows with instances in the place of objects, all of them filled in one trip. */
-    private List<Object[]> instances(Binding binding, List<Row> rows) {
+    private List<Object[]> instances(Binding binding, List<Object[]> rows) {
         List<Asking.Ref> refs = new ArrayList<>();
-        for (Row row : rows) {
-            collect(row.items(), refs);
+        for (Object[] row : rows) {
+            collect(row, refs);
         }
         List<Object> instances = refs.isEmpty() ? List.of() : binding.asking.instances(refs);
         int[] next = {0};
-        List<Object[]> filled = new ArrayList<>(rows.size());
-        for (Row row : rows) {
-            replace(row.items(), instances, next);
-            filled.add(row.items());
+        for (Object[] row : rows) {
+            replace(row, instances, next);
         }
-        fetch(binding, filled);
-        return filled;
+        fetch(binding.asking, rows);
+        return rows;
     }
 
     private static void collect(Object[] values, List<Asking.Ref> refs) {
@@ -213,13 +267,13 @@ record SelectPlan(Text text, Leaves leaves, List<Item> items, List<Condition> fi
 
     // ---- JOIN FETCH
 
-    private void fetch(Binding binding, List<Object[]> rows) {
+    /** Reads what fetch joins name of rows whose entities are there. */
+    void fetch(Asking asking, List<Object[]> rows) {
         Map<Tree.Variable, List<Object>> known = new IdentityHashMap<>();
         for (Fetches.Fetch fetch : fetches) {
             List<Object> owners = known.computeIfAbsent(fetch.owner(), owner -> owners(owner, rows));
             for (Relation relation : fetch.relations()) {
-                binding.asking.fetch(owners, relation);
-                owners = members(owners, relation);
+                owners = asking.fetch(owners, relation);
             }
             known.put(fetch.target(), owners);
         }
@@ -238,21 +292,5 @@ record SelectPlan(Text text, Leaves leaves, List<Item> items, List<Condition> fi
             }
         }
         return inOrder;
-    }
-
-    private static List<Object> members(List<Object> owners, Relation relation) {
-        Set<Object> seen = Collections.newSetFromMap(new IdentityHashMap<>());
-        List<Object> members = new ArrayList<>();
-        for (Object owner : owners) {
-            Object held = relation.get(owner);
-            Iterable<?> all = held instanceof Map<?, ?> map ? map.values() : held instanceof Iterable<?> many ? many
-                    : Collections.singletonList(held);
-            for (Object member : all) {
-                if (member != null && seen.add(member)) {
-                    members.add(member);
-                }
-            }
-        }
-        return members;
     }
 }

@@ -10,11 +10,31 @@ final class Shape {
     private final List<Prepared.Column> columns;
     private final Kind kind;
     private final boolean isMade;
+    private final Selected selected;
 
     private Shape(List<Prepared.Column> columns, Kind kind) {
+        this(columns, kind, null);
+    }
+
+    private Shape(List<Prepared.Column> columns, Kind kind, Selected selected) {
         this.columns = columns;
         this.kind = kind;
         this.isMade = columns.stream().anyMatch(column -> column.made() != null);
+        this.selected = selected;
+    }
+
+    /** Of the rows of a criteria query: its selection tells (chapter 6.5.10). */
+    static Shape of(Prepared statement, Built.Result result) {
+        Selected selected = new Selected(statement, result);
+        List<Prepared.Column> columns = statement.items();
+        if (result.type() == Tuple.class) {
+            return new Shape(columns, Kind.TUPLE, selected);
+        }
+        if (result.isCompound()) {
+            return new Shape(columns, Kind.ARRAY, selected);
+        }
+        selected.needItem();
+        return new Shape(columns, Kind.ITEM, selected);
     }
 
     /** Without a class: the item of rows of one item, arrays else. */
@@ -61,10 +81,13 @@ final class Shape {
                 }
             }
         }
+        if (selected != null) {
+            selected.convert(row);
+        }
         return switch (kind) {
             case ITEM -> row[0];
-            case ARRAY -> row;
-            case TUPLE -> new TupleRow(columns, row);
+            case ARRAY -> selected == null ? row : selected.array(row);
+            case TUPLE -> new TupleRow(columns, selected == null ? null : selected.elements(), row);
         };
     }
 }

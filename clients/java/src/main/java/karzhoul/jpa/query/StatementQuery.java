@@ -6,24 +6,28 @@ import jakarta.persistence.NoResultException;
 import jakarta.persistence.NonUniqueResultException;
 import jakarta.persistence.Parameter;
 import jakarta.persistence.PersistenceException;
+import jakarta.persistence.QueryTimeoutException;
 import jakarta.persistence.TemporalType;
 import jakarta.persistence.TypedQuery;
 import java.util.ArrayList;
 import java.util.Calendar;
 import java.util.Date;
-import java.util.LinkedHashMap;
 import java.util.List;
 import java.util.Map;
 import java.util.Set;
+import java.util.Spliterator;
+import java.util.Spliterators;
 import java.util.stream.Stream;
+import java.util.stream.StreamSupport;
 
 /** A query of a manager (chapter 3.10). It belongs to the manager's thread. */
 final class StatementQuery<X> implements TypedQuery<X> {
     private final Asking asking;
     private final Prepared statement;
     private final Shape shape;
+    private final Built built;
     private final Given given;
-    private final Map<String, Object> hints = new LinkedHashMap<>();
+    private final Hints hints;
     private int first;
     private int max = Integer.MAX_VALUE;
     private FlushModeType flushMode;
@@ -33,7 +37,24 @@ final class StatementQuery<X> implements TypedQuery<X> {
         this.asking = asking;
         this.statement = statement;
         this.shape = shape;
+        this.built = null;
         this.given = new Given(statement);
+        this.hints = new Hints(asking);
+    }
+
+    /** A criteria query. */
+    StatementQuery(Asking asking, Prepared statement, Shape shape, Built built) {
+        this.asking = asking;
+        this.statement = statement;
+        this.shape = shape;
+        this.built = built;
+        this.given = new Given(statement, built);
+        this.hints = new Hints(asking);
+    }
+
+    /** What it was built as, where it is a criteria query; else null. */
+    Built built() {
+        return built;
     }
 
     Asking asking() {
@@ -57,7 +78,23 @@ final class StatementQuery<X> implements TypedQuery<X> {
 
     @Override
     public Stream<X> getResultStream() {
-        return getResultList().stream();
+        SelectPlan keyed = statement.pages().plan();
+        if (keyed == null) {
+            return getResultList().stream();
+        }
+        SelectPlan plan = begun();
+        List<Object[]> keys;
+        try {
+            keys = rows(keyed, max);
+        } catch (PersistenceException e) {
+            throw marked(e);
+        }
+        PagedRows rows = new PagedRows(asking, plan.items(), keys, page -> {
+            plan.fetch(asking, page);
+            return finished(plan, page);
+        });
+        Spliterator<Object[]> all = Spliterators.spliteratorUnknownSize(rows, Spliterator.ORDERED);
+        return StreamSupport.stream(all, false).onClose(rows::close).map(this::shaped);
     }
 
     @Override
@@ -73,6 +110,18 @@ final class StatementQuery<X> implements TypedQuery<X> {
     }
 
     private List<X> results(int most) {
+        SelectPlan plan = begun();
+        try {
+            List<X> results = new ArrayList<>();
+            finished(plan, rows(plan, most)).forEach(row -> results.add(shaped(row)));
+            return results;
+        } catch (PersistenceException e) {
+            throw marked(e);
+        }
+    }
+
+    /** The plan of a SELECT that is executed now: its parameters are there, and what waits is flushed. */
+    private SelectPlan begun() {
         asking.needOpen();
         if (!(statement.plan() instanceof SelectPlan plan)) {
             throw new IllegalStateException("an UPDATE or DELETE is executed by executeUpdate: " + text());
@@ -82,38 +131,51 @@ final class StatementQuery<X> implements TypedQuery<X> {
         }
         given.needAll();
         asking.flushBefore(getFlushMode());
-        try {
-            return results(plan, most);
-        } catch (PersistenceException e) {
-            throw asking.marked(e);
-        }
+        return plan;
     }
 
-    private List<X> results(SelectPlan plan, int most) {
-        List<Object[]> rows = plan.rows(new Binding(asking, given.values()), first == 0 ? null : first,
-                most == Integer.MAX_VALUE ? null : most);
+    private List<Object[]> rows(SelectPlan plan, int most) {
+        return plan.rows(binding(), first == 0 ? null : first, most == Integer.MAX_VALUE ? null : most);
+    }
+
+    /** Locks the entities of rows, and reads what graphs name of them. */
+    private List<Object[]> finished(SelectPlan plan, List<Object[]> rows) {
         if (lockMode != LockModeType.NONE) {
-            lock(plan, rows);
+            entities(plan, rows).forEach(entity -> asking.lock(entity, lockMode));
         }
-        List<X> results = new ArrayList<>(rows.size());
-        for (Object[] row : rows) {
-            @SuppressWarnings("unchecked")
-            X result = (X) shape.of(row);
-            results.add(result);
+        if (hints.hasGraphs()) {
+            hints.read(entities(plan, rows));
         }
-        return results;
+        return rows;
     }
 
-    private void lock(SelectPlan plan, List<Object[]> rows) {
+    /** What is raised for a refusal; a statement that took too long leaves its transaction as it is (chapter 3.11). */
+    private PersistenceException marked(PersistenceException refusal) {
+        return refusal instanceof QueryTimeoutException ? refusal : asking.marked(refusal);
+    }
+
+    @SuppressWarnings("unchecked")
+    private X shaped(Object[] row) {
+        return (X) shape.of(row);
+    }
+
+    private Binding binding() {
+        return new Binding(asking, given.values(), hints.deadline());
+    }
+
+    /** The entities of the rows. */
+    private static List<Object> entities(SelectPlan plan, List<Object[]> rows) {
+        List<Object> entities = new ArrayList<>();
         for (int place = 0; place < plan.items().size(); place++) {
             if (Types.of(plan.items().get(place)).kind() == Type.Kind.ENTITY) {
                 for (Object[] row : rows) {
                     if (row[place] != null) {
-                        asking.lock(row[place], lockMode);
+                        entities.add(row[place]);
                     }
                 }
             }
         }
+        return entities;
     }
 
     @Override
@@ -126,9 +188,9 @@ final class StatementQuery<X> implements TypedQuery<X> {
         given.needAll();
         asking.flushBefore(getFlushMode());
         try {
-            return plan.done(new Binding(asking, given.values()));
+            return plan.done(binding());
         } catch (PersistenceException e) {
-            throw asking.marked(e);
+            throw marked(e);
         }
     }
 
@@ -164,13 +226,13 @@ final class StatementQuery<X> implements TypedQuery<X> {
 
     @Override
     public TypedQuery<X> setHint(String name, Object value) {
-        hints.put(name, value);
+        hints.set(name, value);
         return this;
     }
 
     @Override
     public Map<String, Object> getHints() {
-        return new LinkedHashMap<>(hints);
+        return hints.all();
     }
 
     @Override

@@ -9,12 +9,13 @@ import java.util.LinkedHashMap;
 import java.util.List;
 import java.util.Map;
 import java.util.concurrent.ConcurrentHashMap;
+import java.util.function.Supplier;
 import karzhoul.jpa.model.UnitModel;
 import karzhoul.jpa.query.Tree.Select;
 import karzhoul.jpa.query.Tree.Statement;
 
 /**
- * The statements of a factory: each text is read, typed and planned once, and the last of them are kept. Threads may
+ * The statements of a factory: each text, and each tree, is read, typed and planned once, and the last of them are kept. Threads may
  * share it; queries belong to their managers.
  */
 public final class Statements {
@@ -22,17 +23,18 @@ public final class Statements {
 
     private final UnitModel unit;
     private final Map<String, NamedQuery> named = new ConcurrentHashMap<>();
-    private final Map<String, Prepared> kept = new LinkedHashMap<>(64, 0.75f, true) {
+    /** By the text, or by the tree of what was built. */
+    private final Map<Object, Prepared> kept = new LinkedHashMap<>(64, 0.75f, true) {
         private static final long serialVersionUID = 1L;
 
         @Override
-        protected boolean removeEldestEntry(Map.Entry<String, Prepared> eldest) {
+        protected boolean removeEldestEntry(Map.Entry<Object, Prepared> eldest) {
             return size() > MOST_KEPT;
         }
     };
 
     /** A named query with how it is set up. */
-    private record NamedQuery(String text, Map<String, Object> hints, Settings settings) {}
+    private record NamedQuery(String text, Built built, Map<String, Object> hints, Settings settings) {}
 
     /** What {@code addNamedQuery} keeps of a query beside its text. */
     record Settings(int first, int max, FlushModeType flush, LockModeType lock) {}
@@ -41,7 +43,7 @@ public final class Statements {
     public Statements(UnitModel unit) {
         this.unit = unit;
         unit.namedQueries().forEach((name, query) -> named.put(name,
-                new NamedQuery(query.text(), query.hints(), null)));
+                new NamedQuery(query.text(), null, query.hints(), null)));
     }
 
     /**
@@ -84,13 +86,24 @@ public final class Statements {
     }
 
     /**
+     * A query of a statement that was built (chapter 6.8).
+     *
+     * @throws IllegalArgumentException where it isn't well typed, or can't be answered as the standard says
+     */
+    public <X> TypedQuery<X> create(Asking asking, Built built) {
+        Prepared statement = prepare(built.tree(), built.text(), built::tree);
+        Shape shape = built.result() == null ? Shape.of(statement) : Shape.of(statement, built.result());
+        return new StatementQuery<>(asking, statement, shape, built);
+    }
+
+    /**
      * A named query (chapter 3.10.15).
      *
      * @throws IllegalArgumentException where there is none of this name
      */
     public Query createNamed(Asking asking, String name) {
         NamedQuery query = named(name);
-        return set(create(asking, query.text()), query);
+        return set(query.built() == null ? create(asking, query.text()) : create(asking, query.built()), query);
     }
 
     /**
@@ -100,9 +113,17 @@ public final class Statements {
      */
     public <X> TypedQuery<X> createNamed(Asking asking, String name, Class<X> type) {
         NamedQuery query = named(name);
-        TypedQuery<X> created = create(asking, query.text(), type);
+        TypedQuery<X> created = query.built() == null ? create(asking, query.text(), type)
+                : create(asking, query.built(), type);
         set(created, query);
         return created;
+    }
+
+    private <X> TypedQuery<X> create(Asking asking, Built built, Class<X> type) {
+        if (built.result() == null || !type.isAssignableFrom(Classes.boxed(built.result().type()))) {
+            throw new IllegalArgumentException("rows of the query are no " + type.getName() + ": " + built.text());
+        }
+        return create(asking, built);
     }
 
     private NamedQuery named(String name) {
@@ -143,7 +164,8 @@ public final class Statements {
         if (!(query instanceof StatementQuery<?> statement)) {
             throw new IllegalArgumentException("the query is none of this provider's");
         }
-        named.put(name, new NamedQuery(statement.text(), Map.copyOf(query.getHints()), statement.settings()));
+        named.put(name, new NamedQuery(statement.text(), statement.built(), Map.copyOf(query.getHints()),
+                statement.settings()));
     }
 
     /** The statement of a text. */
@@ -151,26 +173,32 @@ public final class Statements {
         if (text == null) {
             throw new IllegalArgumentException("the text of a query is null");
         }
+        return prepare(text, text, () -> Parser.parse(text));
+    }
+
+    /** The statement of a key: the one that is kept, or a new one. */
+    private Prepared prepare(Object key, String text, Supplier<Statement> read) {
         synchronized (kept) {
-            Prepared known = kept.get(text);
+            Prepared known = kept.get(key);
             if (known != null) {
                 return known;
             }
         }
-        Prepared made = make(text);
+        Prepared made = make(text, read.get());
         synchronized (kept) {
-            kept.put(text, made);
+            kept.put(key, made);
         }
         return made;
     }
 
-    private Prepared make(String text) {
-        Statement statement = Resolver.resolve(unit, text, Parser.parse(text));
+    private Prepared make(String text, Statement read) {
+        Statement statement = Resolver.resolve(unit, text, read);
         Map<Object, ParameterModel> parameters = Typer.check(unit, text, statement);
         List<Prepared.Column> items = new ArrayList<>();
         if (statement instanceof Select select) {
             select.items().forEach(item -> items.add(Prepared.column(unit, text, item)));
         }
-        return new Prepared(text, Planner.plan(unit, text, statement), parameters, items);
+        return new Prepared(text, Planner.plan(unit, text, statement), parameters, items,
+                new Pages(unit, text, statement));
     }
 }

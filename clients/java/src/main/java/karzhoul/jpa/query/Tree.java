@@ -10,8 +10,7 @@ import karzhoul.jpa.model.Relation;
  * {@link Reference}, {@link Literal} and {@link EntityName} in their places. The number that most nodes have first is
  * where they begin in the text.
  */
-final class Tree {
-    private Tree() {}
+public interface Tree {
 
     /** A statement (chapter 4.2). */
     sealed interface Statement permits Select, Update, Delete {}
@@ -69,7 +68,7 @@ final class Tree {
     /** What has a value. */
     sealed interface Value extends Expression permits Path, Reference, Literal, Parameter, EntityName, ItemName, Signed,
             Arithmetic, Call, Aggregate, Case, Scalar, TypeOf, Now, Treated, MapPart, Construct, Asked, Average,
-                    PartOf {}
+                    PartOf, Outer, Downcast, Embedded {}
 
     /** Names with dots between them, as they are written. */
     record Path(int at, List<String> names) implements Value {
@@ -151,7 +150,7 @@ final class Tree {
     /** An aggregate. */
     record Aggregate(int at, Kind kind, boolean isDistinct, Value operand) implements Value {
         /** The aggregates. */
-        enum Kind { COUNT, SUM, AVG, MIN, MAX }
+        public enum Kind { COUNT, SUM, AVG, MIN, MAX }
     }
 
     /** A general or a simple CASE, which has an operand (chapter 4.7.10). */
@@ -169,13 +168,13 @@ final class Tree {
     /** CURRENT_DATE and the like. */
     record Now(int at, Kind kind) implements Value {
         /** Which of them. */
-        enum Kind { CURRENT_DATE, CURRENT_TIME, CURRENT_TIMESTAMP, LOCAL_DATE, LOCAL_TIME, LOCAL_DATETIME }
+        public enum Kind { CURRENT_DATE, CURRENT_TIME, CURRENT_TIMESTAMP, LOCAL_DATE, LOCAL_TIME, LOCAL_DATETIME }
     }
 
     /** TREAT(path AS Entity), with the names behind it. */
     record Treated(int at, Value path, String entity, List<String> names) implements Value {}
 
-    /** KEY, VALUE or ENTRY of a variable, with the names behind it. */
+    /** KEY, VALUE, ENTRY or INDEX of a variable, with the names behind it. */
     record MapPart(int at, String part, String variable, List<String> names) implements Value {}
 
     /** NEW of a class with its arguments. */
@@ -187,12 +186,30 @@ final class Tree {
     /** A part of a parameter that is an embedded key. */
     record PartOf(int at, Parameter parameter, EntityModel entity, int place) implements Value {}
 
+    /** A path to an embedded object as a whole: its attributes, and the names that lead to it from the last entity. */
+    record Embedded(int at, Class<?> java, List<String> names, List<Reference> parts) implements Value {
+        @Override
+        public String toString() {
+            String part = parts.get(0).toString();
+            return part.substring(0, part.length() - parts.get(0).attribute().path().length()) + String.join(".", names);
+        }
+    }
+
+    /** A path of a variable from outside, in a block that is asked for each row around it: known by then. */
+    record Outer(int at, Reference path) implements Value {}
+
+    /**
+     * TREAT of a path, with a path behind it: that is of a variable which is the same object, and of the class below.
+     * Where it isn't of that class, no test with it is true.
+     */
+    record Downcast(int at, Reference of, Reference path) implements Value {}
+
     /** A sum that is divided by a count, as AVG is had. */
     record Average(int at, Value sum, Value count) implements Value {}
 
     /** A condition (chapter 4.6). */
     sealed interface Condition extends Expression permits Or, And, Not, Compare, Quantified, Between, In, InSelect,
-            InParameter, Like, IsNull, IsEmpty, Member, Exists, Always, TypeIs {}
+            InParameter, Like, IsNull, IsEmpty, Member, Exists, Always, TypeIs, ByRows {}
 
     /** One of them is true. */
     record Or(int at, List<Condition> parts) implements Condition {}
@@ -203,7 +220,7 @@ final class Tree {
     /** It is false. */
     record Not(int at, Condition condition) implements Condition {}
 
-    /** Two values compared by = <> < <= > or >=. */
+    /** Two values compared, by one of {@code = <> < <= > >=}. */
     record Compare(int at, String sign, Value left, Value right) implements Condition {}
 
     /** A value compared with ALL or with ANY of a subquery. */
@@ -235,6 +252,9 @@ final class Tree {
 
     /** EXISTS. */
     record Exists(int at, boolean isNot, Select select) implements Condition {}
+
+    /** What the door decides for each row, since the program can't say a block in it. */
+    record ByRows(int at, Condition condition) implements Condition {}
 
     /** What is always true, or never. */
     record Always(int at, boolean isTrue) implements Condition {}

@@ -10,15 +10,20 @@ import java.util.regex.Pattern;
 import karzhoul.jpa.query.Evaluator.Frame;
 import karzhoul.jpa.query.Tree.Always;
 import karzhoul.jpa.query.Tree.And;
+import karzhoul.jpa.query.Tree.ByRows;
 import karzhoul.jpa.query.Tree.Compare;
 import karzhoul.jpa.query.Tree.Condition;
 import karzhoul.jpa.query.Tree.EntityName;
+import karzhoul.jpa.query.Tree.Exists;
 import karzhoul.jpa.query.Tree.In;
 import karzhoul.jpa.query.Tree.InParameter;
 import karzhoul.jpa.query.Tree.IsNull;
 import karzhoul.jpa.query.Tree.Like;
 import karzhoul.jpa.query.Tree.Or;
 import karzhoul.jpa.query.Tree.Parameter;
+import karzhoul.jpa.query.Tree.Quantified;
+import karzhoul.jpa.query.Tree.Scalar;
+import karzhoul.jpa.query.Tree.Select;
 import karzhoul.jpa.query.Tree.TypeIs;
 import karzhoul.jpa.query.Tree.TypeOf;
 import karzhoul.jpa.query.Tree.Value;
@@ -51,6 +56,12 @@ final class Truths {
             return (value == null) != of.isNot();
         } else if (condition instanceof TypeIs of) {
             return typeIs(of, frame);
+        } else if (condition instanceof ByRows of) {
+            return of(of.condition(), frame);
+        } else if (condition instanceof Exists of) {
+            return evaluator.answers(of.select(), frame, true).isEmpty() == of.isNot();
+        } else if (condition instanceof Quantified of) {
+            return quantified(of, frame);
         } else if (condition instanceof Always of) {
             return of.isTrue();
         }
@@ -59,6 +70,32 @@ final class Truths {
 
     private static Boolean turned(boolean isNot, Boolean truth) {
         return truth == null ? null : (Boolean) (truth != isNot);
+    }
+
+    /** A comparison with ALL or ANY of a block: AND or OR of those with its rows. */
+    private Boolean quantified(Quantified of, Frame frame) {
+        Boolean found = of.isAll();
+        for (SelectPlan.Answer answer : evaluator.answers(of.select(), frame, false)) {
+            Boolean truth = compared(of.sign(), of.left(), of.select(), answer, frame);
+            if (truth == null) {
+                found = null;
+            } else if (truth != of.isAll()) {
+                return truth;
+            }
+        }
+        return found;
+    }
+
+    /** A comparison with what a block answers: as the program has both, where they are kept in one way. */
+    private Boolean compared(String sign, Value left, Select block, SelectPlan.Answer answer, Frame frame) {
+        if (answer == null) {
+            return null;
+        }
+        Unit unit = evaluator.unit(block);
+        if (unit instanceof Unit.Kept && isIn(unit, left)) {
+            return compared(sign, column(unit, left, frame), answer.column());
+        }
+        return compared(sign, evaluator.value(left, frame), answer.value());
     }
 
     /** OR is true where one is, AND false where one is; else unknown where one is. */
@@ -77,6 +114,11 @@ final class Truths {
 
     /** A comparison of two values: as the program has them, where it has one of them in a form of its own. */
     Boolean compared(String sign, Value left, Value right, Frame frame) {
+        if (right instanceof Scalar block) {
+            return compared(sign, left, block.select(), evaluator.one(block.select(), frame), frame);
+        } else if (left instanceof Scalar) {
+            return compared(ConditionWriter.turned(sign), right, left, frame);
+        }
         Unit unit = evaluator.unit(left) instanceof Unit.Kept kept ? kept
                 : evaluator.unit(right) instanceof Unit.Kept kept ? kept : null;
         if (unit != null && isIn(unit, left) && isIn(unit, right)) {
@@ -117,7 +159,10 @@ final class Truths {
         if (left instanceof Asking.Ref || right instanceof Asking.Ref) {
             Binding binding = evaluator.binding();
             Value unnamed = new EntityName(0, null);
-            return Long.compare(binding.thing(unnamed, left).number(), binding.thing(unnamed, right).number());
+            Asking.Ref one = binding.thing(unnamed, left);
+            Asking.Ref other = binding.thing(unnamed, right);
+            // a block is asked later than the rows around it, and the program may have begun anew between
+            return one.held() == other.held() ? 0 : Long.compare(one.number(), other.number());
         }
         return Comparing.compare(left, right);
     }

@@ -11,23 +11,23 @@ final class TupleRow implements Tuple {
     private record Element<X>(String getAlias, Class<? extends X> getJavaType) implements TupleElement<X> {}
 
     private final List<Prepared.Column> columns;
+    /** The items of a criteria query as they were selected; null for a text's. */
+    private final List<TupleElement<?>> elements;
     private final Object[] values;
 
-    TupleRow(List<Prepared.Column> columns, Object[] values) {
+    TupleRow(List<Prepared.Column> columns, List<TupleElement<?>> elements, Object[] values) {
         this.columns = columns;
+        this.elements = elements;
         this.values = values;
     }
 
     @Override
     public <X> X get(TupleElement<X> element) {
-        Object value = element.getAlias() != null ? get(element.getAlias()) : null;
-        if (element.getAlias() == null) {
-            int place = getElements().indexOf(element);
-            if (place < 0) {
-                throw new IllegalArgumentException("the tuple has no element " + element);
-            }
-            value = values[place];
+        int place = getElements().indexOf(element);
+        if (place < 0 && (elements != null || element.getAlias() == null)) {
+            throw new IllegalArgumentException("the tuple has no element " + element);
         }
+        Object value = place < 0 ? get(element.getAlias()) : values[place];
         @SuppressWarnings("unchecked")
         X found = (X) value;
         return found;
@@ -79,9 +79,13 @@ final class TupleRow implements Tuple {
 
     @Override
     public List<TupleElement<?>> getElements() {
-        List<TupleElement<?>> elements = new ArrayList<>();
-        columns.forEach(column -> elements.add(new Element<Object>(column.alias(), column.java())));
-        return elements;
+        List<TupleElement<?>> all = new ArrayList<>();
+        if (elements != null) {
+            all.addAll(elements);
+        } else {
+            columns.forEach(column -> all.add(new Element<Object>(column.alias(), column.java())));
+        }
+        return all;
     }
 
     @Override

@@ -15,6 +15,8 @@ import karzhoul.jpa.query.Tree.Case;
 import karzhoul.jpa.query.Tree.Condition;
 import karzhoul.jpa.query.Tree.Construct;
 import karzhoul.jpa.query.Tree.Delete;
+import karzhoul.jpa.query.Tree.Downcast;
+import karzhoul.jpa.query.Tree.Embedded;
 import karzhoul.jpa.query.Tree.Item;
 import karzhoul.jpa.query.Tree.Join;
 import karzhoul.jpa.query.Tree.Key;
@@ -33,6 +35,8 @@ import karzhoul.jpa.query.Tree.When;
 
 /** Judges whether a resolved statement is well typed, and finds the types of its parameters. */
 final class Typer {
+    private static final Reference NO_PATH = new Reference(0, null, List.of(), null, false);
+
     final UnitModel unit;
     private final String text;
     private final Map<Object, ParameterModel> parameters = new LinkedHashMap<>();
@@ -119,8 +123,9 @@ final class Typer {
 
     private void item(Item item) {
         if (item.value() instanceof Construct construct) {
-            construct.arguments().forEach(argument -> typed(argument.value(), true));
-        } else {
+            construct.arguments().stream().filter(argument -> !(argument.value() instanceof Embedded))
+                    .forEach(argument -> typed(argument.value(), true));
+        } else if (!(item.value() instanceof Embedded)) {
             typed(item.value(), true);
         }
     }
@@ -147,10 +152,13 @@ final class Typer {
 
     /** The type of a value, once it is judged. */
     Type typed(Value value, boolean takesAggregates) {
-        if (value instanceof Reference reference && reference.isCollection()) {
-            throw fault(value.at(), "\"" + reference
+        if (path(value).isCollection()) {
+            throw fault(value.at(), "\"" + path(value)
                     + "\" is a collection, which is no value: join it, or ask for SIZE,"
                     + " IS EMPTY or MEMBER OF");
+        } else if (value instanceof Embedded whole) {
+            throw Paths.notWhole(text, whole.at(), String.join(".", whole.names()), whole.parts().get(0).entity(),
+                    whole.parts().get(0).attribute());
         } else if (value instanceof Parameter parameter) {
             model(parameter, Type.UNKNOWN, false);
         } else if (value instanceof Signed signed) {
@@ -242,9 +250,14 @@ final class Typer {
         wanted(arguments.get(1), Type.Kind.TEMPORAL, Type.UNKNOWN, takesAggregates);
     }
 
+    /** A path, also behind TREAT; of what is none a path to no collection. */
+    static Reference path(Value value) {
+        return value instanceof Downcast downcast ? downcast.path() : value instanceof Reference path ? path : NO_PATH;
+    }
+
     /** A path to a collection. */
     void collection(Value value, String what) {
-        if (!(value instanceof Reference reference) || !reference.isCollection()) {
+        if (!path(value).isCollection()) {
             throw fault(value.at(), what + " takes a path to a collection");
         }
     }

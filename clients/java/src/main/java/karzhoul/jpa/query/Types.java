@@ -8,10 +8,13 @@ import karzhoul.jpa.query.Tree.Asked;
 import karzhoul.jpa.query.Tree.Average;
 import karzhoul.jpa.query.Tree.Call;
 import karzhoul.jpa.query.Tree.Case;
+import karzhoul.jpa.query.Tree.Downcast;
+import karzhoul.jpa.query.Tree.Embedded;
 import karzhoul.jpa.query.Tree.EntityName;
 import karzhoul.jpa.query.Tree.Item;
 import karzhoul.jpa.query.Tree.Literal;
 import karzhoul.jpa.query.Tree.Now;
+import karzhoul.jpa.query.Tree.Outer;
 import karzhoul.jpa.query.Tree.Reference;
 import karzhoul.jpa.query.Tree.Scalar;
 import karzhoul.jpa.query.Tree.Signed;
@@ -27,7 +30,7 @@ final class Types {
         if (value instanceof Reference reference) {
             return ofPath(reference);
         } else if (value instanceof Literal literal) {
-            return literal.value() == null ? Type.UNKNOWN : Type.of(literal.value().getClass());
+            return ofLiteral(literal.value());
         } else if (value instanceof EntityName || value instanceof TypeOf) {
             return Type.CLASS;
         } else if (value instanceof Signed signed) {
@@ -49,10 +52,26 @@ final class Types {
         } else if (value instanceof Asked asked) {
             return of(asked.select().items().get(0));
         }
+        if (value instanceof Outer outer) {
+            return of(outer.path());
+        }
+        if (value instanceof Embedded embedded) {
+            return new Type(Type.Kind.OTHER, embedded.java(), null);
+        }
+        if (value instanceof Downcast downcast) {
+            return of(downcast.path());
+        }
         if (value instanceof Average) {
             return Type.DOUBLE;
         }
         return value instanceof Now now ? Type.of(Clock.typeOf(now.kind())) : Type.UNKNOWN;
+    }
+
+    private static Type ofLiteral(Object value) {
+        if (value == null) {
+            return Type.UNKNOWN;
+        }
+        return Type.of(value instanceof Enum<?> constant ? constant.getDeclaringClass() : value.getClass());
     }
 
     static Type of(Item item) {

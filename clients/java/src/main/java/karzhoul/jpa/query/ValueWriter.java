@@ -77,6 +77,9 @@ final class ValueWriter {
 
     /** The unit that a constant has where nothing stands beside it. */
     private static Unit unitOf(Value value) {
+        if (value instanceof Tree.Outer outer) {
+            return outer.path().isWholeKey() ? noUnit(value) : unit(outer.path());
+        }
         if (value instanceof Literal literal && literal.value() instanceof Number number) {
             BigDecimal decimal = Conversions.decimal(number);
             return Types.isExact(Types.of(value)) && decimal.scale() <= 0 ? Unit.INTEGERS : noUnit(value);
@@ -240,7 +243,7 @@ final class ValueWriter {
     /** A constant in a unit; a literal is judged at once. */
     private static Written constant(Value value, Unit unit) {
         if (unit instanceof Unit.Thing) {
-            if (!(value instanceof Parameter || value instanceof Tree.Asked)) {
+            if (!(value instanceof Parameter || value instanceof Tree.Asked || value instanceof Tree.Outer)) {
                 throw new NotKept(value.at(), "an entity is compared with entities and parameters");
             }
             return new Written(new Text().add((binding, text) -> text.append(

@@ -6,13 +6,18 @@ import karzhoul.jpa.model.Attribute;
 import karzhoul.jpa.query.Tree.And;
 import karzhoul.jpa.query.Tree.Compare;
 import karzhoul.jpa.query.Tree.Condition;
+import karzhoul.jpa.query.Tree.Embedded;
+import karzhoul.jpa.query.Tree.IsNull;
 import karzhoul.jpa.query.Tree.Or;
 import karzhoul.jpa.query.Tree.Parameter;
 import karzhoul.jpa.query.Tree.PartOf;
 import karzhoul.jpa.query.Tree.Reference;
 import karzhoul.jpa.query.Tree.Value;
 
-/** Compares embedded keys by their parts, by which the program finds objects. */
+/**
+ * Compares embedded keys by their parts, by which the program finds objects; and asks an embedded object whether all
+ * that it has is null, since it is null then.
+ */
 final class WholeKeys extends Rewriting {
     @Override
     Condition condition(Condition condition) {
@@ -21,6 +26,11 @@ final class WholeKeys extends Rewriting {
         }
         if (condition instanceof Compare compare && compare.right() instanceof Reference key && key.isWholeKey()) {
             return compared(compare, key, compare.left());
+        }
+        if (condition instanceof IsNull of && of.value() instanceof Embedded whole) {
+            List<Condition> parts = new ArrayList<>();
+            whole.parts().forEach(part -> parts.add(new IsNull(of.at(), of.isNot(), part)));
+            return of.isNot() ? new Or(of.at(), parts) : new And(of.at(), parts);
         }
         return conditionWithin(condition);
     }

@@ -9,7 +9,9 @@ import java.util.LinkedHashSet;
 import java.util.List;
 import java.util.Map;
 import java.util.Objects;
+import java.util.Optional;
 import java.util.Set;
+import java.util.concurrent.CompletableFuture;
 import karzhoul.jpa.model.Fault;
 import karzhoul.jpa.model.Reader;
 import karzhoul.jpa.model.RefusedUnit;
@@ -50,12 +52,25 @@ final class UnitReader {
         checkDeclared();
         var wait = settings.poolWait();
         var log = settings.log();
-        String program = new ProgramFile(place, faults).find(settings.program());
+        List<Fault> ofProgram = new ArrayList<>();
+        Optional<String> named = settings.program();
+        var program = CompletableFuture.supplyAsync(
+                () -> new ProgramFile(place, ofProgram).find(named), UnitReader::beside);
+        int told = faults.size();
         UnitModel unit = readClasses();
+        String found = program.join();
+        faults.addAll(told, ofProgram);
         if (!faults.isEmpty()) {
             throw new RefusedUnit(declared.name(), faults);
         }
-        return new UnitSettings(declared.name(), unit, url, program, wait, log, properties);
+        return new UnitSettings(declared.name(), unit, url, found, wait, log, properties);
+    }
+
+    /** The program's sum is taken while the classes are read: a JVM that has just begun takes its time for either. */
+    private static void beside(Runnable task) {
+        Thread thread = new Thread(task, "karzhoul program");
+        thread.setDaemon(true);
+        thread.start();
     }
 
     private void checkDeclared() {

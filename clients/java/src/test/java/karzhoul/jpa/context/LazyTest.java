@@ -63,7 +63,8 @@ class LazyTest extends Tried {
     @Test
     void aReferenceWithoutARowIsNotFoundWhenItIsLookedAt() {
         Depot none = manager.getReference(Depot.class, "none");
-        assertThrows(EntityNotFoundException.class, none::getPlace);
+        String words = assertThrows(EntityNotFoundException.class, none::getPlace).getMessage();
+        assertTrue(words.contains(": there is no such row, or it was removed"), words);
         assertThrows(EntityNotFoundException.class, () -> manager.getReference(Person.class, 9L));
     }
 

@@ -62,6 +62,20 @@ class ManagerTest extends Tried {
     }
 
     @Test
+    void aMergeRemovesTheOrphansOfAJoinedRelation() {
+        Team team = new Team("t");
+        team.getPlaces().addAll(List.of(new Place("a"), new Place("b")));
+        store(team);
+        Team found = manager.find(Team.class, team.getId());
+        assertEquals(2, found.getPlaces().size());
+        manager.clear();
+        found.getPlaces().remove(0);
+        commit(() -> manager.merge(found));
+        assertEquals(1L, manager.createQuery("SELECT COUNT(p) FROM Place p").getSingleResult());
+        assertEquals(1, read(other -> List.copyOf(other.find(Team.class, team.getId()).getPlaces())).size());
+    }
+
+    @Test
     void bothSidesOfAOneToOne() {
         Car car = new Car(new Motor(1.5));
         store(car);
@@ -463,11 +477,6 @@ class ManagerTest extends Tried {
 
     @Test
     void whatIsNotThereSaysWhen() {
-        assertThrows(UnsupportedOperationException.class, () -> manager.getCriteriaBuilder());
-        assertThrows(UnsupportedOperationException.class, () -> manager.getMetamodel());
-        assertThrows(UnsupportedOperationException.class, () -> factory.getMetamodel());
-        assertThrows(UnsupportedOperationException.class, () -> factory.getCriteriaBuilder());
-        assertThrows(UnsupportedOperationException.class, () -> manager.createEntityGraph(Person.class));
         assertThrows(UnsupportedOperationException.class, () -> manager.createNativeQuery("SELECT 1"));
         assertThrows(UnsupportedOperationException.class, () -> manager.createStoredProcedureQuery("p"));
         assertThrows(IllegalStateException.class,

@@ -16,6 +16,7 @@ import jakarta.persistence.PersistenceException;
 import jakarta.persistence.RollbackException;
 import java.util.ArrayList;
 import java.util.List;
+import karzhoul.jpa.Karzhoul;
 import karzhoul.jpa.shop.Circle;
 import karzhoul.jpa.shop.Depot;
 import karzhoul.jpa.shop.Holder;
@@ -318,5 +319,46 @@ class TrapsTest extends Tried {
         manager.getTransaction().begin();
         found.setText("€".repeat(21_845) + "x");
         assertThrows(PersistenceException.class, () -> manager.flush());
+    }
+
+    @Test
+    void aMergeLoadsNothingThatTheMergedOneHasNotRead() {
+        Person ada = new Person("Ada");
+        for (int i = 1; i <= 50; i++) {
+            ada.add(new Order(i, i));
+        }
+        store(ada);
+        Person detached = read(other -> other.find(Person.class, 1L));
+        detached.setName("Ada L");
+        commit(() -> {
+            long made = factory.pool().engine().made();
+            Person merged = manager.merge(detached);
+            assertTrue(factory.pool().engine().made() - made <= 3, "the object of the row, the image, and room for one more");
+            assertFalse(factory.getPersistenceUnitUtil().isLoaded(merged, "orders"));
+            assertEquals("Ada L", merged.getName());
+        });
+        int orders = read(other -> other.find(Person.class, 1L).getOrders().size());
+        assertEquals(50, orders);
+        assertEquals("Ada L", read(other -> other.find(Person.class, 1L)).getName());
+        detached.setName("Ada M");
+        manager.clear();
+        manager.getTransaction().begin();
+        OptimisticLockException refused = assertThrows(OptimisticLockException.class, () -> manager.merge(detached));
+        assertSame(detached, refused.getEntity(), "its version is that of before the first merge");
+    }
+
+    @Test
+    void whatWasAskedOfTheProgramIsCounted() {
+        Karzhoul counting = manager.unwrap(Karzhoul.class);
+        Karzhoul.Statistics before = counting.statistics();
+        store(new Person("Ada"));
+        manager.getTransaction().begin();
+        assertNotNull(manager.find(Person.class, 1L));
+        Karzhoul.Statistics after = factory.unwrap(Karzhoul.class).statistics();
+        assertTrue(after.calls() - before.calls() > 5, "sets, persist, commit, find");
+        assertTrue(after.trips() - before.trips() < after.calls() - before.calls(), "several calls go in one trip");
+        assertEquals(before.refusals(), after.refusals());
+        assertEquals(1, after.managers());
+        assertEquals(1, after.runs());
     }
 }

@@ -223,11 +223,11 @@ class CodecTest {
 
     @Test
     void serializedValues() {
-        Codec codec = BasicCodecs.serialized(ArrayList.class);
+        Codec codec = BasicCodecs.serialized(ArrayList.class, null);
         List<String> list = new ArrayList<>(List.of("a", "b"));
         assertEquals(list, codec.toAttribute(codec.toColumn(list)));
         assertTrue(codec.isMutable());
-        assertThrows(IllegalArgumentException.class, () -> BasicCodecs.serialized(Object.class).toColumn(new Object()));
+        assertThrows(IllegalArgumentException.class, () -> BasicCodecs.serialized(Object.class, null).toColumn(new Object()));
     }
 
     @Test

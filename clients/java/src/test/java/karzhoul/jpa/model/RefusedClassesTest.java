@@ -8,6 +8,7 @@ import jakarta.persistence.Access;
 import jakarta.persistence.AccessType;
 import jakarta.persistence.AttributeConverter;
 import jakarta.persistence.AttributeOverride;
+import jakarta.persistence.CollectionTable;
 import jakarta.persistence.Column;
 import jakarta.persistence.Convert;
 import jakarta.persistence.Converter;
@@ -26,6 +27,7 @@ import jakarta.persistence.IdClass;
 import jakarta.persistence.JoinColumn;
 import jakarta.persistence.ManyToOne;
 import jakarta.persistence.MapKey;
+import jakarta.persistence.MapKeyColumn;
 import jakarta.persistence.MapsId;
 import jakarta.persistence.NamedNativeQuery;
 import jakarta.persistence.NamedQuery;
@@ -95,12 +97,22 @@ class RefusedClassesTest {
     @Entity static class Hiding extends Above { String id; }
     @Entity static class NoType { @Id int id; Object value; }
     @Entity static class Forgotten { @Id int id; Good good; }
+    @Entity static class ListOfTexts { @Id int id; List<String> texts; }
     @Entity static class ForgottenMany { @Id int id; List<Good> goods; }
-    @Entity static class Elements { @Id int id; @ElementCollection Set<String> tags; }
+    @Entity static class Elements { @Id int id; @ElementCollection ArrayList<String> tags; }
+    @Entity static class RawElements { @Id int id; @SuppressWarnings("rawtypes") @ElementCollection List tags; }
+    @Embeddable static class Leading { @ManyToOne Good good; }
+    @Entity static class LeadingElements { @Id int id; @ElementCollection List<Leading> tags; }
+    @Entity static class OrderedSet { @Id int id; @ElementCollection @OrderColumn Set<String> tags; }
+    @Entity static class KeyedByGood { @Id int id; @ElementCollection Map<Good, String> tags; }
+    @Entity static class ElementsTable { @Id int id; @ElementCollection @CollectionTable(name = "Good") Set<String> tags; }
     @Entity static class SameColumn { @Id int id; String name; @Column(name = "NAME") String other; }
     @Entity static class UniqueColumn { @Id int id; @Column(unique = true) String name; }
     @Entity static class ReadOnly { @Id int id; @Column(insertable = false) String name; }
-    @Entity static class NotUpdated { @Id int id; @Column(updatable = false) String name; }
+    @Entity static class NeverWritten { @Id int id; @Column(insertable = false, updatable = false, nullable = false) String name; }
+    @Entity static class CopyOfOther { @Id int id; @ManyToOne @JoinColumn(name = "good_id") Good good;
+        @Column(name = "good_id", insertable = false, updatable = false) String goodId; }
+    @Entity static class OfEntities { @Id int id; java.util.ArrayList<Good> goods; }
     @Entity static class NoEnum { @Id int id; @Enumerated String name; }
     @Entity static class NoDate { @Id int id; @Temporal(TemporalType.DATE) LocalDateTime at; }
     @Entity static class NoKeyGenerated { @Id int id; @GeneratedValue int number; }
@@ -154,7 +166,9 @@ class RefusedClassesTest {
         @OneToMany(mappedBy = "up") List<Doubled> one; @OneToMany(mappedBy = "up") List<Doubled> two; }
     @Entity static class OneInList { @Id int id; @ManyToOne List<Good> goods; }
     @Entity static class ManyInOne { @Id int id; @OneToMany Good good; }
-    @Entity static class OfMap { @Id int id; @OneToMany @MapKey(name = "name") Map<String, Good> goods; }
+    @Entity static class OfMap { @Id int id; @OneToMany @MapKeyColumn Map<String, Good> goods; }
+    @Entity static class NoMapKey { @Id int id; @OneToMany @MapKey(name = "nam") Map<String, Good> goods; }
+    @Entity static class KeyedList { @Id int id; @OneToMany @MapKey List<Good> goods; }
     @Entity static class InPlaces { @Id int id; @OneToMany @OrderColumn List<Good> goods; }
     @Entity static class InArrayList { @Id int id; @OneToMany ArrayList<Good> goods; }
     @SuppressWarnings("rawtypes") @Entity static class RawList { @Id int id; @OneToMany List goods; }
@@ -223,17 +237,33 @@ class RefusedClassesTest {
                         "Add @Convert, @Embedded with an @Embeddable class, or @Transient", NoType.class),
                 row("Forgotten.good", "it leads to an entity, and doesn't say how", "Add @ManyToOne or @OneToOne",
                         Forgotten.class, Good.class),
-                row("ForgottenMany.goods", "a collection is no basic value",
-                        "Add @OneToMany or @ManyToMany, or @Convert, or @Transient", ForgottenMany.class, Good.class),
-                row("Elements.tags", "@ElementCollection isn't kept", "Make its elements entities, with @OneToMany and cascade ALL",
+                row("ForgottenMany.goods", "it has entities, and doesn't say how",
+                        "Declare it as List, Set or Collection, with @OneToMany or @ManyToMany", ForgottenMany.class, Good.class),
+                row("ListOfTexts.texts", "a collection is no basic value",
+                        "Add @OneToMany or @ManyToMany, or @Convert, or @Transient; or declare it as a class that is Serializable, as"
+                        + " ArrayList", ListOfTexts.class),
+                row("Elements.tags", "it is declared as java.util.ArrayList", "Declare it as List, Set, Collection or Map",
                         Elements.class),
+                row("RawElements.tags", "its collection doesn't say of what it is", "Write its type, or targetClass",
+                        RawElements.class),
+                row("Leading.good", "an element of a collection has no relations and collections of its own",
+                        "Make the elements entities, with @OneToMany and cascade ALL", LeadingElements.class, Good.class),
+                row("OrderedSet.tags", "@OrderColumn orders a List", "Declare it as List", OrderedSet.class),
+                row("KeyedByGood.tags", "keys of " + HERE + "Good aren't kept: keys of maps are basic values or enums",
+                        "Make the elements entities, with an attribute by which they are found", KeyedByGood.class, Good.class),
+                row("ElementsTable.tags", HERE + "Good has the table Good too",
+                        "Name one of them otherwise, by @CollectionTable", ElementsTable.class, Good.class),
                 row("SameColumn.other", HERE + "SameColumn.name has the column NAME too",
                         "Name one of them otherwise, by @Column, @JoinColumn or @AttributeOverride", SameColumn.class),
                 row("UniqueColumn.name", "unique isn't kept", "Leave it out, or make it the key", UniqueColumn.class),
-                row("ReadOnly.name", "a column that isn't written isn't kept", "Leave insertable and updatable out, or add @Transient",
-                        ReadOnly.class),
-                row("NotUpdated.name", "a column that isn't written isn't kept", "Leave insertable and updatable out, or add @Transient",
-                        NotUpdated.class),
+                row("ReadOnly.name", "a column that is updated, and isn't inserted, isn't kept",
+                        "Write updatable = false too, leave insertable out, or add @Transient", ReadOnly.class),
+                row("NeverWritten.name", "it may not be null, and nothing writes it",
+                        "Leave insertable and updatable out, or give it the column of a relation", NeverWritten.class),
+                row("CopyOfOther.goodId", "it reads the column of good, which is of java.lang.Integer", "Declare it as that",
+                        CopyOfOther.class, Good.class),
+                row("OfEntities.goods", "it has entities, and doesn't say how",
+                        "Declare it as List, Set or Collection, with @OneToMany or @ManyToMany", OfEntities.class, Good.class),
                 row("NoEnum.name", "it has @Enumerated, and is no enum", "Leave @Enumerated out", NoEnum.class),
                 row("NoDate.at", "it has @Temporal, and is no Date or Calendar", "Leave @Temporal out", NoDate.class),
                 row("NoKeyGenerated.number", "it is generated, and is no key", "Leave @GeneratedValue out, and give it in @PrePersist",
@@ -299,7 +329,11 @@ class RefusedClassesTest {
                         OneInList.class, Good.class),
                 row("ManyInOne.good", "a relation to many needs a collection", "Declare it as List, Set or Collection, or use @ManyToOne",
                         ManyInOne.class, Good.class),
-                row("OfMap.goods", "maps of entities aren't kept", "Declare it as a List or a Set", OfMap.class, Good.class),
+                row("OfMap.goods", "keys of maps of entities aren't kept by themselves",
+                        "Let an attribute of the members be the key, with @MapKey(name)", OfMap.class, Good.class),
+                row("NoMapKey.goods", "@MapKey names \"nam\", which is no attribute of Good",
+                        "Name an attribute of the members, or leave the name out", NoMapKey.class, Good.class),
+                row("KeyedList.goods", "it has @MapKey, and is no map", "Declare it as Map", KeyedList.class, Good.class),
                 row("InPlaces.goods", "@OrderColumn isn't kept", "Sort the list by an attribute of its members, with @OrderBy",
                         InPlaces.class, Good.class),
                 row("InArrayList.goods", "it is declared as java.util.ArrayList", "Declare it as List, Set or Collection",
@@ -310,8 +344,9 @@ class RefusedClassesTest {
                 row("ByOtherColumn.good", "it refers to the column name of Good, which is no part of its key",
                         "Leave referencedColumnName out, or make that column the key", ByOtherColumn.class, Good.class),
                 row("UniqueJoin.good", "unique isn't kept", "Leave it out, or use @OneToOne", UniqueJoin.class, Good.class),
-                row("ReadOnlyJoin.good", "a column that isn't written isn't kept",
-                        "Leave insertable and updatable out, or add @Transient", ReadOnlyJoin.class, Good.class),
+                row("ReadOnlyJoin.good", "a relation whose column isn't written isn't kept",
+                        "Let the relation be written, and the attribute beside it be insertable = false and updatable = false; or add"
+                        + " @Transient", ReadOnlyJoin.class, Good.class),
                 row("TwoSorts.good", "it has @ManyToOne and @OneToOne", "Leave one of them", TwoSorts.class, Good.class),
                 row("OldOneToOne.good", "@PrimaryKeyJoinColumn isn't kept", "Use @MapsId, with the relation set",
                         OldOneToOne.class, Good.class),

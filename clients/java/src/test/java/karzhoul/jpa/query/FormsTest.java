@@ -249,6 +249,111 @@ class FormsTest extends OverShop {
                 SELECT p.name FROM Person p WHERE p.id IN (SELECT o.person.id FROM Order o) AND p.name IN (SELECT o.name FROM Person o)
                 -> SELECT p.name FROM Person p WHERE EXISTS (SELECT o.person.id FROM Order o WHERE p.id = o.person.id) AND EXISTS (SELECT o_2 FROM Person o_2 WHERE p.name = o_2.name)
                 => [Ada, Bob]
+
+                SELECT p FROM Person p WHERE 2 <= (SELECT COUNT(o) FROM Order o WHERE o.person = p)
+                -> SELECT p FROM Person p
+                -> SELECT COUNT(o) FROM Order o WHERE o.person = :p0
+                -> SELECT COUNT(o) FROM Order o WHERE o.person = :p0
+                -> SELECT COUNT(o) FROM Order o WHERE o.person = :p0
+                -> SELECT COUNT(o) FROM Order o WHERE o.person = :p0
+                => [Person 1]
+
+                SELECT p.name FROM Person p WHERE p.team.name = 'Red' AND 1 < (SELECT SUM(o.amount) FROM p.orders o)
+                -> SELECT p.name, p FROM Person p WHERE p.team.name = 'Red'
+                -> SELECT SUM(o.amount) FROM Person p JOIN p.orders o WHERE p = :p0
+                -> SELECT SUM(o.amount) FROM Person p JOIN p.orders o WHERE p = :p0
+                => [Ada]
+
+                SELECT o.number FROM Order o WHERE o.amount >= (SELECT AVG(x.amount) FROM Order x WHERE x.status = o.status)
+                -> SELECT o.number, o.amount, o.status FROM Order o
+                -> SELECT SUM(x.amount), COUNT(x.amount) FROM Order x WHERE x.status = :p0
+                -> SELECT SUM(x.amount), COUNT(x.amount) FROM Order x WHERE x.status = :p0
+                -> SELECT SUM(x.amount), COUNT(x.amount) FROM Order x WHERE x.status = :p0
+                -> SELECT SUM(x.amount), COUNT(x.amount) FROM Order x WHERE x.status = :p0
+                => [Long 10, Long 11, Long 13]
+
+                SELECT p FROM Person p WHERE p.age = (SELECT q.age FROM Person q WHERE q.id <> p.id AND q.team = p.team)
+                -> SELECT p, p.age, p.id, p.team FROM Person p
+                -> SELECT q.age FROM Person q WHERE q.id <> 1 AND q.team = :p0
+                -> SELECT q.age FROM Person q WHERE q.id <> 2 AND q.team = :p0
+                -> SELECT q.age FROM Person q WHERE q.id <> 3 AND q.team = :p0
+                -> SELECT q.age FROM Person q WHERE q.id <> 4 AND q.team = :p0
+                => [Person 1, Person 3]
+
+                SELECT o.number, (SELECT MAX(i.count) FROM Item i WHERE i.order = o) FROM Order o WHERE o.number > 12
+                -> SELECT o.number, o FROM Order o WHERE o.number > 12
+                -> SELECT MAX(i.count) FROM Item i WHERE i.order = :p0
+                -> SELECT MAX(i.count) FROM Item i WHERE i.order = :p0
+                => [[Long 13, null], [Long 14, Long 10]]
+
+                SELECT p FROM Person p WHERE UPPER(p.name) = 'CY' OR EXISTS (SELECT o FROM Order o WHERE o.person.id = p.id AND o.amount / 2 > 2)
+                -> SELECT p, p.name, p.id FROM Person p
+                -> SELECT o.amount FROM Order o WHERE o.person.id = 1
+                -> SELECT o.amount FROM Order o WHERE o.person.id = 2
+                -> SELECT o.amount FROM Order o WHERE o.person.id = 3
+                => [Person 1, Person 2, Person 4]
+
+                SELECT p.id FROM Person p WHERE p.age IN (SELECT q.age FROM Person q GROUP BY q.age HAVING COUNT(q) > 1)
+                -> SELECT p.id, p.age FROM Person p
+                -> SELECT q.age FROM Person q GROUP BY q.age HAVING COUNT(q) > 1
+                => [Long 1, Long 3]
+
+                SELECT p.id FROM Person p WHERE p.mood <> ALL (SELECT q.mood FROM Person q WHERE LOWER(q.name) = 'ada')
+                -> SELECT p.id, p.mood FROM Person p
+                -> SELECT q.mood, q.name FROM Person q
+                => [Long 2, Long 4]
+
+                SELECT t.name FROM Person p JOIN p.team t GROUP BY t HAVING EXISTS (SELECT v FROM Vip v WHERE v.team = t)
+                -> SELECT t.name, t FROM Person p JOIN p.team t GROUP BY t, t.name
+                -> SELECT 1 FROM Vip v WHERE v.team = :p0
+                -> SELECT 1 FROM Vip v WHERE v.team = :p0
+                => [Blue]
+
+                SELECT p.id FROM Person p WHERE p.tags IS EMPTY OR EXISTS (SELECT o FROM Order o WHERE o.person.id = p.id AND LOWER(o.person.name) = 'ada')
+                -> SELECT p.id, p FROM Person p
+                -> SELECT 1 FROM Person p JOIN p.tags one WHERE p = :p0
+                -> SELECT o.person.name FROM Order o WHERE o.person.id = 1
+                -> SELECT 1 FROM Person p JOIN p.tags one WHERE p = :p0
+                -> SELECT 1 FROM Person p JOIN p.tags one WHERE p = :p0
+                -> SELECT o.person.name FROM Order o WHERE o.person.id = 3
+                -> SELECT 1 FROM Person p JOIN p.tags one WHERE p = :p0
+                => [Long 1, Long 2, Long 4]
+
+                SELECT p FROM Person p WHERE TREAT(p AS Vip).discount > 5
+                -> SELECT p FROM Person p WHERE EXISTS (SELECT treated FROM Vip treated WHERE treated = p AND treated.discount > 5)
+                => [Person 4]
+
+                SELECT p FROM Person p WHERE NOT TREAT(p AS Vip).discount > 50 OR p.age < 30
+                -> SELECT p FROM Person p WHERE (EXISTS (SELECT treated FROM Vip treated WHERE treated = p AND treated.discount <= 50) OR p.age < 30)
+                => [Person 2, Person 4]
+
+                SELECT o.number FROM Order o WHERE TREAT(o.person.boss AS Vip).discount = 1 OR o.number = 10
+                -> SELECT o.number FROM Order o WHERE (EXISTS (SELECT treated FROM Vip treated WHERE treated = o.person.boss AND treated.discount = 1) OR o.number = 10) AND (o.person.boss IS NULL OR o.person.boss IS NOT NULL)
+                => [Long 10]
+
+                SELECT v.name, v.discount FROM Team t JOIN TREAT(t.members AS Vip) v
+                -> SELECT v_2.name, v_2.discount FROM Team t JOIN t.members v, Vip v_2 WHERE v_2 = v
+                => [[Cy, Integer 10]]
+
+                SELECT v.discount, g.code FROM Team t JOIN TREAT(t.members AS Vip) v LEFT JOIN t.leader.tags g
+                -> SELECT v_2.discount, g.code FROM Team t JOIN t.members v, Vip v_2 JOIN t.leader t_2 LEFT JOIN t_2.tags g WHERE v_2 = v
+                => []
+
+                SELECT t.name, v.name FROM Team t LEFT JOIN TREAT(t.members AS Vip) v
+                -> SELECT t.name, v.name FROM Team t LEFT JOIN t.members v ON TYPE(v) IN (Vip)
+                => [[Blue, Cy], [Red, null]]
+
+                SELECT t.name FROM Team t WHERE EXISTS (SELECT v FROM TREAT(t.members AS Vip) v WHERE v.discount = 10)
+                -> SELECT t.name FROM Team t WHERE EXISTS (SELECT v FROM t.members v, Vip v_2 WHERE v_2.discount = 10 AND v_2 = v)
+                => [Blue]
+
+                SELECT p.address, p.id FROM Person p WHERE p.address IS NOT NULL
+                -> SELECT p.address__street, p.address__city, p.id FROM Person p WHERE (p.address__street IS NOT NULL OR p.address__city IS NOT NULL)
+                => [[in London, Long 1], [in London, Long 4], [in Paris, Long 3]]
+
+                SELECT DISTINCT o.person.address FROM Order o
+                -> SELECT o.person.address__street, o.person.address__city FROM Order o
+                => [in London, in Paris, null]
                 """.split("\n\n"));
     }
 }

@@ -17,14 +17,14 @@ import org.junit.jupiter.api.BeforeAll;
 import org.junit.jupiter.api.BeforeEach;
 
 /** Tests over the shop's rows in the real program; each has a manager of its own, whose changes are rolled back. */
-abstract class OverShop {
+public abstract class OverShop {
     private static final Pattern TEXT = Pattern.compile("\"text\":\"((?:[^\"\\\\]|\\\\.)*)\"");
-    static Factory factory;
+    protected static Factory factory;
     private static final List<String> SENT = new ArrayList<>();
-    EntityManager manager;
+    protected EntityManager manager;
 
     @BeforeAll
-    static void open() {
+    protected static void open() {
         String program = System.getenv("KARZHOUL_PROGRAM");
         factory = new Factory(new UnitSettings("shop", Reader.read("shop", Shop.classes()), "karzhoul:memory",
                 program == null ? System.getProperty("karzhoul.program", "jpa") : program, Duration.ofSeconds(20),
@@ -45,18 +45,18 @@ abstract class OverShop {
     }
 
     @AfterAll
-    static void close() {
+    protected static void close() {
         factory.close();
     }
 
     @BeforeEach
-    void begin() {
+    protected void begin() {
         manager = factory.createEntityManager();
         SENT.clear();
     }
 
     @AfterEach
-    void end() {
+    protected void end() {
         if (manager.getTransaction().isActive()) {
             manager.getTransaction().rollback();
         }
@@ -64,12 +64,25 @@ abstract class OverShop {
     }
 
     /** The rows of a text. */
-    String rows(String text) {
+    protected String rows(String text) {
         return Told.rows(manager.createQuery(text).getResultList(), text.contains("ORDER BY"));
     }
 
+    /** How often the program was asked this since the test began, or since {@link #forgetSent()}. */
+    static long calls(String call) {
+        synchronized (SENT) {
+            return SENT.stream().filter(line -> line.contains("\"call\":\"" + call + "\"")).count();
+        }
+    }
+
+    static void forgetSent() {
+        synchronized (SENT) {
+            SENT.clear();
+        }
+    }
+
     /** The texts that the program was asked. */
-    static List<String> asked() {
+    protected static List<String> asked() {
         List<String> texts = new ArrayList<>();
         synchronized (SENT) {
             for (String line : SENT) {

@@ -70,7 +70,7 @@ class ParserTest {
                 SELECT p.order, p.group, p.from FROM Person p
                 SELECT NEW a.b.C(p.a, COUNT(p), 1) FROM Person p
                 SELECT NEW C(p) AS c, p.a FROM Person p
-                SELECT KEY(m), VALUE(m), ENTRY(m) FROM P p JOIN p.m m
+                SELECT KEY(m), VALUE(m), ENTRY(m), INDEX(m) FROM P p JOIN p.m m
                 SELECT KEY(m).a, VALUE(m).b.c FROM P p JOIN p.m m
                 SELECT p FROM Person p JOIN p.a x
                 SELECT p FROM Person p INNER JOIN p.a AS x
@@ -205,7 +205,6 @@ class ParserTest {
                 SELECT UPPER(p.a, p.b) FROM Person p ## 1:19 expected ")": UPPER takes at most 1 value
                 SELECT CONCAT(p.a) FROM Person p ## 1:18 expected ",": CONCAT takes at least 2 values, found ")"
                 SELECT SUBSTRING(p.a, 1, 2, 3) FROM Person p ## 1:29 expected ")": SUBSTRING takes at most 3 values
-                SELECT INDEX(p) FROM Person p ## 1:8 INDEX isn't served; keep the place as an attribute and ask for that
                 SELECT FUNCTION('f', 1) FROM Person p ## 1:8 FUNCTION isn't served: there is no database with functions of its own
                 SELECT CASE END FROM Person p ## 1:13 expected a value, found "END"
                 SELECT CASE WHEN p.a = 1 THEN 2 END FROM Person p ## 1:33 expected ELSE, found "END"

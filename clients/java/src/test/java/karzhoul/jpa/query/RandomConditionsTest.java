@@ -59,7 +59,7 @@ class RandomConditionsTest extends OverShop {
         UnitModel unit = asking.unit();
         Select select = (Select) Resolver.resolve(unit, text, Parser.parse(text));
         SelectPlan plan = Planner.select(unit, text, select, test -> !hasSize(text));
-        return plan.rows(new Binding(asking, new HashMap<>()), null, null);
+        return plan.rows(new Binding(asking, new HashMap<>(), Hints.Deadline.NONE), null, null);
     }
 
     /** SIZE is the program's alone. */

@@ -25,7 +25,20 @@ class RefusalsTest {
                 SELECT p FROM Persn p ## 15 there is no entity "Persn"; did you mean "Person"?
                 SELECT p.nam FROM Person p ## 8 Person has no "nam"; did you mean "name"?
                 SELECT p.address.ciy FROM Person p ## 8 Person has no "address.ciy"; did you mean "address.city"?
-                SELECT p.address FROM Person p ## 8 "address" of Person is an embedded object, which isn't served as a whole; name its attributes, as "address.street"
+                SELECT p FROM Person p WHERE p.address = :a ## 30 "address" of Person is an embedded object, which is served as a whole in SELECT and IS NULL; name its attributes, as "address.street"
+                SELECT COUNT(p.address) FROM Person p ## 14 "address" of Person is an embedded object, which is served as a whole in SELECT and IS NULL; name its attributes, as "address.street"
+                SELECT p FROM Person p ORDER BY p.address ## 33 "address" of Person is an embedded object, which is served as a whole in SELECT and IS NULL; name its attributes, as "address.street"
+                SELECT p.address.city FROM Person p GROUP BY p.address ## 46 GROUP BY takes paths and variables
+                SELECT TREAT(p AS Vip).discount FROM Person p ## 8 TREAT stands in FROM and WHERE, and isn't served in SELECT and ORDER BY; join it, as JOIN TREAT(p.relation AS Entity) v, or let a variable range over the entity, and ask that variable
+                SELECT p FROM Person p WHERE TREAT(p AS Team).limit = 1 ## 30 TREAT takes what is below Person, and Team isn't
+                SELECT p FROM Person p WHERE TREAT(p.name AS Vip).discount = 1 ## 36 TREAT takes a variable or a path to one entity
+                SELECT p FROM Person p WHERE TREAT(p AS Vip).discont = 1 ## 30 Vip has no "discont"; did you mean "discount"?
+                SELECT p FROM Person p JOIN FETCH TREAT(p.boss AS Vip) ## 24 a fetch join of TREAT isn't served: it reads the whole relation
+                SELECT v.discount FROM Person p LEFT JOIN TREAT(p.boss AS Vip) v ## 8 "v.discount" of a LEFT JOIN of TREAT is what Person hasn't, which isn't served; leave LEFT out, or ask EXISTS
+                SELECT p FROM Person p JOIN TREAT(p AS Vip).tags t ## 29 a join is along a path of a variable; join TREAT(..) first, and go on from the variable of that
+                SELECT p FROM Person p LEFT JOIN p.boss b ON TREAT(b AS Vip).discount = 1 ## 46 TREAT stands in FROM and WHERE, and isn't served in the ON of a LEFT JOIN; join it, as JOIN TREAT(p.relation AS Entity) v, or let a variable range over the entity, and ask that variable
+                SELECT FUNCTION('lower', p.name) FROM Person p ## 8 FUNCTION isn't served: there is no database with functions of its own
+                SELECT INDEX(p) FROM Person p ## 8 INDEX takes a variable along a List of values with @OrderColumn, and "p" is of Person
                 SELECT q FROM Person p ## 8 there is no variable "q"; did you mean "p"?
                 SELECT q.name FROM Person p ## 8 there is no variable "q" and no enum "q"; did you mean "p"?
                 SELECT p.name.first FROM Person p ## 8 "name" of Person is a value, and "first" stands behind it
@@ -72,17 +85,8 @@ class RefusalsTest {
                 SELECT NEW a.b.C(p.name) FROM Person p ## 8 there is no class a.b.C
                 SELECT NEW karzhoul.jpa.query.Shop.PlaceKey(p.name, p.age) FROM Person p ## 8 karzhoul.jpa.query.Shop$PlaceKey has no constructor of (String, Integer)
                 SELECT p FROM Person p WHERE p.age = :a AND p.name = ?1 ## 54 named and positional parameters stand in one query
-                SELECT p FROM Person p WHERE TREAT(p AS Vip).discount = 1 ## 30 TREAT isn't served; let a variable range over Vip and compare it, as FROM .., Vip t WHERE t = ..
-                SELECT KEY(t) FROM Person p JOIN p.tags t ## 8 KEY isn't served; make the key of the map an attribute of the members, and ask for that
+                SELECT KEY(t) FROM Person p JOIN p.tags t ## 8 KEY takes a variable along a Map of values; of a map of entities ask for the attribute that @MapKey names, and "t" is of Tag
                 SELECT p FROM Person p LEFT JOIN p.team t ON t.leader.name = 'x' ## 46 in the ON of a LEFT JOIN a path has one step at most; join what it goes along before, and name that variable
-                SELECT p FROM Person p WHERE 2 < (SELECT COUNT(o) FROM Order o WHERE o.person = p) ## 30 COUNT of a subquery that uses a variable from outside is compared with 0 alone; SIZE counts a collection, and GROUP BY with HAVING the rows of a join
-                SELECT p FROM Person p WHERE 2 < (SELECT SUM(o.amount) FROM Order o WHERE o.person = p) ## 30 a subquery that uses a variable from outside is served behind EXISTS, IN, ALL and ANY, and compared where it is MAX or MIN; ask it by a query of its own, or group by what it is joined with
-                SELECT p FROM Person p WHERE p.age = (SELECT q.age FROM Person q WHERE q.team = p.team) ## 30 a subquery that uses a variable from outside is served behind EXISTS, IN, ALL and ANY, and compared where it is MAX or MIN; write = ANY (..), which is the same where it has one row
-                SELECT (SELECT MAX(o.number) FROM Order o WHERE o.person = p) FROM Person p ## 8 a subquery that uses a variable from outside is served behind EXISTS, IN, ALL and ANY, and compared where it is MAX or MIN; ask it by a query of its own, or group by what it is joined with
-                SELECT p FROM Person p WHERE p.age IN (SELECT q.age FROM Person q GROUP BY q.age) ## 40 GROUP BY and HAVING in a subquery aren't served; ask it by a query of its own, and give its rows to IN as a parameter
-                SELECT p.name FROM Person p GROUP BY p.name HAVING EXISTS (SELECT t FROM Team t) ## 52 a subquery in HAVING is served where it uses no variable from outside and is compared as one value
-                SELECT p FROM Person p WHERE UPPER(p.name) = 'X' OR EXISTS (SELECT o FROM p.orders o) ## 30 UPPER isn't among what the program computes; where no subquery stands beside it but by AND, the door decides it
-                SELECT p FROM Person p WHERE EXISTS (SELECT o FROM p.orders o WHERE o.amount / 2 > 1) ## 69 "/" isn't among what the program computes; where no subquery stands beside it but by AND, the door decides it
                 SELECT o FROM Order o WHERE o.hour < CURRENT_TIMESTAMP ## 29 a time of day is compared with a date
                 SELECT a FROM Tag a, Tag b, Tag c, Tag d, Tag e, Tag f, Tag g, Tag h, Tag i ## 1 the statement takes 9 variables, those of its subqueries and of its joins over several steps too, and there are at most 8
                 UPDATE Person p SET p.id = 1 ## 21 "p.id" is part of the key, which SET doesn't change

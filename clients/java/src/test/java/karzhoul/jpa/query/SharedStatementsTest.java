@@ -1,8 +1,16 @@
 package karzhoul.jpa.query;
 
 import static org.junit.jupiter.api.Assertions.assertEquals;
+import static org.junit.jupiter.api.Assertions.assertNotSame;
+import static org.junit.jupiter.api.Assertions.assertSame;
 
 import jakarta.persistence.EntityManager;
+import jakarta.persistence.TypedQuery;
+import jakarta.persistence.criteria.CriteriaBuilder;
+import jakarta.persistence.criteria.CriteriaQuery;
+import jakarta.persistence.criteria.Expression;
+import jakarta.persistence.criteria.ParameterExpression;
+import jakarta.persistence.criteria.Root;
 import java.util.ArrayList;
 import java.util.List;
 import java.util.concurrent.Callable;
@@ -26,6 +34,27 @@ class SharedStatementsTest extends OverShop {
             assertEquals(List.of(), one.get());
         }
         threads.shutdown();
+    }
+
+    @Test
+    void queriesThatAreBuiltOfTheSamePartsShareOne() {
+        CriteriaBuilder cb = manager.getCriteriaBuilder();
+        ParameterExpression<Integer> one = cb.parameter(Integer.class);
+        ParameterExpression<Integer> other = cb.parameter(Integer.class);
+        TypedQuery<Long> first = manager.createQuery(older(cb, one)).setParameter(one, 40);
+        TypedQuery<Long> second = manager.createQuery(older(cb, other)).setParameter(other, 20);
+        assertSame(((StatementQuery<?>) first).text(), ((StatementQuery<?>) second).text());
+        assertEquals(List.of(4L), first.getResultList());
+        assertEquals(List.of(1L, 3L, 4L), second.getResultList());
+        TypedQuery<Long> third = manager.createQuery(older(cb, cb.literal(40)));
+        assertNotSame(((StatementQuery<?>) first).text(), ((StatementQuery<?>) third).text());
+        assertEquals(List.of(4L), third.getResultList());
+    }
+
+    private static CriteriaQuery<Long> older(CriteriaBuilder cb, Expression<Integer> age) {
+        CriteriaQuery<Long> query = cb.createQuery(Long.class);
+        Root<Shop.Person> p = query.from(Shop.Person.class);
+        return query.select(p.get("id")).where(cb.gt(p.<Integer>get("age"), age)).orderBy(cb.asc(p.get("id")));
     }
 
     private static List<String> work(int number) {

@@ -17,8 +17,12 @@ import jakarta.persistence.Id;
 import jakarta.persistence.IdClass;
 import jakarta.persistence.ManyToMany;
 import jakarta.persistence.ManyToOne;
+import jakarta.persistence.NamedAttributeNode;
+import jakarta.persistence.NamedEntityGraph;
 import jakarta.persistence.NamedQuery;
+import jakarta.persistence.NamedSubgraph;
 import jakarta.persistence.OneToMany;
+import jakarta.persistence.QueryHint;
 import jakarta.persistence.Version;
 import java.io.Serializable;
 import java.math.BigDecimal;
@@ -67,11 +71,26 @@ public final class Shop {
     public static class Address {
         public String street;
         public String city;
+
+        @Override
+        public String toString() {
+            return "in " + city;
+        }
     }
 
     /** Someone. */
     @Entity(name = "Person")
     @NamedQuery(name = "Person.byName", query = "SELECT p FROM Person p WHERE p.name = :name")
+    @NamedQuery(name = "Person.withOrders", query = "SELECT p FROM Person p WHERE p.orders IS NOT EMPTY",
+            hints = @QueryHint(name = "jakarta.persistence.loadgraph", value = "Person.withOrders"))
+    @NamedEntityGraph(name = "Person.withOrders",
+            attributeNodes = {@NamedAttributeNode("name"), @NamedAttributeNode("team"),
+                    @NamedAttributeNode(value = "orders", subgraph = "order")},
+            subgraphs = @NamedSubgraph(name = "order", attributeNodes = @NamedAttributeNode("items")))
+    @NamedEntityGraph(name = "Person.bosses", attributeNodes = @NamedAttributeNode(value = "boss", subgraph = "boss"),
+            subgraphs = @NamedSubgraph(name = "boss",
+                    attributeNodes = @NamedAttributeNode(value = "boss", subgraph = "boss")))
+    @NamedEntityGraph(includeAllAttributes = true)
     public static class Person {
         @Id
         @GeneratedValue(strategy = GenerationType.IDENTITY)

@@ -8,12 +8,12 @@ import java.util.List;
 import java.util.StringJoiner;
 
 /** Rows as tests write them: each number with its type, and without ORDER BY sorted as texts. */
-final class Told {
+public final class Told {
     private static final MathContext DIGITS = new MathContext(12);
 
     private Told() {}
 
-    static String one(Object value) {
+    public static String one(Object value) {
         if (value instanceof Object[] items) {
             StringJoiner told = new StringJoiner(", ", "[", "]");
             for (Object item : items) {
@@ -34,7 +34,7 @@ final class Told {
         return value instanceof Class<?> type ? type.getSimpleName() : String.valueOf(value);
     }
 
-    static String rows(List<?> rows, boolean isOrdered) {
+    public static String rows(List<?> rows, boolean isOrdered) {
         List<String> told = new ArrayList<>();
         rows.forEach(row -> told.add(one(row)));
         if (!isOrdered) {
