@@ -13,6 +13,13 @@
 from typing import TYPE_CHECKING
 
 from . import refusals
+from .classes.binding import WrongValue
+from .classes.changes import NotBroughtOver
+from .classes.faults import DeclarationError
+from .classes.fields import (
+    by_value, field, generated, json_text, key, many_to_many, many_to_one, money, naive,
+    one_to_many, one_to_one, typed, validates, version,
+)
 from .entities import Collection, EmbeddedId, Entity, Event
 from .factory import EntityManagerFactory, open
 from .lines import FlushModeType, LifecycleEvent, LockModeType
@@ -33,7 +40,9 @@ __version__ = "0.2.0"
 # too, as `open`, or that its `typing` has, as `Mapping`.
 __all__ = [
     "Attempt", "EmbeddedId", "Entity", "EntityManager", "EntityManagerFactory", "EntityTransaction",
-    "Event", "FlushModeType", "LifecycleEvent", "LockModeType", "Statistics", "refusals",
+    "Event", "DeclarationError", "NotBroughtOver", "WrongValue",
+    "by_value", "field", "generated", "json_text", "key", "many_to_many", "many_to_one", "money",
+    "naive", "one_to_many", "one_to_one", "typed", "validates", "version", "FlushModeType", "LifecycleEvent", "LockModeType", "Statistics", "refusals",
     "BadLine", "Busy", "Damaged", "EntityExists", "EntityNotFound", "GivenUp",
     "IllegalArgument", "IllegalState", "KarzhoulError", "Limit", "LineLimit", "Listener",
     "ManagerLimit", "NoFreeManager", "NoResult", "NoSuchManager", "NoSuchObject",

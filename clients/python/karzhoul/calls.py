@@ -13,21 +13,22 @@ from time import perf_counter
 from types import FrameType
 from typing import (
     Any, Callable, Deque, Dict, FrozenSet, Iterator, List, Mapping, Optional, Sequence, Tuple, Type,
+    Union,
 )
 
 from .arguments import check_callback
-from .classes import Classes
-from .entities import Entity, Event
-from .lines import LifecycleEvent, line_of
+from .kinds import Classes
+from .entities import E, Entity, Event
+from .lines import LifecycleEvent, line_of, text_spelled
 from .pending import BEFORE, Due
 from .program import Exchange, Program, of_before
-from .refusals import BadLine, KarzhoulError, NotServed, Refused, Restarted
+from .refusals import BadLine, IllegalState, KarzhoulError, NotServed, Refused, Restarted
 from .refusing import manager_of
 from .replies import (
-    NULL, are_silent, is_of_reply, is_restart, numbers_of, objects_in, said_of,
+    NULL, are_silent, is_of_reply, is_restart, loaded_in, numbers_of, objects_in, said_of,
 )
 from .runs import Run
-from .shown import Shown
+from .shown import VALUES, Shown
 from .tally import Tally
 
 # A callback, the event that it is to be told, and the run and the line of the call that told it.
@@ -41,40 +42,41 @@ class _Calls(Exchange):
     """Lines, what their answers are taken for, and the events of their replies that aren't queued
     to be told."""
 
+    # What most have is of the class, so that one is made in little time.
     run: Optional[Run]
+    # The entity of the objects in the answers, whose classes aren't known better.
+    entity = ""
+    bad_line: Type[BadLine] = NotServed
+    # Whether they were told in a pipeline, so that their refusals are still to be raised.
+    are_kept = False
+    # The events that they tell again, whose callbacks ran before.
+    ran: FrozenSet[Due] = frozenset()
+    # Whether no callback is told of them, and a refusal is an answer: nothing of them lasts.
+    is_quiet = False
+    untold: Optional[Iterator[_Untold]] = None
+    # Their replies, once all have come: these are counted once, whatever is interrupted.
+    replies: Optional[List[bytes]] = None
+    # Whether another run is on once they are done.
+    is_restart = False
+    # Whether they create a manager and were interrupted, so that nobody gets it.
+    is_left = False
+    # How often values had been read when it was noted what they change.
+    reads = -1
+    # The objects in their replies whose class wasn't known, with the lines that ask for them.
+    shown: Optional[Tuple[List[int], _Calls]] = None
 
-    __slots__ = (
-        "entity", "bad_line", "are_kept", "ran", "untold", "are_noted", "is_restart", "is_left",
-        "reads", "shown",
-    )
-
-    def __init__(
-        self, run: Optional[Run], lines: Sequence[bytes], entity: str, bad_line: Type[BadLine],
-        are_kept: bool,
-    ) -> None:
+    def __init__(self, run: Optional[Run], lines: Sequence[bytes]) -> None:
         # As the base does, in less time.
         self.run = run
         self.lines = lines
         self.written = []
         self.read = []
-        self.parts = None
-        self.entity = entity
-        self.bad_line = bad_line
-        # Whether they were told in a pipeline, so that their refusals are still to be raised.
-        self.are_kept = are_kept
-        # The events that they tell again, whose callbacks ran before.
-        self.ran: FrozenSet[Due] = frozenset()
-        self.untold: Optional[Iterator[_Untold]] = None
-        # Whether they were counted, which they are once, whatever is interrupted.
-        self.are_noted = False
-        # Whether another run is on once they are done.
-        self.is_restart = False
-        # Whether they create a manager and were interrupted, so that nobody gets it.
-        self.is_left = False
-        # How often values had been read when it was noted what they change.
-        self.reads = -1
-        # The objects in their replies whose class wasn't known, with the lines that ask for them.
-        self.shown: Optional[Tuple[List[int], _Calls]] = None
+
+    def first(self) -> _Calls:
+        """The first of several calls that were sent together and answered."""
+        calls = _Calls(self.run, self.lines[:1])
+        calls.entity, calls.parts, calls.replies = self.entity, (), (self.replies or [])[:1]
+        return calls
 
     def join(self, run: Optional[Run], line: bytes) -> None:
         """Has them be of the run of one more line, of a pipeline."""
@@ -99,6 +101,10 @@ class Calls:
         self._classes: Dict[str, Type[Entity]] = classes
         # Those without subclasses: what an answer is of that can be of no other class.
         self._lowest = {name: kind for name, kind in classes.items() if not kind.__subclasses__()}
+        # The same, by their names and by themselves, with the names as lines have them.
+        self.leaves: Dict[Union[str, Type[Any]], Tuple[bytes, Type[Entity]]] = {}
+        for name, kind in self._lowest.items():
+            self.leaves[name] = self.leaves[kind] = text_spelled(name).encode(), kind
         # By the line that makes one.
         self._new = {kind._karzhoul_line: kind for kind in classes.values()}
         self._tally = Tally(echo)
@@ -166,22 +172,79 @@ class Calls:
     def ask_lines(
         self, run: Optional[Run], lines: Sequence[bytes], entity: str = "",
         bad_line: Type[BadLine] = NotServed, timeout: Optional[float] = None,
-        ran: FrozenSet[Due] = frozenset(),
+        ran: FrozenSet[Due] = frozenset(), is_quiet: bool = False,
     ) -> List[Any]:
         """Does the calls of lines without waiting for each, and gives the answers. A line that is
         taken for no call is a `bad_line`. Where they aren't answered within so many seconds, the
-        program is ended: `GivenUp`. Events whose callbacks `ran` before aren't told again."""
+        program is ended: `GivenUp`. Events whose callbacks `ran` before aren't told again, and
+        those of quiet calls not at all, whose refusals are answers."""
         with self._lock:
             while self._calls:  # A callback that is told of what was kept may have added to it.
                 self._settle(timeout)
             reads = self._note(lines, bad_line)
-            calls = self._calls = _Calls(run, lines, entity, bad_line, False)
-            calls.reads, calls.ran = reads, ran
+            calls = _Calls(run, lines)
+            calls.entity, calls.bad_line, calls.reads, calls.ran = entity, bad_line, reads, ran
+            calls.is_quiet = is_quiet
+            self._calls = calls
             return self._answers(calls, timeout)
+
+    def ask_object(
+        self, run: Optional[Run], line: bytes, kind: Type[E], manager: bytes = b""
+    ) -> Optional[E]:
+        """Does a call that changes no values and answers an object, of this class where its own
+        isn't known, or null: as `ask_lines` does, in less time. With the manager's number."""
+        with self._lock:
+            while self._calls:  # As in `ask_lines`.
+                self._settle()
+            calls = _Calls(run, (line,))
+            calls.entity = kind.__name__
+            self._calls = calls
+            self._turn += 1
+            replies = self._replies(calls, None)
+            if not self._callbacks and not self._untold:
+                found = (calls.run or self._run).one(replies[0], kind, manager)
+                if found is not None:
+                    self._calls = None
+                    return found
+            answer: Optional[E] = self._taken(calls, replies, None)[0]
+            return answer
+
+    def ask_found(
+        self, run: Run, line: bytes, kind: Type[E], manager: bytes
+    ) -> Optional[E]:
+        """Does a manager's call that finds an object, as `ask_object` does. Where it is foreseen
+        that the object is loaded, and read then, its values are asked for at once, by the number
+        that is the next to be given. They are taken where the reply tells that number."""
+        foresight = kind._karzhoul_foresight
+        if not foresight.is_on or self._callbacks or self._untold:
+            return self.ask_object(run, line, kind, manager)
+        with self._lock:
+            while self._calls:  # As in `ask_lines`.
+                self._settle()
+            number = run.made + 1
+            calls = _Calls(run, (line, VALUES % number))
+            calls.entity, calls.is_short = kind.__name__, True
+            self._calls = calls
+            self._turn += 1
+            places = run.known.expect_loaded(number, manager)
+            if self._calls is not calls:  # As in `_shown`.
+                run.known.forget()
+            replies = self._replies(calls, None)
+            is_heard = self._callbacks or self._untold  # As of a thread that listens meanwhile.
+            found = None if is_heard else run.one_shown(replies, kind, places)
+            if found is not None:
+                if not foresight.is_sure:
+                    foresight.note(True)
+                self._calls = None
+                return found
+            foresight.note(False)
+            calls = self._calls = calls.first()
+            answer: Optional[E] = self._answers(calls)[0]
+            return answer
 
     def ask_manager(self, run: Run) -> int:
         """Creates a manager, and gives its number. Where that is interrupted, it is `_left`."""
-        calls = _Calls(run, [_CREATE], "", NotServed, False)
+        calls = _Calls(run, [_CREATE])
         try:
             with self._lock:
                 while self._calls:  # As in `ask_lines`.
@@ -223,8 +286,9 @@ class Calls:
                     return
                 self._settle()  # Those that were sent are to be done first.
             reads = self._note((line, *more))
-            calls = self._calls = _Calls(run, [line, *more], "", NotServed, is_kept)
-            calls.reads = reads
+            calls = _Calls(run, [line, *more])
+            calls.reads, calls.are_kept = reads, is_kept
+            self._calls = calls
             if not is_kept:
                 self._answers(calls)
 
@@ -235,6 +299,7 @@ class Calls:
         known = self._run.known
         reads = known.reads
         if bad_line is BadLine:  # A line of one's own may say one thing and then another.
+            known.anyone.sets += 1
             known.forget()
         else:
             known.note(lines)
@@ -259,8 +324,9 @@ class Calls:
         was done. It is known to be on by the step that takes the reply, whatever is interrupted."""
         with self._lock:
             self.tell_kept()
-            calls = self._calls = _Calls(None, [line], "", BadLine, False)
-            calls.is_restart = True
+            calls = _Calls(None, [line])
+            calls.bad_line, calls.is_restart = BadLine, True
+            self._calls = calls
             self._answers(calls)
 
     def _begin_run(self, program: Program) -> None:
@@ -336,14 +402,27 @@ class Calls:
         if calls.reads != self._run.known.reads:
             self._note(calls.lines, calls.bad_line)
         replies = self._replies(calls, timeout)
+        if calls.is_short:  # A find that was interrupted: the values were asked for in vain.
+            calls = self._calls = calls.first()
+            replies = replies[:1]
+        return self._taken(calls, replies, timeout)
+
+    def _taken(
+        self, calls: _Calls, replies: List[bytes], timeout: Optional[float]
+    ) -> List[Any]:
+        """The answers that replies have."""
+        is_noted = calls.is_restart or calls.is_left
+        if replies == NULL and not self._callbacks and not is_noted:
+            self._calls = None
+            return [None]
         run = calls.run or self._run
-        if calls.is_restart or calls.is_left:
+        if is_noted:
             self._take_note(calls, replies)
         try:
             kind = None
             if calls.entity and calls.lines:
                 kind = self._lowest.get(calls.entity) or self._new.get(calls.lines[0])
-            answers = self._at_once(run, calls, replies, kind)
+            answers = self._at_once(run, calls, replies, kind, timeout)
             if answers is not None:
                 self._calls = None
                 return answers
@@ -357,7 +436,7 @@ class Calls:
         # They are queued by one step, and so once, whatever is interrupted.
         self._untold.extend(calls.untold)
         self._calls = None
-        refused = [answer for answer, _ in heard if isinstance(answer, Refused)]
+        refused = [] if calls.is_quiet else [it for it, _ in heard if isinstance(it, Refused)]
         self._tally.refused(refused)
         raised = [*refused, *self._tell_events()] if refused or self._untold else []
         if refused:
@@ -367,7 +446,8 @@ class Calls:
         return [answer for answer, _ in heard]
 
     def _at_once(
-        self, run: Run, calls: _Calls, replies: List[bytes], kind: Optional[Type[Entity]]
+        self, run: Run, calls: _Calls, replies: List[bytes], kind: Optional[Type[Entity]],
+        timeout: Optional[float],
     ) -> Optional[List[Any]]:
         """What most calls answer, an object each or null, with no event to be told; None where it
         is anything else."""
@@ -375,13 +455,27 @@ class Calls:
             numbers = numbers_of(replies)
             if numbers is not None and (kind is not None or run.are_known(numbers)):
                 return run.objects(numbers, kind)
-            if kind is not None and len(replies) == 1 and not self._callbacks:
-                found = run.loaded_one(calls.lines[0], replies[0], kind)
-                if found is not None:
-                    return [found]
         if not self._callbacks and (replies == NULL or are_silent(replies)):
             return [None] * len(replies)
+        if kind is None and not self._callbacks and not self._untold and len(replies) == 1:
+            numbers = loaded_in(replies[0])
+            rows = self._rows(run, calls, numbers, timeout) if numbers else None
+            return None if rows is None else [rows]
         return None
+
+    def _rows(
+        self, run: Run, calls: _Calls, numbers: List[int], timeout: Optional[float]
+    ) -> Optional[List[Entity]]:
+        """The rows of a reply, which were all loaded for it, with their values, as `_heard` gives
+        them, in less time; None where they are any other ones."""
+        if calls.shown is None:
+            calls.shown = numbers, _Calls(run, run.values_lines(numbers))
+        turn, owner = self._turn, run.known.expect_rows(calls.lines[0])
+        epoch = owner.epoch()
+        if self._calls is not calls:  # As in `_shown`.
+            return None
+        replies = self._replies(calls.shown[1], timeout)
+        return run.rows_shown(numbers, replies, owner, epoch, turn)
 
     def _to_be_told(
         self, run: Run, calls: _Calls, heard: Sequence[Tuple[Any, Tuple[Event, ...]]]
@@ -389,22 +483,29 @@ class Calls:
         """The events of calls whose callbacks haven't run before, with their callbacks."""
         return [
             (callback, event, run, line)
-            for line, (_, events) in zip(calls.lines, heard)
+            for line, (_, events) in zip(calls.lines, () if calls.is_quiet else heard)
             for event in events
             if not calls.ran or event.due not in calls.ran
             for callback, kinds in self._callbacks
             if event.kind in kinds
         ]
 
-    def _mark(self, run: Run, line: bytes, fault: Exception) -> None:
-        """Marks the transaction of a line's manager, if one is open, since a callback has raised
-        this of what its call told when it was done, as `persist` does (chapter 3.5). So what it
-        refused isn't stored where that is caught."""
+    def _mark(self, run: Run, line: bytes, number: int, fault: Exception) -> None:
+        """Marks the transaction of a line's manager, since a callback has raised this of what its
+        call told of an object when it was done, as `persist` does (chapter 3.5). So what it refused
+        isn't stored where that is caught. Where none is open, the next one is marked, which would
+        store it, unless the object is detached before."""
         manager = manager_of(line)
-        if manager is not None and manager not in run.marked:
-            with suppress(KarzhoulError):
-                self.ask_lines(run, [line_of("setRollbackOnly", {"em": str(manager)})])
-                run.marked[manager] = repr(fault), line.decode()
+        if manager is None or manager in run.marked:
+            return
+        why = repr(fault), line.decode()
+        try:
+            self.ask_lines(run, [line_of("setRollbackOnly", {"em": str(manager)})])
+            run.marked[manager] = why
+        except IllegalState:
+            run.refused.setdefault(manager, {})[number] = why
+        except KarzhoulError:
+            pass  # The manager or its program is gone, and so is what it was told.
 
     def _heard(
         self, run: Run, calls: _Calls, replies: List[bytes], kind: Optional[Type[Entity]],
@@ -421,10 +522,10 @@ class Calls:
             if calls.shown is None:
                 numbers = list(dict.fromkeys(unknown))
                 lines = run.values_lines(numbers)
-                calls.shown = numbers, _Calls(run, lines, "", NotServed, False)
+                calls.shown = numbers, _Calls(run, lines)
             places, refused = self._shown(run, calls, *calls.shown, timeout)
         heard = [
-            (refused, run.events(said, told))
+            (refused, run.events(line, said, told))
             if refused is not None and not run.are_known(objects_in(reply))
             else run.answer(line, reply, said, calls.bad_line, told)
             for line, reply, said in each
@@ -457,16 +558,37 @@ class Calls:
         together with it."""
         run = entity._karzhoul_run
         run.number(entity)
-        has_group = entity._karzhoul_shown.group
-        self.show(run, run.unread([entity]) if has_group else [entity._karzhoul_number])
+        if entity._karzhoul_shown.group:
+            self.show(run, run.unread([entity]))
+        else:
+            self._show_one(run, entity)
         return entity._karzhoul_shown.values
+
+    def _show_one(self, run: Run, entity: Entity) -> None:
+        """Reads the values of an object anew, as `show` does, in less time."""
+        with self._lock:
+            if self._calls:
+                self.tell_kept()
+            shown = entity._karzhoul_shown
+            if shown is shown.owner.unread and shown.owner is not run.known.anyone:
+                entity._karzhoul_foresight.note(True)
+            calls = self._calls = _Calls(run, (VALUES % entity._karzhoul_number,))
+            places = run.known.expect_one(entity)
+            if self._calls is not calls:  # As in `_shown`.
+                run.known.forget()
+            replies = self._replies(calls, None)
+            refused = run.show_one(entity, calls.lines, replies, places)
+            self._calls = None
+            if refused is not None:
+                self._tally.refused([refused])
+                raise refused
 
     def show(self, run: Run, numbers: Sequence[int]) -> None:
         """Reads the values of objects of a run anew, by their numbers, each once."""
         with self._lock:
             if self._calls:
                 self.tell_kept()
-            calls = self._calls = _Calls(run, run.values_lines(numbers), "", NotServed, False)
+            calls = self._calls = _Calls(run, run.values_lines(numbers))
             places, refused = self._shown(run, calls, numbers, calls)
             self._calls = None
             run.done(places)
@@ -476,6 +598,8 @@ class Calls:
 
     def _replies(self, calls: _Calls, timeout: Optional[float]) -> List[bytes]:
         """The replies to calls, which are noted once."""
+        if calls.replies is not None:
+            return calls.replies
         began = perf_counter()
         try:
             replies = self.program.replies(calls, timeout)
@@ -485,9 +609,8 @@ class Calls:
             self._run.known.forget()  # So that who reads an object hears that the program is gone.
             self._tally.tell_fault(calls.lines, fault)
             raise
-        if not calls.are_noted:
-            calls.are_noted = True
-            self._tally.note(calls.lines, replies, perf_counter() - began)
+        calls.replies = replies
+        self._tally.note(calls.lines, replies, perf_counter() - began)
         return replies
 
     def tell_before(self, events: Iterator[Event]) -> None:
@@ -534,5 +657,5 @@ class Calls:
                     vars(fault)["_karzhoul_is_told"] = True
                     raised.append(fault)
                     if event.kind in BEFORE:
-                        self._mark(run, line, fault)
+                        self._mark(run, line, event.due[1], fault)
         return raised

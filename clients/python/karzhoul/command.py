@@ -14,6 +14,7 @@ from pathlib import Path
 from typing import Any, List, Mapping, Optional, Sequence, Union
 
 from . import beginnings, carrying, factory, migration, selecting, show, stubs
+from .classes import printing
 from .finding import find_program
 from .linter import lint
 from .opening import why_unopened
@@ -82,6 +83,7 @@ def _parser() -> argparse.ArgumentParser:
     stored.add_argument("db", help="the database file")
     _add_check(commands, [common, named])
     _add_stubs(commands, [named])
+    printing.add_command(commands)
     _add_show(commands, [common, over, stored])
     selecting.add_command(commands, [common])
     _add_migrate(commands, [common, over, stored])

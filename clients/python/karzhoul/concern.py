@@ -1,22 +1,27 @@
-"""What a manager was told to do with objects since its last transaction ended."""
+"""What a manager was told to do with objects since its last transaction ended, and what of that is
+lost where it is closed."""
 
 from __future__ import annotations
 
-from typing import List
+from typing import List, Set
 
 
 class Concern:
     """The numbers of the objects that a manager was told to persist, to remove and to lock, by
     which a refusal of its flush or its commit is explained."""
 
-    __slots__ = ("since", "persisted", "removed", "locked")
+    __slots__ = ("since", "sets", "has_merged", "persisted", "removed", "locked", "let_go")
 
-    def __init__(self, since: int) -> None:
-        """With the number of the last object that was made before."""
-        self.since = since
+    def __init__(self, since: int, sets: int = 0) -> None:
+        """With the number of the last object that was made before, and how often objects that may
+        be the manager's had been set."""
+        self.since, self.sets = since, sets
+        self.has_merged = False
         self.persisted: List[int] = []
         self.removed: List[int] = []
         self.locked: List[int] = []
+        # What was detached.
+        self.let_go: Set[int] = set()
 
     def of(self, call: str) -> List[int]:
         """Those of a call."""

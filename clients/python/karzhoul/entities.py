@@ -11,11 +11,18 @@ from typing import (
     Union, overload,
 )
 
+from .classes.fields import (
+    by_value, dataclass_transform, field, generated, json_text, key, many_to_many, many_to_one,
+    money, naive, one_to_many, one_to_one, typed, version,
+)
+from .foresight import Foresight
 from .lines import LifecycleEvent, line_of, text_spelled
 from .misfits import misfit, unknown
 
 if TYPE_CHECKING:
+    from .classes.binding import Binding
     from .factory import EntityManagerFactory
+    from .managers import EntityManager
     from .runs import Run
     from .shown import Shown
 
@@ -24,12 +31,24 @@ E = TypeVar("E", bound="Entity")
 _LONGEST = 65_535
 
 
+# Type checkers take the words as they are written out here.
+@dataclass_transform(
+    kw_only_default=True, eq_default=False,
+    field_specifiers=(
+        by_value, field, generated, json_text, key, many_to_many, many_to_one, money, naive,
+        one_to_many, one_to_one, typed, version,
+    ),
+)
 class Entity:
     """An object of an entity. A number of the program is always the same object of Python, as long
     as that is held.
 
     `EntityManagerFactory.entity` gives the class of an entity: calling it makes a new object, and
     its attributes are the entity's members. The class of a subclass is a subclass.
+
+    A class that extends it declares an entity (`classes`). `was` is the name that it had before,
+    one that is `abstract` has no objects and no table, and `dropped` are attributes that it has no
+    more, and that none of its new ones is.
     """
 
     __slots__ = ("_karzhoul_number", "_karzhoul_run", "_karzhoul_shown", "__weakref__")
@@ -43,30 +62,63 @@ class Entity:
     _karzhoul_line: ClassVar[bytes]
     # The place of each member that is no relation among the values.
     _karzhoul_places: ClassVar[Mapping[str, int]] = {}
+    _karzhoul_foresight: ClassVar[Foresight]
     # The attribute that is the key, and the members that are its parts.
     _karzhoul_key: ClassVar[Tuple[str, Sequence[str]]]
 
-    def __init_subclass__(cls) -> None:
-        # It would make objects of the class above, to which its `__init__` isn't applied.
-        if hasattr(cls, "_karzhoul_factory") and "_karzhoul_factory" not in cls.__dict__:
-            raise TypeError(f"{cls.__name__}: the class of an entity takes no subclass of your own")
+    _karzhoul_is_typed: ClassVar[bool] = False
+    # Of a class that declares an entity: its name of before, what it dropped, whether it is
+    # abstract.
+    _karzhoul_said: ClassVar[Optional[Tuple[Optional[str], Sequence[str], bool]]] = None
 
-    def __new__(cls: Type[E], /, **values: Any) -> E:
-        if values:
-            check_names(cls, values)  # Before anything is made.
-        factory = cls._karzhoul_factory
-        made: E = factory.ask_lines(None, [cls._karzhoul_line], cls.__name__)[0]
-        return made
+    def __init_subclass__(
+        cls, *, was: Optional[str] = None, abstract: bool = False, dropped: Sequence[str] = (),
+        **more: Any,
+    ) -> None:
+        super().__init_subclass__(**more)
+        if "_karzhoul_factory" in cls.__dict__:
+            return
+        # It would make objects of the class above, to which its `__init__` isn't applied.
+        if hasattr(cls, "_karzhoul_factory"):
+            raise TypeError(f"{cls.__name__}: the class of an entity takes no subclass of your own")
+        if not cls._karzhoul_is_typed:  # As those of `stubs` are.
+            cls._karzhoul_said = was, dropped, abstract
+            if "__new__" not in cls.__dict__:
+                cls.__new__ = staticmethod(_new_declared)  # type: ignore[assignment]
+
+    if not TYPE_CHECKING:  # To a type checker a class's own `__init__` says what it takes.
+
+        def __new__(cls, /, **values):
+            if values:
+                check_names(cls, values)  # Before anything is made.
+            factory = cls._karzhoul_factory
+            made = factory.ask_object(None, cls._karzhoul_line, cls)
+            assert made is not None
+            return made
 
     def __init__(self, /, **values: Any) -> None:
-        for name, value in values.items():
-            setattr(self, name, value)
+        if self._karzhoul_said is not None:
+            from .classes.binding import fill
+
+            fill(self, values)
+            return
+        for name, value in values.items():  # Whose names are checked.
+            object.__setattr__(self, name, value)
 
     if TYPE_CHECKING:
         # A type checker doesn't know the members.
         def __getattr__(self, name: str) -> Any: ...
 
         def __setattr__(self, name: str, value: Any) -> None: ...
+
+    else:
+
+        def __setattr__(self, name: str, value: object) -> None:
+            try:
+                object.__setattr__(self, name, value)
+            except AttributeError:
+                check_names(type(self), (name,))
+                raise
 
     def __copy__(self: E) -> E:
         return self
@@ -88,6 +140,12 @@ class Entity:
         from .notebook import object_html
 
         return object_html(self)
+
+
+def _new_declared(kind: Type[Entity], *given: Any, **values: Any) -> Any:
+    from .classes.binding import new_of
+
+    return new_of(kind, *given, **values)
 
 
 def check_names(kind: Type[Entity], names: Iterable[str]) -> None:
@@ -132,7 +190,7 @@ class EmbeddedId:
     def _karzhoul_member(self, part: str) -> str:
         """The name of a part as a member of the object."""
         if part in self.__slots__ or part not in self._karzhoul_parts:
-            raise AttributeError(f"an embedded id has no part {part!r}")
+            raise unknown("an embedded id", part, self._karzhoul_parts, "part")
         return f"{self._karzhoul_name}.{part}"
 
     def __reduce__(self) -> Tuple[Any, ...]:
@@ -347,10 +405,6 @@ class Attribute(property):
         self.between = f',"name":{text_spelled(name)},"value":'
 
         def read(it: Entity) -> Any:
-            if place is not None:
-                shown = it._karzhoul_shown
-                is_over = shown.epoch.is_over
-                return (it._karzhoul_factory.values_of(it) if is_over else shown.values)[place]
             return it._karzhoul_factory.get(it, name) if view is None else view(it, name)
 
         def assign(it: Entity, value: Any) -> None:
@@ -359,7 +413,7 @@ class Attribute(property):
             else:
                 view(it, name)._karzhoul_assign(value)
 
-        super().__init__(read, assign)
+        super().__init__(read if place is None else _reader(place), assign)
 
     def line(self, entity: Entity, value: Any) -> bytes:
         """The line that sets it."""
@@ -371,26 +425,39 @@ class Attribute(property):
             raise misfit(fault, f"{type(entity).__name__}.{self.name}", value) from None
 
 
+def _reader(place: int) -> Callable[[Entity], Any]:
+    """What reads the value of this place of an object."""
+
+    def read(it: Entity) -> Any:
+        shown = it._karzhoul_shown
+        if shown.epoch.is_over:
+            return it._karzhoul_factory.values_of(it)[place]
+        return shown.values[place]
+
+    return read
+
+
 def classes_of(
-    factory: EntityManagerFactory, mapping: Mapping[str, Any]
+    factory: EntityManagerFactory, mapping: Mapping[str, Any], binding: Optional[Binding] = None
 ) -> Dict[str, Type[Entity]]:
-    """The class of each entity's objects, by name."""
+    """The class of each entity's objects, by name, with those that a user wrote where there are
+    any."""
     declared = {entity["name"]: entity for entity in mapping["entities"]}
     made: Dict[str, Type[Entity]] = {}
     for name in declared:
-        _make_class(factory, declared, name, made)
+        _make_class(factory, declared, name, made, binding)
     return {name: made[name] for name in declared}
 
 
 def _make_class(
     factory: EntityManagerFactory, declared: Mapping[str, Any], name: str,
-    made: Dict[str, Type[Entity]],
+    made: Dict[str, Type[Entity]], binding: Optional[Binding],
 ) -> Type[Entity]:
     """The class of an entity, which is a subclass of that of the entity that it extends."""
     if name not in made:
         entity = declared[name]
         base: Type[Entity] = (
-            _make_class(factory, declared, entity["extends"], made)
+            _make_class(factory, declared, entity["extends"], made, binding)
             if "extends" in entity
             else Entity
         )
@@ -400,10 +467,15 @@ def _make_class(
         own.update(
             _karzhoul_factory=factory, _karzhoul_places=places,
             _karzhoul_line=line_of("new", {"entity": text_spelled(name)}),
+            _karzhoul_foresight=Foresight(),
         )
         if base is Entity:
             own["_karzhoul_key"] = _key(entity)
-        made[name] = type(name, (base,), own)
+        kind: Any = type
+        bases: Tuple[type, ...] = (base,)
+        if binding is not None:
+            kind, bases, own = binding.bound(name, base, own)
+        made[name] = kind(name, bases, own)
     return made[name]
 
 
@@ -449,11 +521,12 @@ class _Told(NamedTuple):
     # The number of an object that isn't known.
     of: Union[Entity, int]
     ran: Tuple[str, ...] = ()
+    manager: Optional[EntityManager] = None
 
 
 class Event(_Told):
-    """An event of an object's life: its `kind`, the `object`, and the names of the listeners and
-    callbacks that `ran`."""
+    """An event of an object's life: its `kind`, the `object`, the names of the listeners and
+    callbacks that `ran`, and the `manager` whose call told it: None where that was dropped."""
 
     __slots__ = ()
 

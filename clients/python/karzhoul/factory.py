@@ -7,15 +7,16 @@ import os
 import tempfile
 from contextlib import AbstractContextManager, closing, contextmanager, nullcontext, suppress
 from pathlib import Path
+from types import ModuleType
 from typing import (
-    Any, Callable, Iterable, Iterator, List, Mapping, Optional, Sequence, Tuple, Type, TypeVar,
+    TYPE_CHECKING, Any, Callable, Iterable, Iterator, List, Mapping, Optional, Sequence, Tuple, Type, TypeVar,
     Union, overload,
 )
 
 from .arguments import entity_named
 from .begun import Begun
 from .calls import Calls
-from .classes import Classes
+from .kinds import Classes
 from .entities import Attribute, E, Entity, check_names, classes_of
 from .finding import find_program
 from .lines import line_of
@@ -32,17 +33,26 @@ from .retrying import Retry
 from .runs import Run
 from .tally import Statistics
 
+if TYPE_CHECKING:
+    from .classes.binding import Binding
+    from .classes.conversions import Conversions
+
 T = TypeVar("T")
 
 
 def open(
-    mapping: Union[Words, Mapping[str, Any]], db: Optional[Words] = None, *,
+    mapping: Union[Words, Mapping[str, Any], ModuleType, Iterable[Type[Entity]]],
+    db: Optional[Words] = None, *,
     program: Optional[Words] = None, echo: bool = False, threads: bool = False,
-    wait: Optional[float] = 30.0,
+    wait: Optional[float] = 30.0, lock: Union[None, str, Path] = None,
 ) -> EntityManagerFactory:
-    """Starts the program over a mapping (a file, a pipe, or what such a file says) and a database
-    file; without one the store is in memory, and goes with the factory (`memory.MemoryStore`).
-    `":memory:"` is a `ValueError`.
+    """Starts the program over a mapping (a file, a pipe, or what such a file says), or over classes
+    (a list of them or their module), and a database file; without one the store is in memory, and
+    goes with the factory (`memory.MemoryStore`). `":memory:"` is a `ValueError`.
+
+    Classes have their numbers in `karzhoul.lock.json` beside their module, or in the file `lock`.
+    Where they are wrong it is a `DeclarationError`, with the lines, and where the store has what
+    they don't take a `NotBroughtOver` (`classes.changes`).
 
     With `threads` it is for a service of many threads, which goes on for ever. Where 16 managers
     are open, `begin`, `retry` and `create_entity_manager` wait until one is closed, at most `wait`
@@ -57,6 +67,31 @@ def open(
     """
     if db == ":memory:":
         raise ValueError("':memory:' would be a file of that name: leave db out for one in memory")
+    if _are_classes(mapping):
+        from .classes.changes import open_classes
+
+        def start(said: Mapping[str, Any], binding: Optional[Binding]) -> EntityManagerFactory:
+            return _opened(said, db, program, echo, threads, wait, binding)
+
+        return open_classes(mapping, lock, db is None, start)  # type: ignore[arg-type]
+    if lock is not None:
+        raise TypeError("lock= is the file of the numbers of classes, and a mapping has its own")
+    return _opened(mapping, db, program, echo, threads, wait)  # type: ignore[arg-type]
+
+
+def _are_classes(given: object) -> bool:
+    if isinstance(given, type):
+        raise TypeError(f"classes are given in a list, as [{given.__name__}]")
+    return isinstance(given, ModuleType) or (
+        isinstance(given, Iterable) and not isinstance(given, (str, bytes, os.PathLike, Mapping))
+    )
+
+
+def _opened(
+    mapping: Union[Words, Mapping[str, Any]], db: Optional[Words], program: Optional[Words],
+    echo: bool, threads: bool, wait: Optional[float], binding: Optional[Binding] = None,
+) -> EntityManagerFactory:
+    """A factory over a mapping, whose objects are of the classes of a binding."""
     said, faults = _said(mapping)
     word = find_program(program)
     store = _store_in_memory() if db is None else None
@@ -65,7 +100,7 @@ def open(
         # A restart finds the store again wherever the process has gone.
         place = os.path.abspath(db or "") if store is None else str(store.db)
         running = _started(word, said, place, store)
-        app = EntityManagerFactory(running, json.loads(said), echo, store)
+        app = EntityManagerFactory(running, json.loads(said), echo, store, binding)
         if threads:
             app._places = Places(app, wait)
         return app
@@ -138,10 +173,13 @@ class EntityManagerFactory(Calls, AbstractContextManager["EntityManagerFactory"]
 
     def __init__(
         self, program: Program, mapping: Mapping[str, Any], echo: bool = False,
-        store: Optional[MemoryStore] = None,
+        store: Optional[MemoryStore] = None, binding: Optional[Binding] = None,
     ) -> None:
-        """With the store, where it is in memory."""
-        super().__init__(mapping, classes_of(self, mapping), echo)
+        """With the store, where it is in memory, and the classes that a user wrote."""
+        super().__init__(mapping, classes_of(self, mapping, binding), echo)
+        self.binding = binding
+        # What it does to queries, where it has classes.
+        self.conversions: Optional[Conversions] = None
         self._store = store
         # Where it is opened for threads.
         self._places: Optional[Places] = None
@@ -158,6 +196,16 @@ class EntityManagerFactory(Calls, AbstractContextManager["EntityManagerFactory"]
         if self._places is not None:
             self._places.run_begun()
 
+    def bind(self) -> None:
+        """From now on new objects of its classes are its own, and their methods hear of events."""
+        assert self.binding is not None
+        from .classes.conversions import Conversions
+
+        self.conversions = Conversions(self.binding.model)
+        self.binding.find_fast(self.leaves)
+        self.binding.listen(self)
+        self.binding.opened(self)
+
     def __exit__(self, kind: Optional[Type[BaseException]], *_: object) -> None:
         # What the block itself raised is told.
         with suppress(KarzhoulError) if kind else nullcontext():
@@ -168,6 +216,8 @@ class EntityManagerFactory(Calls, AbstractContextManager["EntityManagerFactory"]
         interrupted may take ten seconds more. Within another call of its thread, as of a handler of
         a signal, it ends the program at once, and that call is `ProgramEnded`."""
         with self._lock:
+            if self.binding is not None:
+                self.binding.closed(self)
             if self._is_within():  # The call that waits is told of the end.
                 self.program.stop()
                 return
@@ -285,6 +335,7 @@ class EntityManagerFactory(Calls, AbstractContextManager["EntityManagerFactory"]
                 members = {"em": str(number)}
                 with suppress(KarzhoulError):
                     self.ask_lines(run, [line_of("rollback", members), line_of("close", members)])
+                run.opened.pop(number, None)
                 self._left.remove((run, number))
 
     def begin(self) -> Begun:
@@ -392,7 +443,9 @@ class EntityManagerFactory(Calls, AbstractContextManager["EntityManagerFactory"]
         run, kind = self._run_of(objects[0]), type(objects[0])
         place = kind._karzhoul_places.get(name)
         if place is not None and all(type(it) is kind for it in objects):
-            return [values[place] for values in self._values(run, objects)]
+            found = [values[place] for values in self._values(run, objects)]
+            value = getattr(getattr(kind, name, None), "value", None)
+            return found if value is None else list(map(value, found))
         target = getattr(getattr(kind, name, None), "target", "")
         return self.ask_lines(run, [run.get_line(entity, name) for entity in objects], target)
 
@@ -424,6 +477,10 @@ class EntityManagerFactory(Calls, AbstractContextManager["EntityManagerFactory"]
     def set(self, entity: Entity, name: str, value: Any) -> None:
         """Sets a member."""
         run = self._run_of(entity)
+        if self.binding is not None and isinstance(attribute := getattr(type(entity), name, None),
+                                                   Attribute) and not attribute.is_viewed:
+            self.tell(run, attribute.line(entity, value))
+            return
         self.tell(run, run.set_line(entity, name, value))
 
     def add(self, entity: Entity, name: str, member: Entity) -> None:

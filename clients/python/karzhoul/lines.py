@@ -73,6 +73,8 @@ OWN_CALLS: Dict[str, Sequence[str]] = {
 OPTIONAL = {"params", "first", "max"}
 """The members that may be left out."""
 
+# The integers that there are.
+LEAST, GREATEST = -(2**63), 2**63 - 1
 # A text as JSON.
 text_spelled: Callable[[str], str] = getattr(json.encoder, "encode_basestring")
 
@@ -80,7 +82,7 @@ text_spelled: Callable[[str], str] = getattr(json.encoder, "encode_basestring")
 def spelled(value: Any) -> str:
     """A value as JSON: None, an int of 64 bits, a str or bytes; anything else is a `TypeError` or
     an `OverflowError`."""
-    if type(value) is int and -(2**63) <= value < 2**63:
+    if type(value) is int and LEAST <= value <= GREATEST:
         return str(value)
     if isinstance(value, str):
         return text_spelled(value)
@@ -91,7 +93,7 @@ def spelled(value: Any) -> str:
             f"a value is None, an int, a str, bytes or an object of an entity, and no "
             f"{type(value).__name__}"
         )
-    if value is not None and not -(2**63) <= value < 2**63:
+    if value is not None and not LEAST <= value <= GREATEST:
         raise OverflowError(f"{value} is no integer of 64 bits")
     return "null" if value is None else str(int(value))
 

@@ -4,7 +4,8 @@ from __future__ import annotations
 
 from contextlib import AbstractContextManager
 from typing import (
-    TYPE_CHECKING, Any, FrozenSet, Iterable, Iterator, List, Optional, Type, Union, overload,
+    TYPE_CHECKING, Any, Dict, FrozenSet, Iterable, Iterator, List, Optional, Tuple, Type, Union,
+    overload,
 )
 from weakref import ref
 
@@ -12,7 +13,9 @@ from .concern import Concern
 from .entities import E, EmbeddedId, Entity
 from .fetching import fetched
 from .interrupts import begin_of_block, carried_out, end_of_block, guard, unguard
-from .lines import FlushModeType, LockModeType, line_of, spelled, text_spelled
+from .lines import (
+    GREATEST, LEAST, FlushModeType, LifecycleEvent, LockModeType, line_of, spelled, text_spelled,
+)
 from .misfits import misfit
 from .pending import Due, Pending
 from .queries import Queries
@@ -25,9 +28,15 @@ if TYPE_CHECKING:
     from .runs import Run
 
 _LOST = (
-    "a manager is closed that was told to persist or to remove outside of a transaction, and no "
-    "commit came since: that is not stored"
+    "a manager is closed with what was done outside of a transaction, and no commit came since: "
+    "that is not stored: {}"
 )
+_DUE = {
+    LifecycleEvent.PRE_PERSIST: "persisted", LifecycleEvent.PRE_REMOVE: "removed",
+    LifecycleEvent.PRE_UPDATE: "changed",
+}
+# So many objects are named.
+_NAMED = 5
 
 
 class EntityManager(Queries, AbstractContextManager["EntityManager"]):
@@ -39,9 +48,13 @@ class EntityManager(Queries, AbstractContextManager["EntityManager"]):
         self.factory, self.number, self._place = run.factory, number, place
         place.manager = ref(self)
         self._run, self._em = run, str(number)
+        self._bytes = self._em.encode()
         self._transaction = EntityTransaction(self)
         self._pending, self._mode = Pending(self), FlushModeType.AUTO
-        self._concern = Concern(run.made)
+        self._concern = self._new_concern()
+        # Whether it is closed as its transaction ends.
+        self._is_settled = False
+        run.opened[number] = ref(self)
 
     @begin_of_block
     def __enter__(self) -> EntityManager:
@@ -97,6 +110,12 @@ class EntityManager(Queries, AbstractContextManager["EntityManager"]):
 
     def find(self, entity: Union[str, Type[Entity]], key: Any) -> Any:
         """The object of this key, or None; a key of several parts is a tuple."""
+        known = self.factory.leaves.get(entity)
+        if known is not None and type(key) is int and LEAST <= key <= GREATEST:
+            # As below, in less time.
+            name, kind = known
+            line = b'{"call":"find","em":%b,"entity":%b,"key":[%d]}' % (self._bytes, name, key)
+            return self.factory.ask_found(self._run, line, kind, self._bytes)
         return self._by_key("find", entity, (key,))[0]
 
     @overload
@@ -125,6 +144,9 @@ class EntityManager(Queries, AbstractContextManager["EntityManager"]):
         name = entity if isinstance(entity, str) else entity.__name__
         front = f'{{"call":"{call}","em":{self._em},"entity":{text_spelled(name)},"key":'
         keys = list(keys)
+        binding = self.factory.binding
+        if binding is not None:
+            keys = binding.keys(name, keys)
         try:
             lines = [f"{front}{self._key(key)}}}".encode() for key in keys]
         except (TypeError, OverflowError, UnicodeEncodeError) as fault:
@@ -164,6 +186,8 @@ class EntityManager(Queries, AbstractContextManager["EntityManager"]):
     def detach(self, entity: Entity) -> None:
         """Takes an object out of the context."""
         self._tell_on("detach", entity)
+        self._concern.let_go.add(entity._karzhoul_number)
+        self._run.refused.get(self.number, {}).pop(entity._karzhoul_number, None)
 
     def _tell_on(self, call: str, entity: Entity, more: str = "") -> None:
         run, number = self._run, self._run.number(entity)
@@ -186,6 +210,7 @@ class EntityManager(Queries, AbstractContextManager["EntityManager"]):
         where there is none, and is the answer; the object itself stays as it is. What the object
         leads to goes along where MERGE cascades. `OptimisticLock` where its version isn't the
         one that stands."""
+        self._concern.has_merged = True
         image: E = self._ask("merge", object=self._run.number(entity))
         return image
 
@@ -203,7 +228,16 @@ class EntityManager(Queries, AbstractContextManager["EntityManager"]):
     def clear(self) -> None:
         """Takes all objects out of the context."""
         self.factory.tell(self._run, line_of("clear", {"em": self._em}))
-        self._concern = Concern(self._run.made)
+        self._run.refused.pop(self.number, None)
+        self._run.merged.pop(self.number, None)
+        self._concern = self._new_concern()
+
+    def _new_concern(self, sets: Optional[int] = None) -> Concern:
+        return Concern(self._run.made, self._sets() if sets is None else sets)
+
+    def _sets(self) -> int:
+        """How often an object was set that may be its own."""
+        return self._run.known.sets_of(self._bytes)
 
     def flush(self) -> None:
         """Writes what has changed into the transaction. What a callback raises that runs before
@@ -224,18 +258,86 @@ class EntityManager(Queries, AbstractContextManager["EntityManager"]):
         self._mode = FlushModeType(mode)
 
     def close(self) -> None:
-        """Ends the manager, which owns no open transaction. What was persisted or removed outside
-        of a transaction, and in none since, is lost then: a `RuntimeWarning` says so."""
+        """Ends the manager, which owns no open transaction. What was persisted, removed, merged or
+        set outside of a transaction, and in none since, is lost then: a `RuntimeWarning` says so,
+        and names it."""
         try:
+            self.factory.tell_kept()
+            lost = self._lost()
             self._ask("close")
         except (NoSuchManager, ProgramEnded, Restarted):  # It is gone already.
             self._give_place_back()
             raise
         self._give_place_back()
-        if self._concern.persisted or self._concern.removed:
-            warn(_LOST, RuntimeWarning)
+        if lost:
+            warn(_LOST.format(lost), RuntimeWarning)
+
+    def _lost(self) -> str:
+        """What a close loses, in words."""
+        told, run = self._concern, self._run
+        if self._transaction.is_active:  # Then it is refused.
+            return ""
+        named: Dict[str, None] = {}
+        try:
+            is_touched = told.has_merged or run.known.sets_of(self._bytes) != told.sets
+            done, refused = self._told(), ""
+            if is_touched and not self._is_settled:
+                due, refused = self._due(any(numbers for _, numbers in done))
+                done += due
+            for word, numbers in done:
+                for entity in self.factory.objects(run, numbers[: _NAMED + 1]):
+                    named[f"{entity!r} was {word}"] = None
+        except KarzhoulError:  # The manager is gone, or its program.
+            return ""
+        words = list(named)
+        words += [refused] if refused else []
+        more = ", and more" if len(words) > _NAMED else ""
+        return ", ".join(words[:_NAMED]) + more
+
+    def _told(self) -> List[Tuple[str, List[int]]]:
+        """What it was told to persist, to remove and to merge, as far as that still stands."""
+        told, kinds = self._concern, self._run.kinds
+        merged = self._run.merged.get(self.number, [])
+        numbers = list(dict.fromkeys([*told.persisted, *told.removed, *merged]))
+        front = f'{{"call":"contains","em":{self._em},"object":'
+        lines = [f"{front}{number}}}".encode() for number in numbers]
+        answers = self.factory.ask_lines(self._run, lines) if lines else ()
+        held = {number for number, is_held in zip(numbers, answers) if is_held}
+        # What is new since was stored by none, and removing it loses nothing.
+        removed = [
+            number
+            for number in told.removed
+            if number not in held and number not in told.let_go
+            and (number <= told.since or kinds.was_loaded(number))
+        ]
+        return [
+            ("persisted", [number for number in told.persisted if number in held]),
+            ("removed", removed), ("merged", [number for number in merged if number in held]),
+        ]
+
+    def _due(self, is_told: bool) -> Tuple[List[Tuple[str, List[int]]], str]:
+        """What a flush would do to the manager's objects, and the number of each; in words why it
+        is refused, where it comes to nothing of what was changed and nothing else is told. A
+        transaction that an interrupt left is open already."""
+        try:
+            _, told = self._quietly("begin", "pending")
+            flushed = None if told or is_told else self._quietly("flush")[0]
+        finally:
+            self._quietly("rollback")
+        if isinstance(told, Refused):
+            raise told
+        due = [(_DUE[LifecycleEvent(kind)], [number]) for kind, number in told]
+        is_refused = isinstance(flushed, Refused)
+        return due, f"what was set, since a flush of it is refused: {flushed}" if is_refused else ""
+
+    def _quietly(self, *calls: str) -> List[Any]:
+        """What calls answer that nobody hears of."""
+        lines = [line_of(call, {"em": self._em}) for call in calls]
+        return self.factory.ask_lines(self._run, lines, is_quiet=True)
 
     def _give_place_back(self) -> None:
+        self._run.opened.pop(self.number, None)
+        self._run.transaction_over(self.number)
         if self.factory._places is not None:
             self.factory._places.give_back(self._place)
 

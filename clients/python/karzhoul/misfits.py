@@ -39,10 +39,12 @@ def _texts(value: Any) -> Iterator[str]:
             yield from _texts(each)
 
 
-def unknown(kind: str, name: str, known: Iterable[str]) -> AttributeError:
+def unknown(
+    kind: str, name: str, known: Iterable[str], sort: str = "attribute"
+) -> AttributeError:
     """A name that is no attribute of a class, with the one that is meant."""
     from .arguments import meant
 
     names = list(known)
     near = meant(name, names) or f"; it has {', '.join(names)}"
-    return AttributeError(f"{kind} has no attribute {name!r}{near}")
+    return AttributeError(f"{kind} has no {sort} {name!r}{near}")

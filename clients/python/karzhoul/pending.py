@@ -93,4 +93,4 @@ class Pending:
         for (kind, number), entity in zip(due, objects):
             if (kind, number) not in ran:
                 ran.add((kind, number))
-                yield Event(LifecycleEvent(kind), entity, ())
+                yield Event(LifecycleEvent(kind), entity, (), self._manager)

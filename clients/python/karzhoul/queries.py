@@ -236,7 +236,11 @@ class _Asked(NamedTuple):
     ) -> bytes:
         """The line that asks it, by another text where one is given, and with more parameters."""
         has_params = self.given is not None or bool(more)
-        said, values = with_lists(text or self.text, {**(self.given or {}), **(more or {})})
+        said, values = text or self.text, {**(self.given or {}), **(more or {})}
+        conversions = self.manager.factory.conversions
+        if conversions is not None:
+            said, values = conversions.stored(said, values)
+        said, values = with_lists(said, values)
         members = {"em": self.manager._em, "text": text_spelled(said)}
         if has_params:
             members["params"] = f"{{{','.join(_listed(self.manager._run, values))}}}"
@@ -248,9 +252,14 @@ class _Asked(NamedTuple):
             told = {f"the parameter {name!r}": value for name, value in values.items()}
             raise misfit_of(fault, {**told, "the query": said}) from None
 
-    def answers(self, lines: List[bytes], is_one: bool = False) -> List[Any]:
-        """The answers to its lines: the first has rows, or one, with an item of its class."""
+    def answers(self, lines: List[bytes], is_one: bool = False, text: str = "") -> List[Any]:
+        """The answers to its lines: the first has rows, or one, with an item of its class. With the
+        text, where it is another one."""
         answers = self._asked(lines)
+        conversions = self.manager.factory.conversions
+        if conversions is not None:
+            rows = conversions.values(text or self.text, answers[:1] if is_one else answers[0])
+            answers[0] = rows[0] if is_one else rows
         if self.wanted is not None:
             for row in [answers[0]] if is_one else answers[0]:
                 _require_class(row, self.wanted)
@@ -292,7 +301,7 @@ def _iterated(asked: _Asked, query: ByKey, size: int) -> Iterator[Any]:
     is_end = False
     while not is_end:
         text, more = query.part(last)
-        found = asked.answers([asked.line("query", None, most, text, more)])[0]
+        found = asked.answers([asked.line("query", None, most, text, more)], text=text)[0]
         is_end = len(found) < most
         if query.has_groups and not is_end:
             # The rows of an object come together, and the last one's may go on.

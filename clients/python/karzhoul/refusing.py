@@ -14,7 +14,7 @@ if TYPE_CHECKING:
     from .runs import Run
 
 _WRITTEN = {"PostPersist", "PostUpdate", "PostRemove"}
-_COMMIT = b'{"call":"commit"'
+_COMMIT, _MERGE = b'{"call":"commit"', b'{"call":"merge"'
 _MANAGER = re.compile(rb'"em":([0-9]+)')
 
 
@@ -50,9 +50,12 @@ def _say(refused: Refused) -> None:
 
 def note_written(run: Run, line: bytes, events: Iterable[Sequence[Any]]) -> None:
     """Notes what a manager's flush has written or dropped, as that of a query, since the refusal of
-    a later call of its transaction may be about it."""
+    a later call of its transaction may be about it; and what a merge has made."""
     if line.startswith(_COMMIT):  # The transaction is over.
         return
+    if line.startswith(_MERGE) and (found := _MANAGER.search(line)):
+        made = [event[1] for event in events if event[0] == "PrePersist"]
+        run.merged.setdefault(int(found[1]), []).extend(made)
     numbers = [event[1] for event in events if event[0] in _WRITTEN]
     if numbers and (found := _MANAGER.search(line)):
         run.written.setdefault(int(found[1]), {}).update(dict.fromkeys(numbers))

@@ -6,7 +6,7 @@ import json
 import os
 import re
 from contextlib import suppress
-from typing import Any, Dict, List, Optional
+from typing import Any, Dict, List, Optional, Tuple
 
 # What stands between the numbers of replies that are an object each, and no event.
 _BETWEEN = b'}}\n{"events":[],"ok":{"object":'
@@ -16,9 +16,16 @@ _LOADED = b'["PostLoad",'
 # The replies to a line that answers null and tells no event.
 NULL = [b'{"events":[],"ok":null}']
 _OBJECT = re.compile(rb'\{"object":([0-9]+)\}')
-_LOADED_ONE = re.compile(
-    rb'\{"events":\[\["PostLoad",([0-9]+)\]\],"ok":\{"object":([0-9]+)\}\}'
+_ONE = re.compile(
+    rb'\{"events":\[(?:\["PostLoad",([0-9]+)\])?\],"ok":\{"object":([1-9][0-9]*)\}\}'
 ).fullmatch
+# What stands before and behind the values of one object, when no member of them is an object.
+_VALUES, _VALUES_END = b'"values":[', b"]}]}"
+_ENTITY = b'{"entity":"'
+_SHOWN = b'{"events":[],"ok":[' + _ENTITY
+# What stands before, between and behind the numbers of rows that were loaded, as they are told.
+_LOADS, _LOADS_BETWEEN = b'{"events":[["PostLoad",', b'],["PostLoad",'
+_ROWS, _ROWS_BETWEEN, _ROWS_END = b']],"ok":[{"object":', b'},{"object":', b"}]}"
 _decode = json.JSONDecoder().raw_decode
 # Where the code is that reads replies.
 _READERS = {os.path.dirname(__file__), os.path.dirname(json.__file__)}
@@ -53,11 +60,69 @@ def numbers_of(replies: List[bytes]) -> Optional[List[int]]:
     return list(map(int, pieces))
 
 
-def loaded_in(reply: bytes) -> Optional[int]:
-    """The number of the one object that a reply is, and that was loaded for it; None where it is
-    anything else, or tells more."""
-    found = _LOADED_ONE(reply)
-    return int(found[1]) if found is not None and found[1] == found[2] else None
+def rows_of_values_in(
+    replies: List[bytes], count: int
+) -> Optional[Tuple[str, List[List[Any]]]]:
+    """The entity of so many objects and the values of each, as replies tell them in their order,
+    where all have the same entity and the same relations; None where they are any other ones, or
+    bytes are among the values."""
+    at = replies[0].find(_VALUES) + len(_VALUES)
+    front = replies[0][:at]
+    rows = []
+    for reply in replies:
+        is_alike = reply.startswith(front) and reply.endswith(_VALUES_END)
+        if not is_alike or b'{"hex"' in reply:
+            return None
+        rows.append(reply[at : -len(_VALUES_END)])
+    # No value has what stands between two objects, since a quote within a text is escaped.
+    between = b"]}," + front[len(_SHOWN) - len(_ENTITY) :]
+    said = between.join(rows)
+    if not front.startswith(_SHOWN) or said.count(between) != count - 1:
+        return None
+    entity = front[len(_SHOWN) : front.find(b'"', len(_SHOWN))].decode()
+    return entity, _decode(f"[[{said.replace(between, b'],[').decode()}]]")[0]
+
+
+def object_in(reply: bytes) -> Tuple[bool, int]:
+    """Whether the one object that a reply is was loaded for it, and its number; 0 where the reply
+    is anything else, or tells more."""
+    found = _ONE(reply)
+    if found is None:
+        return False, 0
+    loaded, number = found.groups()
+    if loaded is None:
+        return False, int(number)
+    return (True, int(number)) if loaded == number else (False, 0)
+
+
+def values_in(reply: bytes) -> Optional[List[Any]]:
+    """The values that a reply tells of one object, as JSON has them; None where it is any other
+    one, or bytes are among them."""
+    at = reply.find(_VALUES) + len(_VALUES) - 1
+    is_plain = reply.startswith(_SHOWN) and reply.endswith(_VALUES_END)
+    if not is_plain or reply.find(b'{"hex"', at) >= 0:
+        return None
+    values: List[Any] = _decode(reply[at:].decode())[0]
+    return values
+
+
+def loaded_in(reply: bytes) -> Optional[List[int]]:
+    """The numbers of the objects that are the rows of a reply, where all of them were loaded for
+    it, each once, with numbers that follow each other; None where it is any other one."""
+    loaded, rows, ended = reply.partition(_ROWS)
+    if not rows or not loaded.startswith(_LOADS) or not ended.endswith(_ROWS_END):
+        return None
+    told = ended[: -len(_ROWS_END)].split(_ROWS_BETWEEN)
+    if not b"".join(told).isdigit():
+        return None
+    numbers = list(map(int, told))
+    following = numbers
+    if loaded[len(_LOADS) :] != _LOADS_BETWEEN.join(told):  # Their order may be another one.
+        following = sorted(numbers)
+        if loaded[len(_LOADS) :] != _LOADS_BETWEEN.join([b"%d" % number for number in following]):
+            return None
+    is_whole = following == list(range(following[0], following[0] + len(following)))
+    return numbers if is_whole else None
 
 
 def said_of(reply: bytes) -> Dict[str, Any]:

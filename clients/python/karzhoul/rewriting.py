@@ -29,7 +29,7 @@ def read(text: str) -> Optional[Statement]:
         return None
 
 
-class _Edits:
+class Edits:
     """Changes of a text, by the places of its characters."""
 
     def __init__(self, text: str) -> None:
@@ -61,7 +61,7 @@ def with_lists(text: str, given: Mapping[str, Any]) -> Tuple[str, Dict[str, Any]
     tests = [node for node in nodes if node.sort == "in" and _lists_of(node, lists)]
     _must_stand_in(tests, nodes, lists)
     names = _names_of(lists, {*given, *(node.said for node in nodes if node.sort == "parameter")})
-    edits = _Edits(text)
+    edits = Edits(text)
     for test in tests:
         edits.replace(*_listed(text, test, names))
     values = {name: value for each in lists for name, value in zip(names[each], lists[each])}

@@ -242,4 +242,6 @@ def as_row(row: Any, names: Names) -> Any:
 
 def as_rows(rows: Sequence[Any], names: Names) -> List[Any]:
     """The rows of a reply."""
-    return [as_row(row, names) for row in rows]
+    if rows and isinstance(rows[0], list):  # As all others are then.
+        return [Row(row, names) for row in rows]
+    return rows if isinstance(rows, list) else list(rows)

@@ -4,28 +4,34 @@ have their numbers in one run alone."""
 from __future__ import annotations
 
 import json
+from collections import deque
+from itertools import repeat
 from typing import (
-    TYPE_CHECKING, Any, Container, Dict, FrozenSet, Iterable, List, Mapping, Optional, Sequence,
-    Tuple, Type, Union,
+    TYPE_CHECKING, Any, Container, Deque, Dict, FrozenSet, Iterable, List, Mapping, Optional,
+    Sequence, Tuple, Type, Union,
 )
 from weakref import ref
 
-from .classes import Classes
-from .entities import Entity, Event
+from .kinds import Classes
+from .entities import E, Entity, Event
 from .lines import LifecycleEvent, spelled, text_spelled
 from .misfits import misfit
 from .refusals import BadLine, NotServed, Refused, Restarted
 from .refusing import note_written, refusal_told
-from .replies import loaded_in, objects_in, said_of
-from .shown import OVER, Known, Owner, Shown
+from .replies import object_in, objects_in, rows_of_values_in, said_of, values_in
+from .shown import OVER, VALUES, Epoch, Known, Owner, Shown
 
 if TYPE_CHECKING:
     from .factory import EntityManagerFactory
+    from .managers import EntityManager
 
 EVENTS = {kind.value: kind for kind in LifecycleEvent}
 _set_number = Entity.__dict__["_karzhoul_number"].__set__
 _set_run = Entity.__dict__["_karzhoul_run"].__set__
 _set_shown = Entity.__dict__["_karzhoul_shown"].__set__
+# Does all that an iterator does.
+_nothing: Deque[object] = deque(maxlen=0)
+_done = _nothing.extend
 # So many objects are asked for by one line.
 _AT_ONCE = 1000
 
@@ -39,16 +45,24 @@ class Run:
     """
 
     __slots__ = (
-        "factory", "kinds", "known", "marked", "written", "managers", "loaded", "_told", "_shown",
-        "_objects", "_most",
+        "factory", "kinds", "known", "marked", "refused", "written", "merged", "managers", "opened",
+        "loaded", "_told", "_shown", "_objects", "_most",
     )
 
     def __init__(self, factory: EntityManagerFactory, kinds: Classes) -> None:
         self.factory, self.kinds = factory, kinds
         # The first refusal of each manager's transaction that marked it, by the manager's number.
         self.marked: Dict[int, Tuple[str, str]] = {}
-        # The numbers of the objects that flushes of each manager's open transaction wrote or dropped,
-        # by the manager's number, as far as that was read.
+        # What callbacks refused outside of a transaction: the objects by their numbers, with what
+        # was raised and the line of the call; by the manager's number.
+        self.refused: Dict[int, Dict[int, Tuple[str, str]]] = {}
+        # The numbers of the objects that merges of each manager have made since its last
+        # transaction, or in the open one.
+        self.merged: Dict[int, List[int]] = {}
+        # The managers that are open, by their numbers.
+        self.opened: Dict[int, ref[EntityManager]] = {}
+        # The numbers of the objects that flushes of each manager's open transaction wrote or
+        # dropped, by the manager's number, as far as that was read.
         self.written: Dict[int, Dict[int, None]] = {}
         # How many managers it has made, as far as they were created by the factory.
         self.managers: Optional[int] = None
@@ -76,7 +90,9 @@ class Run:
     def transaction_over(self, manager: int) -> None:
         """Lets go what is known of the transaction of a manager of this number."""
         self.marked.pop(manager, None)
+        self.refused.pop(manager, None)
         self.written.pop(manager, None)
+        self.merged.pop(manager, None)
 
     # ---- the numbers of objects
 
@@ -112,7 +128,7 @@ class Run:
     def values_lines(numbers: Sequence[int]) -> List[bytes]:
         """The lines that ask for the values of objects, in their order."""
         if len(numbers) == 1:
-            return [b'{"call":"values","objects":[%d]}' % numbers[0]]
+            return [VALUES % numbers[0]]
         return [
             b'{"call":"values","objects":[%b]}'
             % ",".join(map(str, numbers[start : start + _AT_ONCE])).encode()
@@ -150,17 +166,34 @@ class Run:
         known = held() if held else None
         return self._made(number, kind) if known is None else known
 
-    def loaded_one(self, line: bytes, reply: bytes, kind: Type[Entity]) -> Optional[Entity]:
-        """The object that a line has loaded, of this class where its own isn't known; None where
-        the reply is any other one."""
-        number = loaded_in(reply)
-        if number is None:
+    def one(self, reply: bytes, kind: Type[E], manager: bytes) -> Optional[E]:
+        """The object that a reply is, of this class where its own isn't known, and that may have
+        been loaded by the manager of this number; None where the reply is any other one."""
+        loaded, number = object_in(reply)
+        if loaded:
+            kind = self.kinds.load(number, kind)
+            known = self._held(number)  # Where a handler of a signal has come between.
+            if known is None:
+                return self._new(number, kind, self.known.owner_of(manager).unread)
+            return known  # type: ignore[return-value]
+        return self.object(number, kind) if number else None  # type: ignore[return-value]
+
+    def one_shown(
+        self, replies: Sequence[bytes], kind: Type[E], places: Dict[int, Shown]
+    ) -> Optional[E]:
+        """The object of this one number that a reply is, and that was loaded for it, with the
+        values that another reply tells of it; None where they are any other ones."""
+        loaded, number = object_in(replies[0])
+        place = places.get(number)
+        if place is None or not loaded:
             return None
-        self.kinds.load(number, kind)
-        self.loaded = {number: self.known.owner(line)}
-        found = self.object(number)
-        self.loaded = {}
-        return found
+        values, held = values_in(replies[1]), self._objects.get(number)
+        if values is None or (held is not None and held() is not None):
+            return None
+        place.values = values
+        made = self._new(number, self.kinds.load(number, kind), place)
+        self.known.have(places)
+        return made
 
     def held(self) -> List[Entity]:
         """The objects that are held."""
@@ -176,19 +209,28 @@ class Run:
         own = self.kinds.settled(number, kind)
         if own is None:
             raise LookupError(f"the class of object #{number} isn't known")
-        made = object.__new__(own)
-        _set_number(made, number)
-        _set_run(made, self)
         shown = self._shown.get(number)
         if shown is None:
             owner = self.loaded.get(number, self.known.anyone)
             shown = owner.unread if len(self._told) < 2 else Shown(OVER, owner, self._told)
+        return self._new(number, own, shown)
+
+    def _new(self, number: int, kind: Type[E], shown: Shown) -> E:
+        """A new object of Python."""
+        made = object.__new__(kind)
+        _set_number(made, number)
+        _set_run(made, self)
         _set_shown(made, shown)
         self._objects[number] = ref(made)
         if len(self._objects) > self._most:
+            self._clear()
+        return made
+
+    def _clear(self) -> None:
+        """Lets go the objects that aren't held, where there are many."""
+        if len(self._objects) > self._most:
             self._objects = {number: held for number, held in self._objects.items() if held()}
             self._most = 1000 + 2 * len(self._objects)
-        return made
 
     # ---- replies
 
@@ -239,6 +281,56 @@ class Run:
         self._shown = places
         return None
 
+    def show_one(
+        self, entity: Entity, lines: Sequence[bytes], replies: Sequence[bytes],
+        places: Dict[int, Shown],
+    ) -> Optional[Refused]:
+        """Takes in the reply to a line that asks for the values of an object, as `show` and `done`
+        do."""
+        refused = None
+        values = values_in(replies[0])
+        if values is None:
+            refused = self.show(lines, replies, places)
+            self._shown = {}
+        else:
+            place = places[entity._karzhoul_number]
+            place.values = values
+            _set_shown(entity, place)
+        self.known.have(places)
+        return refused
+
+    def rows_shown(
+        self, numbers: Sequence[int], replies: List[bytes], owner: Owner, epoch: Epoch, turn: int
+    ) -> Optional[List[Entity]]:
+        """The objects of rows that were loaded, of which none was made before, with their values of
+        an epoch, as one reply tells them all; None where that is any other one, or another call
+        than the one of this turn was made since."""
+        found = rows_of_values_in(replies, len(numbers))
+        first = min(numbers)
+        if found is None or first <= self.made:
+            return None
+        entity, rows = found
+        kind = self.factory._classes[entity]
+        # As `_new` and `Shown` do, in less time.
+        new_shown = Shown.__new__
+        places: List[Shown] = []
+        for values in rows:
+            place = new_shown(Shown)
+            place.epoch, place.owner, place.group, place.values = epoch, owner, (), values
+            places.append(place)
+        new = object.__new__
+        made: List[Entity] = [new(kind) for _ in numbers]
+        _done(map(_set_number, made, numbers))
+        _done(map(_set_run, made, repeat(self)))
+        _done(map(_set_shown, made, places))
+        items, keep = zip(numbers, [ref(it) for it in made]), self._objects.update
+        if self.factory._turn != turn:  # A handler of a signal may have some of them.
+            return None
+        keep(items)
+        self.kinds.load_rows(first, len(numbers), kind)
+        self._clear()
+        return made
+
     def done(self, places: Dict[int, Shown]) -> None:
         """All replies are read for which these values were. Those of the other objects in them are
         read together, once one of them is asked for."""
@@ -281,25 +373,32 @@ class Run:
         answer = said["ok"]
         if reply.count(b"{") > 1:
             answer = self._found(answer)
-        return answer, self.events(said, heard) if heard else ()
+        return answer, self.events(line, said, heard) if heard else ()
 
     def _refusal(self, line: bytes, said: Mapping[str, Any], bad_line: Type[BadLine]) -> Refused:
         if "error" not in said:
             raise ValueError(f"{json.dumps(said)[:100]!r} is no reply")
-        return refusal_told(self, said["error"], self.events(said), line, bad_line)
-
+        return refusal_told(self, said["error"], self.events(line, said), line, bad_line)
 
     def events(
-        self, said: Mapping[str, Any], heard: Container[str] = EVENTS
+        self, line: bytes, said: Mapping[str, Any], heard: Container[str] = EVENTS
     ) -> Tuple[Event, ...]:
-        """The events of these kinds that a reply tells."""
+        """The events of these kinds that the reply to a line tells."""
         events = [event for event in said["events"] if EVENTS[event[0]].value in heard]
-        return tuple([self.event(*event) for event in events])
+        manager = self._manager(self.known.owner(line).manager) if events else None
+        return tuple([self._event(manager, *event) for event in events])
 
-    def event(self, name: str, number: int, *ran: str) -> Event:
+    def _event(
+        self, manager: Optional[EntityManager], name: str, number: int, *ran: str
+    ) -> Event:
         """The event of an object, as a reply tells it."""
         of: Union[Entity, int] = number if self.kinds[number] is None else self.object(number)
-        return Event(EVENTS[name], of, ran)
+        return Event(EVENTS[name], of, ran, manager)
+
+    def _manager(self, number: int) -> Optional[EntityManager]:
+        """The manager of a number, as long as it is open."""
+        held = self.opened.get(number)
+        return None if held is None else held()
 
     def _found(self, answer: Any) -> Any:
         """What an answer says: values, bytes, and objects."""

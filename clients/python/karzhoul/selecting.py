@@ -35,6 +35,8 @@ language. Nothing is changed: a store of revision 1 is opened before it is asked
 revision 2. A program without --query opens it itself, and brings it over."""
 _PARAM = """the value of a parameter, :NAME or ?NAME in the text: n=7, name=Ada, n=null,
 code="7" for a text of digits, scan={"hex":"0aff"} for bytes"""
+_LANGUAGE = """the language of the SELECT: the profile's, or wide, which has UPPER, LOWER and TRIM
+besides; older programs have the profile's alone"""
 
 
 def add_command(commands: Any, takes: List[argparse.ArgumentParser]) -> None:
@@ -50,6 +52,7 @@ def add_command(commands: Any, takes: List[argparse.ArgumentParser]) -> None:
     )
     asked.add_argument("--mapping", help="the mapping file (else mapping.json)")
     asked.add_argument("--param", action="append", default=[], metavar="NAME=VALUE", help=_PARAM)
+    asked.add_argument("--language", choices=("profile", "wide"), default="profile", help=_LANGUAGE)
     form = asked.add_mutually_exclusive_group()
     form.add_argument("--json", action="store_true", help="each row as a line of JSON")
     form.add_argument("--csv", action="store_true", help="CSV, with a row of names")
@@ -165,10 +168,11 @@ class _Query:
         self._mapping, self._data, self._db, self._text = said.mapping, data, said.db, said.text
         self._program = find_program(said.program)
         self._params = dict(map(_param, said.param))
+        self._is_wide = said.language == "wide"
 
     def rows(self) -> Iterator[Any]:
         """The rows as JSON says them; a `Refused` where it is refused."""
-        if not self._takes_queries:
+        if not self._takes("--query") and not self._is_wide:
             yield from self._rows_by_calls()
             return
         for line in self.lines():
@@ -176,22 +180,30 @@ class _Query:
 
     def lines(self, *more: str) -> Iterator[str]:
         """What the program prints, line by line."""
-        if not self._takes_queries:
+        if self._is_wide and not self._takes("--language"):
+            raise KarzhoulError(
+                f"{self._program} is an older program, which has the language of the profile alone"
+            )
+        if not self._takes("--query"):
             raise KarzhoulError(f"{self._program} is an older program, which tells no plans")
         with _as_file(self._mapping, self._data) as mapping:
             words = [self._program, "--mapping", mapping, "--db", os.path.abspath(self._db)]
             words += ["--query", self._text]
             for name, value in self._params.items():
                 words += ["--param", f"{name}={_json(value)}"]
+            words += ["--language", "wide"] if self._is_wide else []
             yield from _printed([*words, *more])
 
+    def _takes(self, option: str) -> bool:
+        """Whether the program takes an option, as its help says."""
+        return option in self._help
+
     @cached_property
-    def _takes_queries(self) -> bool:
-        """Whether the program takes a query in its words, as its help says."""
+    def _help(self) -> str:
         told = subprocess.run(
             [self._program, "--help"], stdin=subprocess.DEVNULL, capture_output=True, timeout=60
         )
-        return b"--query" in told.stdout
+        return told.stdout.decode(errors="replace")
 
     def _rows_by_calls(self) -> Iterator[Any]:
         """The rows by the calls of a manager, of a program that takes no query in its words."""
@@ -201,7 +213,9 @@ class _Query:
                 yield [_said(item) for item in row] if isinstance(row, list) else _said(row)
 
     def mistakes(self) -> List[str]:
-        """What the client's own check finds in it."""
+        """What the client's own check finds in it, which is one of the profile's language."""
+        if self._is_wide:
+            return []
         entities = entities_of(json.loads(self._data))
         kinds = {name: _kind(value) for name, value in self._params.items()}
         return [str(finding) for finding in check(self._text, entities, kinds)]

@@ -35,9 +35,13 @@ OVER = Epoch(is_over=True)
 class Owner:
     """Whose calls change an object: its manager's; those of any manager where it isn't known."""
 
-    __slots__ = ("_epoch", "_others", "unread")
+    __slots__ = ("manager", "sets", "_epoch", "_others", "unread")
 
-    def __init__(self) -> None:
+    def __init__(self, manager: int = 0) -> None:
+        """With the number of its manager, 0 for any one."""
+        self.manager = manager
+        # How often one of its objects was set.
+        self.sets = 0
         self._epoch = OVER
         self._others: Optional[Owner] = None
         # What is known of the values of an object that weren't read.
@@ -75,6 +79,8 @@ class Shown:
 
 
 _FRONT = b'{"call":"'
+# The line that asks for the values of one object.
+VALUES = b'{"call":"values","objects":[%d]}'
 # What they may load is new, and a listener that hears of that assigns to it alone.
 _PURE = (
     "get", "values", "pending", "find", "getReference", "contains", "new", "createEntityManager",
@@ -92,7 +98,7 @@ class Known:
     of a signal meanwhile ends their epoch.
     """
 
-    __slots__ = ("_held", "anyone", "reads", "_owners", "_coming")
+    __slots__ = ("_held", "anyone", "reads", "_owners", "_coming", "_ended")
 
     def __init__(self, held: Callable[[int], Optional[Entity]]) -> None:
         """With the object of a number, where it is held."""
@@ -104,18 +110,25 @@ class Known:
         self._owners: Dict[bytes, Owner] = {}
         # The places of values that are being read, by the objects' numbers.
         self._coming: Dict[int, Shown] = {}
+        # The front of the last line that ended the epochs of a manager's objects, up to the
+        # manager, and how often values had been read then.
+        self._ended = b"\n", -1
 
     def owner(self, line: bytes) -> Owner:
         """Whose the objects are that a line loads."""
         found = _OF_MANAGER.match(line)
         if found is not None:
-            owner = self._owners.get(found[1])
-            if owner is None:
-                owner = self._owners[found[1]] = Owner()
-            return owner
+            return self.owner_of(found[1])
         found = _OF_OBJECT.match(line)
         entity = self._held(int(found[1])) if found is not None else None
         return self.anyone if entity is None else entity._karzhoul_shown.owner
+
+    def owner_of(self, manager: bytes) -> Owner:
+        """Whose the objects are that a manager of this number loads."""
+        owner = self._owners.get(manager)
+        if owner is None:
+            owner = self._owners[manager] = Owner(int(manager or b"0"))
+        return owner
 
     # ---- what lines change
 
@@ -127,6 +140,8 @@ class Known:
             if is_pure and b"\n".join(lines).count(b"\n" + front) == len(lines) - 1:
                 return
         for line in lines:
+            if self.reads == self._ended[1] and line.startswith(self._ended[0]):
+                continue  # As the one before, and nothing was read since.
             change = _CHANGES.get(line[: line.find(b'"', len(_FRONT))], Known.forget)
             if change is not None:
                 change(self, line)
@@ -140,24 +155,34 @@ class Known:
     def _change_object(self, line: bytes) -> None:
         found = _OF_OBJECT.match(line)
         if found is None:
+            self.anyone.sets += 1
             self.forget()
             return
         number = int(found[1])
         entity, coming = self._held(number), self._coming.get(number)
         if entity is not None:
-            entity._karzhoul_shown.epoch = OVER
+            shown = entity._karzhoul_shown
+            shown.epoch = OVER
+            shown.owner.sets += 1
         if coming is not None:
             coming.epoch = OVER
+
+    def sets_of(self, manager: bytes) -> int:
+        """How often an object was set that may be of the manager of this number."""
+        owner = self._owners.get(manager)
+        return self.anyone.sets + (0 if owner is None else owner.sets)
 
     def _change_objects(self, line: bytes) -> None:
         found = _OF_MANAGER.match(line)
         if found is None:
             self.forget()
             return
+        reads = self.reads
         self.anyone.end()
         owner = self._owners.get(found[1])
         if owner is not None:
             owner.end()
+        self._ended = line[: found.end()], reads
 
     def _close(self, line: bytes) -> None:
         """What is left of a manager's objects when it is closed goes by what any manager does, so
@@ -187,6 +212,34 @@ class Known:
             places[number] = Shown(owner.epoch(), owner)
         self._coming = places
         return places
+
+    def expect_one(self, entity: Entity) -> Dict[int, Shown]:
+        """The place of the values of an object, as `expect` gives it."""
+        self.reads += 1
+        for shown in self._coming.values():
+            shown.epoch = OVER
+        owner = entity._karzhoul_shown.owner
+        places = self._coming = {entity._karzhoul_number: Shown(owner.epoch(), owner)}
+        return places
+
+    def expect_loaded(self, number: int, manager: bytes) -> Dict[int, Shown]:
+        """The place of the values of the object that a manager may load next, as `expect` gives it.
+        """
+        self.reads += 1
+        for shown in self._coming.values():
+            shown.epoch = OVER
+        owner = self.owner_of(manager)
+        places = self._coming = {number: Shown(owner.epoch(), owner)}
+        return places
+
+    def expect_rows(self, line: bytes) -> Owner:
+        """Values are being read of objects that nobody has, and that a line has loaded: whose they
+        are."""
+        self.reads += 1
+        for shown in self._coming.values():
+            shown.epoch = OVER
+        self._coming = {}
+        return self.owner(line)
 
     def have(self, places: Dict[int, Shown]) -> None:
         """They were read, and the objects have them."""

@@ -33,6 +33,7 @@ class TypedEntity(Entity, metaclass=_ByName):
     """An entity whose members are all known to a type checker."""
 
     __slots__ = ()
+    _karzhoul_is_typed = True
 
     if TYPE_CHECKING:
         # So that a type checker takes no other name.

@@ -19,6 +19,7 @@ _EVENTS = {
     b'["PostLoad",': "loaded", b'["PostPersist",': "inserted", b'["PostUpdate",': "changed",
     b'["PostRemove",': "removed",
 }
+_LOADED = b'["PostLoad",'
 # So many characters of a line or a reply are told.
 _MOST = 2_000
 _MOST_WAITING = 200
@@ -91,19 +92,19 @@ class Tally:
     def note(self, lines: Sequence[bytes], replies: List[bytes], seconds: float) -> None:
         """Notes lines that were answered together."""
         self._seconds += seconds
+        waiting = self._waiting
+        waiting += lines
         if len(lines) == 1:
-            waiting = self._waiting
-            waiting.append(lines[0])
             text = replies[0]
             if seconds > self._longest:
                 self._longest, self._slowest = seconds, lines[0]
-            if len(waiting) > _MOST_WAITING:
-                self._count()
         else:
-            self._waiting += lines
             text = b"\n".join(replies)
+        if len(waiting) > _MOST_WAITING:
             self._count()
-        if text.find(b'["Post') >= 0:
+        if (posts := text.count(b'["Post')) and posts == text.count(_LOADED):
+            self._objects["loaded"] += posts
+        elif posts:
             # No value has these, since a quote within a text is escaped.
             for front, name in _EVENTS.items():
                 self._objects[name] += text.count(front)

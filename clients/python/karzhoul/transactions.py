@@ -6,7 +6,6 @@ from contextlib import suppress
 from types import TracebackType
 from typing import TYPE_CHECKING, FrozenSet, Iterator, Optional, Type
 
-from .concern import Concern
 from .interrupts import begin_of_block, carried_out, end_of_block, guard, is_guarded, unguard
 from .lines import line_of
 from .pausing import note_refusals, pause
@@ -34,10 +33,15 @@ class EntityTransaction:
             # Before it is, so that no interrupt leaves one open that isn't known to be.
             self.is_active = True
             self._ask("begin")
-            self._manager._run.transaction_over(self._manager.number)
         except KarzhoulError:
             self.is_active = was_active
             raise
+        run, number = self._manager._run, self._manager.number
+        refused = run.refused.get(number)
+        run.transaction_over(number)
+        if refused:  # By callbacks, outside of a transaction.
+            self._ask("setRollbackOnly")
+            run.marked[number] = next(iter(refused.values()))
         return self
 
     def commit(self) -> None:
@@ -48,6 +52,8 @@ class EntityTransaction:
         self._manager._pending.before(self._commit)
 
     def _commit(self, ran: FrozenSet[Due]) -> None:
+        # What callbacks set that are told once it is done isn't stored.
+        sets = self._manager._sets()
         try:
             self._manager._ask_flushing("commit", ran)
         except Exception as fault:
@@ -55,9 +61,9 @@ class EntityTransaction:
             if isinstance(fault, Rollback) and not is_told:
                 fault._concern = self._manager._concern
             if isinstance(fault, Rollback) or is_told:
-                self._end()
+                self._end(sets)
             raise
-        self._end()
+        self._end(sets)
 
     def rollback(self) -> None:
         """Gives up what isn't committed; the manager's objects are detached as they are."""
@@ -73,10 +79,11 @@ class EntityTransaction:
             raise
         self._end()
 
-    def _end(self) -> None:
+    def _end(self, sets: Optional[int] = None) -> None:
+        """It is over. With how often objects had been set when it was, where some were since."""
         manager = self._manager
-        manager._concern = Concern(manager._run.made)
         manager._run.transaction_over(manager.number)
+        manager._concern = manager._new_concern(sets)
         self.is_active = False  # Last, since an interrupt before has it be ended again.
 
     def set_rollback_only(self) -> None:

@@ -11,6 +11,8 @@ from typing import List
 def main(words: List[str]) -> int:
     if words == ["--help"]:
         print("Usage: jpa [OPTIONS]\n\n      --query <TEXT>  Print the rows of a SELECT")
+        if "KARZHOUL_OLDER" not in os.environ:
+            print("      --language <NAME>  The language of the SELECT")
         return 0
     with open(os.environ["KARZHOUL_QUERIES"], encoding="utf-8") as file:
         cases = json.load(file)

@@ -39,6 +39,8 @@ class Worked(unittest.TestCase):
     def test_which_texts_are_statements(self) -> None:
         count = 0
         for head, *lines in blocks("queries"):
+            if head.startswith("wide "):  # The linter's language is the profile's.
+                continue
             texts = list(pairs(lines))
             if head.startswith("repeated "):
                 front, again, back = (unescaped(line) for line in lines if line[:1] == ">")

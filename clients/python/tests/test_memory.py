@@ -10,8 +10,9 @@ import subprocess
 import sys
 import time
 import unittest
+import warnings
 from pathlib import Path
-from typing import Iterator, List, Tuple
+from typing import Any, Callable, Iterator, List, Tuple
 from unittest import mock
 
 import karzhoul
@@ -32,6 +33,29 @@ app = karzhoul.open({mapping!r}, program={program!r})
 with app.begin() as manager:
     manager.persist(app.new("Person", name="Ada"))
 """
+
+
+def interrupted_in_starting(number: int, work: Callable[[], object]) -> bool:
+    """Does work, interrupted at its step of this number in the starting of processes; whether it
+    has as many."""
+    left = number
+
+    def profile(frame: Any, event: str, _: object) -> None:
+        nonlocal left
+        is_step = event in ("call", "c_return")
+        if is_step and frame.f_code.co_filename == subprocess.__file__:
+            left -= 1
+            if left == 0:
+                raise KeyboardInterrupt
+
+    try:
+        sys.setprofile(profile)
+        work()
+    except KeyboardInterrupt:
+        return True
+    finally:
+        sys.setprofile(None)
+    return False
 
 
 class MemoryTest(FolderTest):
@@ -101,6 +125,34 @@ class Opened(MemoryTest):
             with app.begin() as manager:
                 self.assertEqual(present(manager, "Person", 1).name, "Ada")
         self.assertEqual(self.folders(), [])
+
+    def test_a_restart_that_is_interrupted_keeps_it(self) -> None:
+        """At each step of the starting of processes."""
+        with warnings.catch_warnings(), karzhoul.open(PERSONS, program=PROGRAM) as app:
+            warnings.simplefilter("ignore", ResourceWarning)  # Of what was interrupted.
+            with app.begin() as manager:
+                manager.persist(app.new("Person", name="Ada"))
+            for at in range(1, 400):
+                os.kill(app.program.pid, signal.SIGKILL)
+                with contextlib.suppress(karzhoul.ProgramEnded):
+                    app.create_entity_manager()
+                if not interrupted_in_starting(at, app.restart):
+                    break
+                self.reopen(app)
+                with app.begin() as manager:
+                    self.assertEqual(present(manager, "Person", 1).name, "Ada")
+            self.assertGreater(at, 30)
+
+    def reopen(self, app: karzhoul.EntityManagerFactory) -> None:
+        """Opens it again, once the program has ended whose start was interrupted."""
+        until = time.monotonic() + 5
+        while True:
+            try:
+                return app.reopen()
+            except karzhoul.StoreFault:
+                if time.monotonic() > until:
+                    raise
+                time.sleep(0.01)
 
     def test_an_opening_that_fails_leaves_nothing(self) -> None:
         with self.assertRaises(karzhoul.Mapping):

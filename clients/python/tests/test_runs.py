@@ -14,7 +14,9 @@ from unittest import mock
 
 import karzhoul
 from karzhoul import LifecycleEvent, Restarted
+from karzhoul.foresight import Foresight
 from karzhoul.program import Exchange, Program
+from karzhoul.runs import Run
 
 from .steps import interrupted_at_step
 from .support import HERE, PERSONS, PROGRAM, FolderTest, needs_program, present
@@ -340,6 +342,25 @@ class Many(RunsTest):
     RESTARTS = 400
 
     def test_no_value_of_another_object_is_read_or_written(self) -> None:
+        self.many(True)
+
+    def test_none_that_is_read_with_its_find(self) -> None:
+        """Without a callback: so the values of what is found are asked for with it."""
+        foresight = self.Person._karzhoul_foresight
+        taken: List[bool] = []
+        one_shown = Run.one_shown
+
+        def noted(run: Run, *given: Any) -> Any:
+            found = one_shown(run, *given)
+            taken.append(found is not None)
+            return found
+
+        with mock.patch.object(Foresight, "note"), mock.patch.object(Run, "one_shown", noted):
+            foresight.is_on = True
+            self.many(False)
+        self.assertGreater(taken.count(True), 100)
+
+    def many(self, are_heard: bool) -> None:
         found: List[str] = []
         counts = dict.fromkeys(("done", "Restarted"), 0)
         is_over = threading.Event()
@@ -353,7 +374,8 @@ class Many(RunsTest):
                 if is_person and event.object.name.rstrip("0123456789") not in NAMES:
                     heard.append(f"{event.kind} {event.object.name}")
 
-        self.app.listen(callback, LifecycleEvent.POST_LOAD, LifecycleEvent.POST_UPDATE)
+        if are_heard:
+            self.app.listen(callback, LifecycleEvent.POST_LOAD, LifecycleEvent.POST_UPDATE)
 
         def work(place: int) -> None:
             chance = random.Random(place)
@@ -376,10 +398,14 @@ class Many(RunsTest):
         for thread in threads:
             thread.start()
         programs = {self.app.program.pid}
-        for _ in range(self.RESTARTS):
+        restarts, latest = 0, time.monotonic() + 120
+        while not is_over.is_set() and time.monotonic() < latest:
+            if restarts >= self.RESTARTS and min(counts.values()) > 100:
+                break  # On a busy machine it takes more of them.
             time.sleep(random.uniform(0, 0.01))
             self.app.restart()
             programs.add(self.app.program.pid)
+            restarts += 1
         is_over.set()
         for thread in threads:
             thread.join()
@@ -387,8 +413,8 @@ class Many(RunsTest):
         self.assertGreater(counts["done"], 100)
         self.assertGreater(counts["Restarted"], 100)
         # Some were done by the program itself, and some by another one, as transactions were open.
-        self.assertGreater(len(programs), self.RESTARTS // 50)
-        self.assertLess(len(programs), self.RESTARTS - self.RESTARTS // 50)
+        self.assertGreater(len(programs), restarts // 50)
+        self.assertLess(len(programs), restarts - restarts // 50)
         stored = [re.sub("[0-9]+$", "", name) for name in self.names()]
         self.assertEqual(stored, list(NAMES))
 

@@ -161,6 +161,45 @@ class Ways(unittest.TestCase):
         found = self.played(cases, PLACES, "--explain")
         self.assertEqual(found, (0, "walks over Place\n", ""))
 
+    def test_the_wider_language(self) -> None:
+        text, words = "SELECT UPPER(p.name), p.id FROM Person p", ["--language", "wide"]
+        cases = [{"words": ["--query", text, *words], "lines": ['["ADA",1]', "[null,2]"]}]
+        found = self.played(cases, text, *words, "--json")
+        self.assertEqual(found, (0, '["ADA",1]\n[null,2]\n', ""))
+        table = "1    | 2\n-----+--\nADA  | 1\nnull | 2\n2 rows\n"
+        self.assertEqual(self.played(cases, text, *words), (0, table, ""))
+        plan = {"words": ["--query", text, *words, "--explain"], "lines": ["reads all rows"]}
+        self.assertEqual(self.played([plan], text, "--explain", *words), (0, "reads all rows\n", ""))
+        bare = [{"words": ["--query", text], "told": "jpa: IllegalArgument(syntax)", "status": 3}]
+        profile: Tuple[List[str], ...] = ([], ["--language", "profile"])
+        for said in profile:
+            status, _, err = self.played(bare, text, *said)
+            self.assertEqual((status, err.splitlines()[0]), (3, "karzhoul: IllegalArgument(syntax)"))
+
+    def test_a_refusal_in_the_wider_language(self) -> None:
+        text, words = "SELECT UPPER(p.id) FROM Person p", ["--language", "wide"]
+        refusal = {"told": "jpa: IllegalArgument(typing)", "status": 3}
+        found = self.played([{"words": ["--query", text, *words], **refusal}], text, *words)
+        why = "  The query compares or computes what doesn't go together, or names what isn't there."
+        self.assertEqual(found, (3, "", f"karzhoul: IllegalArgument(typing)\n{why}\n"))
+
+    def test_an_older_program_has_no_wider_language(self) -> None:
+        told = f"karzhoul: {self.stub} is an older program, which has the language of the profile alone\n"
+        ways: Tuple[List[str], ...] = ([], ["--explain"], ["--json"])
+        for more in ways:
+            with mock.patch.dict(os.environ, KARZHOUL_OLDER="1"):
+                found = self.played(CASES, PLACES, "--language", "wide", *more)
+            self.assertEqual((found[0] != 0, found[1:]), (True, ("", told)))
+
+    @needs_program
+    def test_the_wider_language_of_the_program(self) -> None:
+        self.fill(PROGRAM)
+        help_ = subprocess.run([str(PROGRAM), "--help"], capture_output=True, text=True).stdout
+        text = "SELECT UPPER(p.name) FROM Person p ORDER BY p.id"
+        found = self.ran(PROGRAM, text, "--language", "wide", "--json")
+        wanted = (0, '"ADA"\nnull\n"7"\n') if "--language" in help_ else (4, "")
+        self.assertEqual(found[:2], wanted)
+
     def test_what_goes_wrong(self) -> None:
         for told, status, wanted in (
             ("jpa: StoreFault", 3, "karzhoul: StoreFault: {db} can't be opened: it is empty"),

@@ -9,6 +9,7 @@ import signal
 import sys
 import tempfile
 import threading
+import time
 import unittest
 import warnings
 from pathlib import Path
@@ -16,9 +17,10 @@ from typing import Any, Callable, Dict, List, Optional
 from unittest import mock
 
 import karzhoul
-from karzhoul import Entity, FlushModeType, LockModeType, shown
+from karzhoul import Entity, FlushModeType, LifecycleEvent, LockModeType, shown
 from karzhoul.refusals import KarzhoulError
 
+from .steps import interrupted_at_step
 from .support import ORDERS, PROGRAM, ManagerTest, counted, needs_program, present
 
 # How many random calls are compared; 20,000 take a minute.
@@ -260,13 +262,58 @@ class Between(ManagerTest):
 
     def test_a_signal_s_handler_that_sets_it(self) -> None:
         # At each step of the reading at which a handler may run.
+        foresight = self.app.entity("Person")._karzhoul_foresight
         for at in range(1, 100):
             self.em.clear()
+            for _ in range(3):
+                foresight.note(False)  # So that she isn't read with her find.
             ada = present(self.em, "Person", 1)
             if not self.read_with(at, lambda: ada.name, lambda: setattr(ada, "name", f"A{at}")):
                 break
             self.assertEqual(ada.name, f"A{at}")
         self.assertGreater(at, 10)
+
+    def test_a_signal_s_handler_that_sets_what_is_read_with_its_find(self) -> None:
+        foresight = self.app.entity("Person")._karzhoul_foresight
+        for at in range(1, 100):
+            self.em.clear()
+            for _ in range(3):
+                foresight.note(True)
+
+            def change() -> None:
+                present(self.em, "Person", 1).name = f"A{at}"
+
+            found: List[Any] = []
+            work = lambda: found.append(present(self.em, "Person", 1))  # noqa: E731
+            if not self.read_with(at, work, change):
+                break
+            self.assertEqual(found[0].name, f"A{at}")
+            self.assertIs(present(self.em, "Person", 1), found[0])
+        self.assertGreater(at, 10)
+
+    def test_a_find_that_is_interrupted_refuses_nothing(self) -> None:
+        person = self.app.entity("Person")
+        for at in range(1, 100):
+            for _ in range(3):
+                person._karzhoul_foresight.note(True)
+            if not interrupted_at_step(at, lambda: self.em.find(person, 9)):
+                break
+            self.assertIsNone(self.em.find(person, 9))
+        self.assertGreater(at, 10)
+        self.assertEqual(self.app.statistics().refusals, {})
+
+    def test_who_listens_while_a_find_waits_hears_of_it(self) -> None:
+        foresight = self.app.entity("Person")._karzhoul_foresight
+        for _ in range(3):
+            foresight.note(True)
+        told: List[Any] = []
+        finding = threading.Thread(target=present, args=(self.em, "Person", 1))
+        with self.app._lock:
+            finding.start()
+            time.sleep(0.2)
+            self.app.listen(lambda event: told.append(event.kind), LifecycleEvent.POST_LOAD)
+        finding.join()
+        self.assertEqual(told, [LifecycleEvent.POST_LOAD])
 
     def test_a_signal_s_handler_that_sets_what_a_query_finds(self) -> None:
         text = "SELECT p FROM Person p"

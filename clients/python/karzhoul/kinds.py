@@ -8,7 +8,7 @@ from __future__ import annotations
 
 from typing import Any, List, Mapping, Optional, Sequence, Type
 
-from .entities import Entity
+from .entities import E, Entity
 
 _LOADED, _CLASS = 0x80, 0x7F
 
@@ -50,10 +50,24 @@ class Classes:
             self.made = number
         return kind
 
-    def load(self, number: int, kind: Type[Entity]) -> None:
-        """An object was loaded, which is of this class where its own isn't known."""
-        self.settled(number, kind)
-        self._places[number] |= _LOADED
+    def load(self, number: int, kind: Type[E]) -> Type[E]:
+        """The class of an object that was loaded, which is this one where it wasn't known."""
+        if number <= self.made or number >= len(self._places):
+            own = self.settled(number, kind)
+            self._places[number] |= _LOADED
+            return kind if own is None else own  # type: ignore[return-value]
+        self._places[number] = self._bytes[kind] | _LOADED  # As above, in less time.
+        self.made = number
+        return kind
+
+    def load_rows(self, first: int, count: int, kind: Type[Entity]) -> None:
+        """So many objects were loaded of this class, which have numbers from the first on, and of
+        which none was made before."""
+        last = first + count - 1
+        if last >= len(self._places):
+            self._places.extend(bytes(last + 1000))
+        self._places[first : last + 1] = bytes((self._bytes[kind] | _LOADED,)) * count
+        self.made = last
 
     def hear(self, events: Sequence[Sequence[Any]]) -> List[int]:
         """Takes note of the events of a call that was done, and answers what was loaded."""

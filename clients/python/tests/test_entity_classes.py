@@ -1,0 +1,379 @@
+"""Objects of the classes that a user wrote: their attributes, methods and queries."""
+
+from __future__ import annotations
+
+import os
+import subprocess
+from datetime import date, datetime, timezone
+from decimal import Decimal
+from typing import Any, List
+from uuid import UUID
+
+import karzhoul
+from karzhoul import WrongValue
+
+from .classed import ClassesTest
+from .support import HERE, needs_program
+from .test_types import MYPY, needs_mypy
+
+LIBRARY = '''
+class State(Enum):
+    OPEN = 1
+    BACK = 2
+
+class Color(Enum):
+    RED = "r"
+    BLUE = "b"
+
+class Stamped:
+    """A mixin: it has attributes, and no table."""
+    made: date = date(2026, 1, 1)
+
+    def age(self, today: date) -> int:
+        return (today - self.made).days
+
+class Person(Entity, abstract=True):
+    """An entity of which there are no objects."""
+    id: int = generated()
+    version: int = version()
+    name: str
+
+    @validates("name")
+    def _stripped(self, name: str) -> str:
+        if not name.strip():
+            raise ValueError("a name is not empty")
+        return name.strip()
+
+class Member(Stamped, Person):
+    joined: date | None = None
+    loans: List["Loan"] = one_to_many("member", cascade="all", orphan_removal=True)
+    heard: ClassVar[list[str]] = []
+
+    def is_barred(self) -> bool:
+        return any(loan.state is State.OPEN for loan in self.loans)
+
+    @property
+    def initial(self) -> str:
+        return self.name[:1]
+
+    @initial.setter
+    def initial(self, value: str) -> None:
+        self.name = value + self.name[1:]
+
+    def post_persist(self) -> None:
+        self.heard.append(f"persisted {self.name}")
+
+    def pre_update(self) -> None:
+        self.heard.append(f"to be updated {self.name}")
+
+    def post_load(self) -> None:
+        self.heard.append(f"loaded {self.name}")
+
+class Company(Member):
+    vat: str
+
+    def is_barred(self) -> bool:
+        return super().is_barred() and not self.vat.startswith("BE")
+
+class Loan(Entity):
+    number: int = key()
+    member: Member = many_to_one()
+    due: date
+    fee: Decimal = money(2)
+    state: State = State.OPEN
+    color: Color = by_value(default=Color.RED)
+    is_lost: bool = False
+    at: datetime | None = None
+    left: timedelta | None = None
+    tags: list[str] = json_text(default=[])
+
+class Token(Entity):
+    id: UUID = key()
+    day: date
+
+    def __init__(self, id: UUID) -> None:
+        super().__init__(id=id, day=date(2026, 1, 5))
+'''
+
+
+@needs_program
+class Objects(ClassesTest):
+    def setUp(self) -> None:
+        super().setUp()
+        self.it = self.module(LIBRARY)
+        self.app = self.open(self.it)
+        with self.app.begin() as manager:
+            ada = self.it.Member(name=" Ada ", joined=date(2026, 1, 2))
+            firm = self.it.Company(name="Firm", vat="BE1", made=date(2020, 1, 1))
+            manager.persist(ada)
+            manager.persist(firm)
+            for number, due, fee in ((1, date(2026, 1, 5), "1.50"), (2, date(2026, 2, 1), "0.25")):
+                loan = self.it.Loan(number=number, member=ada, due=due, fee=Decimal(fee))
+                ada.loans.append(loan)
+        self.it.Member.heard.clear()
+
+    # ---- objects
+
+    def test_methods_properties_mixins_and_inheritance(self) -> None:
+        with self.app.begin() as manager:
+            ada, firm = manager.find(self.it.Member, 1), manager.find(self.it.Member, 2)
+            self.assertEqual((ada.name, ada.initial, ada.is_barred()), ("Ada", "A", True))
+            self.assertEqual((firm.is_barred(), firm.age(date(2020, 1, 11))), (False, 10))
+            self.assertIsInstance(firm, self.it.Company)
+            self.assertIsInstance(firm, self.it.Person)
+            self.assertIsInstance(firm, self.it.Stamped)
+            self.assertNotIsInstance(ada, self.it.Company)
+            ada.initial = "I"
+            self.assertEqual(ada.name, "Ida")
+            self.assertEqual(repr(ada), "<Member id=1>")
+
+    def test_validators_see_each_value(self) -> None:
+        with self.app.begin() as manager:
+            ada = manager.find(self.it.Member, 1)
+            ada.name = "  Bob "
+            self.assertEqual(ada.name, "Bob")
+            with self.assertRaisesRegex(ValueError, "a name is not empty"):
+                ada.name = " "
+            with self.assertRaisesRegex(ValueError, "a name is not empty"):
+                self.it.Member(name="")
+            [eve] = self.app.new_many(self.it.Member, [{"name": " Eve"}])
+            self.assertEqual(eve.name, "Eve")
+
+    def test_methods_hear_of_events(self) -> None:
+        with self.app.begin() as manager:
+            manager.persist(self.it.Member(name="Eve"))
+        with self.app.begin() as manager:
+            manager.find(self.it.Member, 1).name = "Bob"
+        self.assertEqual(
+            self.it.Member.heard, ["persisted Eve", "loaded Ada", "to be updated Bob"]
+        )
+
+    def test_a_constructor_of_ones_own(self) -> None:
+        with self.app.begin() as manager:
+            manager.persist(self.it.Token(UUID(int=7)))
+        with self.app.begin() as manager:
+            token = manager.find(self.it.Token, UUID(int=7))
+            self.assertEqual((token.id, token.day), (UUID(int=7), date(2026, 1, 5)))
+            self.assertIsNone(manager.find("Token", UUID(int=8)))
+            self.assertEqual(manager.find_many("Token", [UUID(int=7)]), [token])
+            with self.assertRaisesRegex(WrongValue, "the key of Token is a UUID, and 7 is no UUID"):
+                manager.find(self.it.Token, 7)
+
+    def test_what_is_missing_or_unknown_is_told(self) -> None:
+        with self.assertRaisesRegex(TypeError, "Loan takes member, fee, and none is given"):
+            self.it.Loan(number=3, due=date(2026, 1, 5))
+        with self.assertRaisesRegex(AttributeError, "did you mean 'name'"):
+            self.it.Member(nam="Eve")
+        with self.app.begin() as manager:
+            with self.assertRaisesRegex(AttributeError, "did you mean 'joined'"):
+                manager.find(self.it.Member, 1).joind = 5
+
+    def test_values_of_another_type_are_refused_as_they_are_assigned(self) -> None:
+        with self.app.begin() as manager:
+            loan = manager.find(self.it.Loan, 1)
+            wrong = {
+                "due": datetime(2026, 1, 5), "fee": 1.5, "state": "OPEN", "is_lost": 1,
+                "at": datetime(2026, 1, 5), "left": 5, "tags": ("a",), "number": "1",
+            }
+            for name, value in wrong.items():
+                for assign in (setattr, self.app.set):
+                    with self.assertRaises(WrongValue) as raised:
+                        assign(loan, name, value)
+                    told = str(raised.exception)
+                    self.assertTrue(told.startswith(f"Loan.{name} is "), told)
+                    self.assertIn(repr(value), told)
+            with self.assertRaisesRegex(WrongValue, "Loan.due is a date, and never None"):
+                loan.due = None
+            with self.assertRaisesRegex(WrongValue, r"write Decimal\('1.10'\)"):
+                loan.fee = 1.5
+            self.assertEqual(loan.due, date(2026, 1, 5))
+
+    def test_what_is_set_by_name_and_read_of_many(self) -> None:
+        with self.app.begin() as manager:
+            loans = manager.query("SELECT l FROM Loan l")
+            self.app.set(loans[0], "fee", Decimal("9.99"))
+            self.assertEqual(self.app.get(loans[0], "fee"), Decimal("9.99"))
+            self.assertEqual(self.app.get_many(loans, "due"), [date(2026, 1, 5), date(2026, 2, 1)])
+
+    def test_a_store_has_the_forms_of_the_table(self) -> None:
+        with self.app.begin() as manager:
+            loan = manager.find(self.it.Loan, 1)
+            loan.at, loan.tags = datetime(2026, 1, 5, 9, tzinfo=timezone.utc), ["a"]
+        self.app.close()
+        asked = "SELECT l.due, l.fee, l.state, l.color, l.is_lost, l.at, l.tags FROM Loan l"
+        with self.raw(self.it) as raw, raw.begin() as manager:
+            self.assertEqual(manager.query(asked).first(), [
+                "2026-01-05", 150, "OPEN", "r", 0, "2026-01-05T09:00:00.000000Z", '["a"]',
+            ])
+
+    # ---- what is open
+
+    def test_a_class_that_is_open_nowhere_or_twice(self) -> None:
+        with self.open(self.it, in_memory=True) as other:
+            with self.assertRaisesRegex(RuntimeError, r"open in 2 stores: app.new\(Member, ..\)"):
+                self.it.Member(name="Eve")
+            eve = other.new(self.it.Member, name="Eve")
+            self.assertIsInstance(eve, self.it.Member)
+        self.assertEqual(self.it.Member(name="Eve").name, "Eve")
+        self.app.close()
+        with self.assertRaisesRegex(RuntimeError, r"open in no store: karzhoul.open\(\[Member"):
+            self.it.Member(name="Eve")
+
+    # ---- queries
+
+    def rows(self, text: str, **given: Any) -> List[Any]:
+        with self.app.begin() as manager:
+            return list(manager.query(text, **given))
+
+    def test_parameters_are_of_the_type_of_what_they_are_compared_with(self) -> None:
+        state, color = self.it.State, self.it.Color
+        asked = "SELECT l.number FROM Loan l WHERE "
+        told: List[Any] = [
+            ("l.due < :it", date(2026, 2, 1), [1]), (":it <= l.due", date(2026, 2, 1), [2]),
+            ("l.fee > :it", Decimal("0.25"), [1]), ("l.fee + :it > 1", Decimal("0.80"), [1, 2]),
+            ("l.state = :it", state.OPEN, [1, 2]), ("l.state IN :it", [state.BACK], []),
+            ("l.state IN (:it)", state.OPEN, [1, 2]), ("l.color = :it", color.RED, [1, 2]),
+            ("l.due BETWEEN :it AND :it", date(2026, 1, 5), [1]),
+            ("COALESCE(l.at, :it) = :it", datetime(2026, 1, 5, tzinfo=timezone.utc), [1, 2]),
+            ("l.is_lost = :it", True, []), ("l.member.joined = :it", date(2026, 1, 2), [1, 2]),
+            ("l.member.name = :it", "Ada", [1, 2]), ("l.due = :it OR l.number = 2", None, [2]),
+            ("EXISTS (SELECT k FROM Loan k WHERE k.fee > :it AND k = l)", Decimal("1"), [1]),
+        ]
+        for condition, value, numbers in told:
+            with self.subTest(condition=condition):
+                self.assertEqual(self.rows(f"{asked}{condition}", it=value), numbers)
+
+    def test_literals_are_so_too(self) -> None:
+        asked = "SELECT l.number FROM Loan l WHERE "
+        told = {
+            "l.due < '2026-01-31'": [1], "l.fee > 1": [1], "l.fee = '0.25'": [2],
+            "l.fee > -1": [1, 2], "l.state = 'OPEN'": [1, 2], "l.is_lost = FALSE": [1, 2],
+            "l.is_lost = 1": [], "l.color = 'r'": [1, 2], "l.fee * 2 > 1": [1],
+            "l.at IS NULL AND l.fee IN (1, '1.50')": [1], "COALESCE(l.at, '2026-01-05T09:30:00Z')"
+            " = '2026-01-05T10:30:00+01:00'": [1, 2],
+        }
+        for condition, numbers in told.items():
+            with self.subTest(condition=condition):
+                self.assertEqual(self.rows(asked + condition), numbers)
+
+    def test_what_is_found_is_of_the_type_of_its_path(self) -> None:
+        told = {
+            "SELECT l.due, l.fee, l.state, l.number FROM Loan l WHERE l.number = 1":
+                [[date(2026, 1, 5), Decimal("1.50"), self.it.State.OPEN, 1]],
+            "SELECT MAX(l.due), MIN(l.fee), SUM(l.fee), COUNT(l) FROM Loan l":
+                [[date(2026, 2, 1), Decimal("0.25"), Decimal("1.75"), 2]],
+            "SELECT l.fee * 2 FROM Loan l WHERE l.number = 1": [Decimal("3.00")],
+            "SELECT l.at FROM Loan l": [None, None],
+            "SELECT l.due FROM Member m JOIN m.loans l ORDER BY l.due DESC":
+                [date(2026, 2, 1), date(2026, 1, 5)],
+            "SELECT l.state, COUNT(l) FROM Loan l GROUP BY l.state "
+            "HAVING MIN(l.due) < '2026-01-06'":
+                [[self.it.State.OPEN, 2]],
+        }
+        for text, rows in told.items():
+            with self.subTest(text=text):
+                self.assertEqual(self.rows(text), rows)
+        with self.app.begin() as manager:
+            self.assertEqual(manager.one("SELECT l.due FROM Loan l WHERE l.number = 1", date),
+                             date(2026, 1, 5))
+            self.assertEqual(list(manager.iterate("SELECT l.due FROM Loan l", 1)),
+                             [date(2026, 1, 5), date(2026, 2, 1)])
+            page = manager.page("SELECT l.fee FROM Loan l", 1, 1, total=True)
+            self.assertEqual((list(page), page.total), ([Decimal("1.50")], 2))
+
+    def test_keys_of_a_type_are_walked_through(self) -> None:
+        with self.app.begin() as manager:
+            for number in range(5):
+                manager.persist(self.it.Token(UUID(int=number)))
+            found = list(manager.iterate("SELECT t.id, t.day FROM Token t", 2))
+            self.assertEqual([row[0].int for row in found], [0, 1, 2, 3, 4])
+
+    def test_updates(self) -> None:
+        with self.app.begin() as manager:
+            count = manager.execute_update(
+                "UPDATE Loan l SET l.fee = l.fee + '0.25', l.state = :s, l.is_lost = TRUE "
+                "WHERE l.due > :d", s=self.it.State.BACK, d=date(2026, 1, 6),
+            )
+            self.assertEqual(count, 1)
+        with self.app.begin() as manager:
+            loan = manager.find(self.it.Loan, 2)
+            self.assertEqual((loan.fee, loan.state, loan.is_lost),
+                             (Decimal("0.50"), self.it.State.BACK, True))
+
+    def test_what_is_not_of_the_type_is_refused(self) -> None:
+        asked = "SELECT l FROM Loan l WHERE "
+        told: List[Any] = [
+            ("l.due = :it", "2026-01-05", "'it', as Loan.due, is a date, and '2026-01-05' is no"),
+            ("l.fee > :it", 1.5, r"write Decimal\('1.10'\)"),
+            ("l.fee > '1.234' AND l.number = :it", 1, "Loan.fee is a Decimal of 2 digits"),
+            ("l.fee = l.number + :it", 1, "they can't be compared"),
+            ("l.due = :it OR l.at = :it", date(2026, 1, 5), "take two"),
+            ("l.fee * l.fee = :it", Decimal(1), "may be multiplied by whole numbers alone"),
+            ("l.state = 'SHUT' AND l.number = :it", 1, "'SHUT' is none of State: 'OPEN', 'BACK'"),
+        ]
+        for condition, value, words in told:
+            with self.subTest(condition=condition), self.assertRaisesRegex(ValueError, words):
+                self.rows(asked + condition, it=value)
+
+
+@needs_program
+class Example(ClassesTest):
+    """The classes of the README."""
+
+    def test_it_runs(self) -> None:
+        it = self.example("members.py")
+        with self.open(it) as app:
+            it.lend(app, "Ada", date(2026, 1, 5))
+            self.assertEqual(it.overdue(app, date(2026, 1, 6)), ["Ada"])
+            self.assertEqual(it.overdue(app, date(2026, 1, 5)), [])
+            with app.begin() as manager:
+                self.assertTrue(manager.find(it.Member, 1).is_barred(date(2026, 1, 6)))
+
+    @needs_mypy
+    def test_a_type_checker_takes_it_without_stubs_and_refuses_what_is_wrong(self) -> None:
+        self.example("members.py")
+        (self.folder / "use.py").write_text(
+            "from members import *\n"
+            "def use(loan: Loan) -> None:\n"
+            "    loan.due = 5\n"
+            "    reveal_type(loan.member.loans)\n"
+        )
+        cache = str(self.folder / "cache")
+        words = [MYPY, "--strict", "--python-version", "3.11", "--cache-dir", cache]
+        place = {**os.environ, "MYPYPATH": f"{HERE.parent}:{self.folder}"}
+        told = subprocess.run(
+            [*words, str(self.folder / "members.py"), str(self.folder / "use.py")], env=place,
+            capture_output=True, text=True,
+        ).stdout
+        self.assertIn("members.Loan]", told)
+        self.assertRegex(told, "use.py:3: error: Incompatible types in assignment")
+        self.assertIn("Found 1 error in 1 file (checked 2 source files)", told)
+
+    def test_the_readme_has_it(self) -> None:
+        text = (HERE / "data" / "members.py").read_text()
+        classes = text[text.index("class Member") : text.index("def lend")].strip()
+        indented = "\n".join(f"    {line}".rstrip() for line in classes.splitlines())
+        self.assertIn(indented, (HERE.parent / "README.md").read_text())
+
+
+@needs_program
+class Alone(ClassesTest):
+    """A mapping by hand goes on as it is."""
+
+    def test_a_mapping_by_hand_has_no_lock(self) -> None:
+        with self.assertRaisesRegex(TypeError, "lock= is the file of the numbers of classes"):
+            karzhoul.open({"revision": 1, "entities": []}, lock=self.lock)
+
+    def test_a_store_in_memory_leaves_the_lock(self) -> None:
+        with self.open("class A(Entity):\n    id: int = generated()\n", in_memory=True) as app:
+            self.assertEqual(app.entity("A").__name__, "A")
+        self.assertFalse(self.lock.exists())
+
+    def test_two_of_one_number_are_told(self) -> None:
+        text = "class A(Entity):\n    id: int = generated()\n    a: str\n    b: str\n"
+        self.open(text).close()
+        self.lock.write_text(self.lock.read_text().replace('"column": 2', '"column": 1'))
+        with self.assertRaisesRegex(ValueError, "A.a and A.b have one number, 1"):
+            self.open(text)
+
+
