@@ -33,7 +33,7 @@ PAGES = ("*.md", "docs/*.md", "tests/*.md", "tests/*/*.md", "clients/*/*.md",
 RUNS = "tests/runs/README.md"
 INDEXES = ("docs/CHAPTERS.md", "docs/PROMISES.md")
 EXAMPLES = ("mappings", "revisions", "limits", "functions", "stores", "migrations", "queries", "typed")
-TITLE = re.compile(r"^(?:mapping|limit|functions|store|query|typed) (.+)$", re.MULTILINE)
+TITLE = re.compile(r"^(?:mapping|limit|functions|store|query|typed|wide) (.+)$", re.MULTILINE)
 VERSIONS = {
     "crates/jpa_settings/src/settings.rt": r'\.version\("([^"]+)"\)',
     "clients/python/karzhoul/__init__.py": r'^__version__ = "([^"]+)"',

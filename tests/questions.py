@@ -1,5 +1,5 @@
 #!/usr/bin/env python3
-"""tests/questions.py PROGRAM: asks stores by the words --query, --param and --explain.
+"""tests/questions.py PROGRAM: asks stores by the words --query, --param, --explain and --language.
 
 What is printed, told and answered was worked out by hand, from the calls that fill each store. A
 question leaves each file as it was, and makes none but the log beside a store, as any opening does.
@@ -7,38 +7,19 @@ Exit status 0 where all is as it must be.
 """
 from __future__ import annotations
 
-import json, os, sqlite3, subprocess, sys
+import os, sqlite3, subprocess, sys
 from contextlib import closing
-from typing import Any
 
 sys.dont_write_bytecode = True
-from runs import HERE, SECONDS, cells, fill, read
+import wide
+from asking import HINT, Asking, made, stored
+from runs import HERE, fill, read
 from trials import see, tried
+from wide_random import random_questions
 
-HINT = "\n\nFor more information, try '--help'.\n"
-EM = {"call": "createEntityManager"}
 OLD, NEW = (os.path.join(HERE, *names) for names in (
     ("mappings", "persons.json"), ("runs", "migrate-person-store", "mapping.json"),
 ))
-
-
-def made(entity: str, at: int, /, **values: Any) -> list[dict[str, Any]]:
-    """The calls that make the object of this number, with values under these names."""
-    calls: list[dict[str, Any]] = [{"call": "new", "entity": entity}]
-    for name, value in values.items():
-        given = {"object": at, "name": name.replace("__", "."), "value": value}
-        calls.append({"call": "set", **given})
-    return calls
-
-
-def stored(objects: list[list[dict[str, Any]]]) -> bytes:
-    """The lines that make these objects, and store them in one transaction."""
-    calls = [EM, *(call for each in objects for call in each), {"call": "begin", "em": 1}]
-    calls += [
-        {"call": "persist", "em": 1, "object": number} for number in range(1, len(objects) + 1)
-    ]
-    return "".join(json.dumps(call) + "\n" for call in [*calls, {"call": "commit", "em": 1}]).encode()
-
 
 # Three persons, whose keys 1, 2 and 3 are generated, and three orders, two of which lead to one.
 PERSONS = stored([
@@ -63,6 +44,24 @@ PLACES = {"revision": 1, "entities": [
 PLACED = stored([
     made("Place", 1, at__aisle=1, at__shelf="a", at__code={"hex": "0A"}, scan={"hex": "ff"}),
     made("Depot", 2, at__aisle=2, at__shelf='"é', at__code={"hex": ""}, label="x\ny"),
+])
+# A hierarchy of which one class owns pairs: object 2 leads to both.
+TAGS = {"revision": 1, "entities": [
+    {
+        "name": "Base", "table": 1, "key": [{"name": "id", "type": "int"}],
+        "attributes": [{"name": "a", "type": "text", "column": 1}],
+        "relations": [{"name": "above", "kind": "manyToOne", "target": "Base", "column": 2}],
+    },
+    {"name": "Plain", "extends": "Base"},
+    {
+        "name": "Tagged", "extends": "Base",
+        "relations": [{"name": "bases", "kind": "manyToMany", "target": "Base", "joinTable": 9}],
+    },
+]}
+TAGGED = stored([
+    made("Plain", 1, id=1, a="x"),
+    made("Tagged", 2, id=2, a="y", above={"object": 1})
+    + [{"call": "add", "object": 2, "name": "bases", "member": member} for member in (1, 2)],
 ])
 BY_NAME = "SELECT o.number, o.amount FROM Order o WHERE o.person.name = :name"
 NAMED = "SELECT p.id FROM Person p WHERE p.name = ?1"
@@ -131,52 +130,6 @@ PLANS: list[tuple[list[str], list[str]]] = [
 ]
 
 
-def files_in(place: str) -> dict[str, bytes]:
-    """The files of a folder, but for logs."""
-    names = [name for name in sorted(os.listdir(place)) if not name.endswith("-wal")]
-    return {name: read(place, name) or b"" for name in names}
-
-
-class Asking:
-    """A program, and a folder with a store."""
-
-    def __init__(self, program: str, place: str) -> None:
-        self.program, self.place = program, place
-        self.store = os.path.join(place, "store.db")
-
-    def ran(self, *words: str, calls: bytes = b"") -> tuple[int, str, str]:
-        ended = subprocess.run(
-            [self.program, *words], input=calls, capture_output=True, timeout=SECONDS
-        )
-        return ended.returncode, ended.stdout.decode(), ended.stderr.decode()
-
-    def filled(self, calls: bytes, *words: str) -> None:
-        status, out, err = self.ran(*words, "--db", self.store, calls=calls)
-        see((status, err, '"error"' in out), (0, "", False), f"the calls: {out}")
-
-    def asks(self, question: list[str], wanted: tuple[int, str, str], *words: str) -> None:
-        """A question is answered so, and leaves each file as it was."""
-        is_store = wanted[2] != "jpa: StoreFault\n"
-        stored = cells(self.store) if is_store else ""
-        before = files_in(self.place)
-        found = self.ran(*words, "--db", self.store, "--query", *question)
-        see(found, wanted, question)
-        see(files_in(self.place), before, f"the files after {question}")
-        see(cells(self.store) if is_store else "", stored, f"the cells after {question}")
-
-    def answers(self, question: list[str], lines: list[str], *words: str) -> None:
-        self.asks(question, (0, "".join(f"{line}\n" for line in lines), ""), *words)
-
-    def refuses(self, question: list[str], name: str, *words: str) -> None:
-        self.asks(question, (3, "", f"jpa: {name}\n"), *words)
-
-    def mapping(self, said: Any) -> str:
-        path = os.path.join(self.place, "mapping.json")
-        with open(path, "w", encoding="utf-8") as file:
-            json.dump(said, file)
-        return path
-
-
 def persons(ask: Asking) -> None:
     """Rows, refusals and plans, over the program's own persons and over a mapping of them."""
     ask.filled(PERSONS)
@@ -201,6 +154,29 @@ def places(ask: Asking) -> None:
     ask.answers([scan, "--param", 'scan={"hex":"FF"}'], ['[{"hex":"ff"},1]'], *words)
     ask.answers([scan, "--param", 'scan={"hex":"00"}'], [], *words)
     ask.answers(["SELECT e FROM Place e", "--explain"], ["reads all rows of Place"], *words)
+
+
+def paired(ask: Asking) -> None:
+    """One row tells what no collection is asked of, whichever class owns pairs: theirs aren't read."""
+    words = ("--mapping", ask.mapping(TAGS))
+    ask.filled(TAGGED, *words)
+    size = "SELECT SIZE(t.bases) FROM Tagged t WHERE t.id = 2"
+    ask.answers([size], ["2"], *words)
+    ask.answers([size, "--explain"], ["reads all rows of Base"], *words)
+    with closing(sqlite3.connect(ask.store)) as store:
+        store.execute("DELETE FROM cell WHERE t = 9 AND r = x'018000000000000002018000000000000001'")
+        store.execute("UPDATE cell SET v = x'00' WHERE t = 9")
+        store.commit()
+    for text, key, lines in [
+        ("SELECT s.a FROM Base s WHERE s.id = 1", 1, ['"x"']),
+        ("SELECT s.a, s.above FROM Base s WHERE s.id = 2", 2, ['["y",{"entity":"Base","key":[1]}]']),
+        ("SELECT t FROM Tagged t WHERE 2 = t.id", 2, ['{"entity":"Base","key":[2]}']),
+        ("SELECT t.a FROM Tagged t WHERE t.id = 1", 1, []),
+    ]:
+        ask.answers([text], lines, *words)
+        plan = f'looks up by its key {{"entity":"Base","key":[{key}]}}'
+        ask.answers([text, "--explain"], [plan], *words)
+    ask.refuses([size], "Damaged(9:018000000000000002018000000000000002)", *words)
 
 
 def words_refused(ask: Asking) -> None:
@@ -295,7 +271,8 @@ def in_use(ask: Asking) -> None:
 def main(given: list[str]) -> int:
     if len(given) != 1:
         sys.exit(__doc__)
-    trials = [persons, places, words_refused, no_stores, damaged, revisions, in_use]
+    trials = [persons, places, paired, words_refused, no_stores, damaged, revisions, in_use]
+    trials += [*wide.TRIALS, random_questions]
     return tried(trials, "questions", lambda trial, place: trial(Asking(given[0], place)))
 
 

@@ -61,6 +61,7 @@ class Texts(Equations):
             calls, calls.random, calls.machine.unit, objects,
         )
         self.parameters, self.names, self.product = {}, [], 1
+        self.is_wide = calls.machine.is_wide
 
     def chance(self, most: float) -> bool:
         return self.random.random() < most
@@ -430,7 +431,7 @@ class Texts(Equations):
             path = self.path(kind, block)
             return path if path and self.chance(0.75) else self.parameter(kind)
         roll = self.random.random()
-        path = self.path(kind, block) if roll < 0.5 else None
+        path = self.path(kind, block) if roll < (0.25 if self.is_wide and kind is str else 0.5) else None
         if path:
             return path
         if depth and roll < 0.78:
@@ -495,6 +496,8 @@ class Texts(Equations):
             if kind is not str
             else ["COALESCE", "NULLIF", "CONCAT", "CONCAT", "SUBSTRING", "SUBSTRING"]
         )
+        if kind is str and self.is_wide and self.chance(0.75):
+            return self.wide_call(block, depth)
         if word == "SUBSTRING":
             places = [self.value(int, block, 0) for _ in range(self.some([1, 2, 2]))]
             return [word, "(", *self.listed([self.value(str, block, depth), *places]), ")"]
@@ -505,6 +508,16 @@ class Texts(Equations):
             *self.listed([self.value(kind, block, depth) for _ in range(count)]),
             ")",
         ]
+
+    def wide_call(self, block: Block, depth: int) -> list[str]:
+        """UPPER, LOWER, or TRIM with what it may have before its value."""
+        word, value = self.some(["UPPER", "LOWER", "TRIM", "TRIM"]), self.value(str, block, depth)
+        before: list[str] = []
+        if word == "TRIM":
+            before += [self.some(["LEADING", "TRAILING", "BOTH"])] if self.chance(0.6) else []
+            before += self.literal(str) if self.chance(0.6) else []
+            before += ["FROM"] if before else []
+        return [word, "(", *before, *value, ")"]
 
     def aggregate(self, kind: type, block: Block) -> list[str]:
         inner = block.but(takes_aggregates=False, groups=None)

@@ -18,11 +18,17 @@ KEYWORDS = set(
     UPDATE SET NULL DELETE OR AND NOT BETWEEN IN LIKE ESCAPE IS EMPTY MEMBER OF EXISTS TYPE LENGTH
     CONCAT SUBSTRING LOCATE ABS MOD SIZE COALESCE NULLIF COUNT SUM MIN MAX""".split()
 )
+# The words that the wider language has besides.
+WIDE_KEYWORDS = KEYWORDS | set(
+    "UPPER LOWER TRIM LEADING TRAILING BOTH CASE WHEN THEN ELSE END ALL ANY SOME".split()
+)
+SIDES = ("LEADING", "TRAILING", "BOTH")
 # How many values a function takes, from and to.
 FUNCTIONS = {
     "LENGTH": (1, 1), "CONCAT": (2, None), "SUBSTRING": (2, 3), "LOCATE": (2, 3), "ABS": (1, 1),
     "MOD": (2, 2), "COALESCE": (2, None), "NULLIF": (2, 2),
 }
+WIDE_FUNCTIONS = {**FUNCTIONS, "UPPER": (1, 1), "LOWER": (1, 1)}
 AGGREGATES = {"COUNT", "SUM", "MIN", "MAX"}
 TOKEN = re.compile(
     r"[ \t\r\n]*(?:(?P<word>[A-Za-z_][A-Za-z0-9_]*)|(?P<integer>[0-9]+)"
@@ -90,8 +96,11 @@ class Reader:
     """A reader of tokens. Each rule of the grammar is a method from a place to what it reads and
     the place after it, or None."""
 
-    def __init__(self, tokens: list[tuple[str, str]]) -> None:
+    def __init__(self, tokens: list[tuple[str, str]], is_wide: bool) -> None:
         self.tokens, self.known = tokens, {}
+        self.is_wide = is_wide
+        self.keywords = WIDE_KEYWORDS if is_wide else KEYWORDS
+        self.functions = WIDE_FUNCTIONS if is_wide else FUNCTIONS
 
     # -- tokens
 
@@ -114,7 +123,7 @@ class Reader:
     def name(self, at: int) -> tuple[str, int] | None:
         """A variable or an item's name, which is no keyword."""
         found = self.word(at)
-        return found if found and found[0].upper() not in KEYWORDS else None
+        return found if found and found[0].upper() not in self.keywords else None
 
     def named(self, at: int) -> tuple[str, int] | None:
         """A variable, which AS may stand before."""
@@ -532,6 +541,24 @@ class Reader:
             at = found[1]
         return Node("path", variable=variable, names=names), at
 
+    def trim(self, at: int) -> tuple[Node, int] | None:
+        """What stands in TRIM: the value alone, or before FROM a side, a text or both."""
+        side = next((side for side in SIDES if self.is_word(at, side)), None)
+        behind = at + 1 if side else at
+        sort, said = self.tokens[behind] if behind < len(self.tokens) else ("end", "")
+        off = {
+            "text": [Node("literal", value=said)], "parameter": [Node("parameter", name=said)],
+        }.get(sort, [])
+        behind += len(off)
+        has_from = self.is_word(behind, "FROM") and (side or off)
+        if side and not has_from:
+            return None
+        found = self.value(behind + 1 if has_from else at)
+        if not found:
+            return None
+        values = [found[0], *(off if has_from else [])]
+        return Node("call", function=f"TRIM {side or 'BOTH'}", values=values), found[1]
+
     def call(self, at: int) -> tuple[Node, int] | None:
         word = self.tokens[at][1].upper()
         if word == "SIZE":
@@ -548,10 +575,12 @@ class Reader:
                 if found
                 else None
             )
-        least, most = FUNCTIONS.get(word, (0, -1))
+        if word == "TRIM" and self.is_wide:
+            return self.closed(self.trim, at + 1)
+        least, most = self.functions.get(word, (0, -1))
         found = (
             self.closed(lambda at: self.listed(self.value, at), at + 1)
-            if word in FUNCTIONS
+            if word in self.functions
             else None
         )
         return (
@@ -582,13 +611,13 @@ def variables_of(statement: Node) -> list[str]:
     ]
 
 
-def statement_of(text: str) -> Node | None:
-    """The statement that a text is; None where it is outside the grammar, and a refusal where it is
-    past a limit."""
+def statement_of(text: str, is_wide: bool = False) -> Node | None:
+    """The statement that a text is, in the profile's language or the wider one; None where it is
+    outside the grammar, and a refusal where it is past a limit."""
     if len(text.encode()) > TEXT_LENGTH or nesting(text) > NESTING:
         raise Refused("Limit")
     try:
-        statement = Reader(tokens_of(text)).statement()
+        statement = Reader(tokens_of(text), is_wide).statement()
     except Syntax:
         return None
     if len(variables_of(statement)) > VARIABLES:

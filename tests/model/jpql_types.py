@@ -9,7 +9,7 @@ from __future__ import annotations
 
 from typing import TYPE_CHECKING, Any
 
-from model.jpql_text import parts_of, variables_of
+from model.jpql_text import SIDES, parts_of, variables_of
 
 if TYPE_CHECKING:
     from model.jpql_text import Node
@@ -272,11 +272,12 @@ class Typing:
             return kind
         taken = {
             "LENGTH": [str], "CONCAT": [str] * len(node.values), "SUBSTRING": [str, int, int],
-            "LOCATE": [str, str, int], "ABS": [int], "MOD": [int, int],
+            "LOCATE": [str, str, int], "ABS": [int], "MOD": [int, int], "UPPER": [str], "LOWER": [str],
+            **{f"TRIM {side}": [str, str] for side in SIDES},
         }
         for kind, value in zip(taken[node.function], node.values):
             self.of(kind, [value], scope)
-        return str if node.function in ("CONCAT", "SUBSTRING") else int
+        return int if node.function in ("LENGTH", "LOCATE", "ABS", "MOD") else str
 
     # -- paths
 

@@ -43,10 +43,11 @@ MARKED_BY_CALLBACK = {"get", "add", "takeOut"}
 # ---- the machine
 
 class Machine(Merging, Queries, OwnCalls):
-    """The machine over a unit, from what was committed before."""
+    """The machine over a unit, from what was committed before. Texts of queries are those of the
+    profile, or of the wider language."""
 
-    def __init__(self, unit: Unit, state: State) -> None:
-        self.unit, self.committed = unit, state
+    def __init__(self, unit: Unit, state: State, is_wide: bool = False) -> None:
+        self.unit, self.committed, self.is_wide = unit, state, is_wide
         self.numbers = dict(state.numbers)
         self.objects, self.managers = [], []
 

@@ -72,7 +72,7 @@ class Queries:
     ) -> Any:
         """The rows that a statement finds, or the one row."""
         manager, given = self.manager(em), Given(self, params)
-        statement = statement_of(text)
+        statement = statement_of(text, self.is_wide)
         if any(number is not None and number < 0 for number in (first, most)):
             raise Refused("IllegalArgument", "range")
         self.typed(statement, given)
@@ -91,7 +91,7 @@ class Queries:
         self, events: Events, em: int, text: str, params: dict[str, Number | Value]
     ) -> int:
         manager, given = self.manager(em), Given(self, params)
-        statement = statement_of(text)
+        statement = statement_of(text, self.is_wide)
         if not manager.is_begun:
             raise Refused("TransactionRequired")
         self.typed(statement, given)
