@@ -201,6 +201,14 @@ class Packages(Copy):
         self.assertEqual(ran.stderr, "packages: could not be installed here: lost\n")
         self.check("1 passed, 0 failed", 0, words=("--quick",))
 
+    def test_one_that_can_not_be_had_keeps_no_other_away(self) -> None:
+        self.put("tests/packages", f"none false\nlost test -e {self.top}/lost\n")
+        self.apt(f'case "$*" in *none*) exit 100 ;; esac\ntouch {self.top}/lost')
+        ran = self.ran("tools/packages")
+        self.assertEqual(ran.returncode, 1)
+        self.assertEqual(ran.stderr, "packages: could not be installed here: none\n")
+        self.assertTrue((self.top / "lost").exists())
+
     def test_it_does_not_wait_for_long(self) -> None:
         self.apt("sleep 50")
         begun = time.monotonic()
@@ -231,6 +239,10 @@ class Counts(unittest.TestCase):
     def test_what_grows_by_half_is_told(self) -> None:
         few, many = {"a": 100.0, "b": 100.0}, {"a": 150.0, "b": 151.0}
         self.assertEqual(counts.grown(few, many, 1.5), ["b"])
+
+    def test_pointers_may_grow_as_far_as_they_take(self) -> None:
+        few, many = {"a": 100.0, "b": 100.0}, {"a": 550.0, "b": 551.0}
+        self.assertEqual(counts.grown(few, many, 1.5, {"a": 400.0, "b": 400.0}), ["b"])
 
     def test_what_goes_through_all_is_told(self) -> None:
         wrong = counts.see({"a": 10.0, "b": 10.0}, {"a": 160.0, "b": 160.0}, {"b"}, 1.5)

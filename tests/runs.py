@@ -11,6 +11,7 @@ them,
 - calls-2.jsonl and replies-2.jsonl, a second process over the file that the first left,
 - status and stderr, where the program ends with another status than 0,
 - words, a word a line, which the program gets in the place of a mapping and a store,
+- language, the word of the language in which the program reads lines and queries,
 - stage: what it needs, where the program did not serve that from its first version on.
 
 All is compared byte for byte. A run of a stage that the program does not serve yet (STAGES of
@@ -90,12 +91,20 @@ def run(program: str, words: list[str], calls: bytes) -> subprocess.CompletedPro
     return subprocess.run([program, *words], input=calls, capture_output=True, timeout=SECONDS)
 
 
+def language_of(folder: str) -> str:
+    """The word of a run's language, or none."""
+    return (read(folder, "language") or b"").decode().strip()
+
+
 def words_of(folder: str, store: str) -> list[str]:
     words = read(folder, "words")
     if words is not None:
         return words.decode().splitlines()
-    mapping = os.path.join(folder, "mapping.json")
-    return (["--mapping", mapping] if os.path.exists(mapping) else []) + ["--db", store]
+    mapping, language = os.path.join(folder, "mapping.json"), language_of(folder)
+    return [
+        *(["--mapping", mapping] if os.path.exists(mapping) else []), "--db", store,
+        *(["--language", language] if language else []),
+    ]
 
 
 def other_replies(found: bytes, wanted: bytes) -> str | None:
@@ -132,6 +141,8 @@ def difference(program: str, folder: str) -> str | None:
             if found:
                 return found
         after = read(folder, "cells.txt")
+        if after is None and not status:
+            return "no cells.txt, which says what it leaves"
         if after is not None and cells(store) != after.decode():
             return "cells:\n" + cells(store)
         return None

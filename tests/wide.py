@@ -257,14 +257,12 @@ def paper(ask: Asking) -> None:
 # ---- the words of the command line
 
 def language_words(ask: Asking) -> None:
-    """`--language` names one language, once, and goes with a query."""
+    """`--language` names one language, once."""
     asked, text = Wide(ask), "SELECT n.id FROM Note n"
-    needs_query = "error: '--language <NAME>' needs '--query <TEXT>'" + HINT
     unknown = "error: '--language <NAME>' is 'profile' or 'wide'" + HINT
     for words, said in [
-        (WIDE, needs_query),
-        (("--language", "another"), needs_query),
-        (("--db", ask.store, *WIDE), needs_query),
+        (("--language", "another"), unknown),
+        (("--db", ask.store, "--language", ""), unknown),
         (("--query", text, *WIDE), "error: '--query <TEXT>' needs '--db <FILE>'" + HINT),
         (("--param", "n=1", *WIDE), "error: '--param <NAME=VALUE>' needs '--query <TEXT>'" + HINT),
         (("--explain", *WIDE), "error: '--explain' needs '--query <TEXT>'" + HINT),
@@ -287,13 +285,58 @@ def language_words(ask: Asking) -> None:
 
 
 def serving(ask: Asking) -> None:
-    """The calls on standard input are served in the profile's language."""
+    """The calls on standard input are served in the language that is named, and else in the profile's."""
     asked = Wide(ask)
-    calls = b'{"call":"createEntityManager"}\n{"call":"query","em":1,"text":"SELECT UPPER(n.u) FROM Note n"}\n'
-    status, out, err = ask.ran(*asked.words, "--db", ask.store, calls=calls)
-    see((status, err), (0, ""), "the calls")
-    wanted = {"events": [], "error": {"name": "IllegalArgument", "no": 6, "why": "syntax"}}
-    see(json.loads(out.splitlines()[1]), wanted, "UPPER in a call")
+    texts = [
+        {"call": "query", "text": "SELECT UPPER(n.u) FROM Note n WHERE n.id = 1"},
+        {"call": "querySingle", "text": "SELECT TRIM('x' FROM n.t) FROM Note n WHERE n.id = 6"},
+        {"call": "executeUpdate", "text": "UPDATE Note n SET n.u = LOWER('Z') WHERE n.id = 1"},
+    ]
+    lines = [{"call": "createEntityManager"}, {"call": "begin", "em": 1}, *({**t, "em": 1} for t in texts)]
+    calls = "".join(json.dumps(line) + "\n" for line in lines).encode()
+
+    def replies(*words: str) -> list[object]:
+        status, out, err = ask.ran(*asked.words, "--db", ask.store, *words, calls=calls)
+        see((status, err), (0, ""), "the calls")
+        return [json.loads(line) for line in out.splitlines()[2:]]
+
+    refused = {"events": [], "error": {"name": "IllegalArgument", "no": 6, "why": "syntax"}}
+    for words in PROFILE:
+        see(replies(*words), [refused] * len(texts), "the calls in the profile")
+    served = [{"events": [], "ok": ok} for ok in (["AB"], "axb", 1)]
+    see(replies(*WIDE), served, "the calls in the wider language")
+
+
+def longest(ask: Asking) -> None:
+    """A collection that is handed in has at most 4,096 values, and those of a text are at most 65,536, counted wherever
+    one stands behind IN. More are `Limit`, whatever else is wrong with the text behind it."""
+    asked = Wide(ask)
+
+    def answered(word: str, text: str, most: int) -> object:
+        line = {"call": word, "em": 1, "text": text, "params": {"ids": list(range(6, most + 6))}}
+        calls = b'{"call":"createEntityManager"}\n' + json.dumps(line).encode() + b"\n"
+        status, out, err = ask.ran(*asked.words, "--db", ask.store, *WIDE, calls=calls)
+        see((status, err), (0, ""), "the collection")
+        return json.loads(out.splitlines()[1])
+
+    def refused(name: str, number: int, **why: str) -> object:
+        return {"events": [], "error": {"name": name, "no": number, **why}}
+
+    counted, limit = "SELECT COUNT(n) FROM Note n WHERE ", refused("Limit", 19)
+    see(answered("query", counted + "n.id IN :ids", 4096), {"events": [], "ok": [4]}, "4,096 values")
+    see(answered("query", counted + "n.id IN :ids", 4097), limit, "4,097 values")
+    for condition in ("n.id IN :ids", "n.id IN (:ids)", "n.id NOT IN :ids"):
+        most, more = (counted + " AND ".join([condition] * times) for times in (16, 17))
+        found = 5 if "NOT" in condition else 4
+        see(answered("query", most, 4096), {"events": [], "ok": [found]}, "65,536 values")
+        for text in (more, more + " AND", more + " AND n.none = 1"):
+            see(answered("query", text, 4096), limit, "69,632 values")
+    many = " OR ".join(["n.id IN :ids"] * 17)
+    see(answered("executeUpdate", "DELETE FROM Note n WHERE " + many, 4096), limit, "what is deleted")
+    elsewhere = counted + " OR ".join(["n.id = :ids"] * 17)
+    see(answered("query", elsewhere, 4096), refused("IllegalArgument", 6, why="parameter"), "not behind IN")
+    see(answered("query", counted + many, 3855), {"events": [], "ok": [4]}, "65,535 values")
+    see(answered("query", counted + many, 3856), limit, "65,552 values")
 
 
 def plans(ask: Asking) -> None:
@@ -312,4 +355,4 @@ def plans(ask: Asking) -> None:
     ask.refuses(every, "Damaged(5:018000000000000002)", *asked.words)
 
 
-TRIALS = [forms, clauses, wrong_forms, names, language_words, serving, plans, paper]
+TRIALS = [forms, clauses, wrong_forms, names, language_words, serving, longest, plans, paper]

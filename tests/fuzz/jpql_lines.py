@@ -56,12 +56,12 @@ class Texts(Equations):
     """Makes statements by chance over a unit. Values come from the maker of calls; objects that a
     manager sees are counted, so that a query has no more tuples than it should."""
 
-    def __init__(self, calls: Calls, objects: Objects) -> None:
+    def __init__(self, calls: Calls, objects: Objects, takes_lists: bool = False) -> None:
         self.calls, self.random, self.unit, self.objects = (
             calls, calls.random, calls.machine.unit, objects,
         )
         self.parameters, self.names, self.product = {}, [], 1
-        self.is_wide = calls.machine.is_wide
+        self.is_wide, self.takes_lists = calls.machine.is_wide, takes_lists
 
     def chance(self, most: float) -> bool:
         return self.random.random() < most
@@ -393,6 +393,11 @@ class Texts(Equations):
                 *left, *negation, "BETWEEN", *self.value(kind, block, 1), "AND",
                 *self.value(kind, block, 1),
             ]
+        if word == "in" and self.takes_lists and self.chance(0.5):
+            listed = self.list_parameter(kind)
+            return [
+                *left, *negation, "IN", *(listed if self.chance(0.5) else ["(", *listed, ")"]),
+            ]
         if word == "in":
             return [
                 *left, *negation, "IN", "(",
@@ -551,11 +556,27 @@ class Texts(Equations):
         if same and self.chance(0.25):
             name = self.some(same)
         else:
-            name = self.some(NAMES) + self.some(["", "", "_", "0", "0", "0"])
-            name = name.replace("_", "") if name[0].isdigit() else name
-            while name in self.parameters:
-                name += self.some("0123456789")
+            name = self.new_name()
             self.parameters[name] = (kind, self.handed(kind))
+        return [("?" if name[0].isdigit() else ":") + name]
+
+    def new_name(self) -> str:
+        """A name that no parameter has yet."""
+        name = self.some(NAMES) + self.some(["", "", "_", "0", "0", "0"])
+        name = name.replace("_", "") if name[0].isdigit() else name
+        while name in self.parameters:
+            name += self.some("0123456789")
+        return name
+
+    def list_parameter(self, kind: Entity | type) -> list[str]:
+        """A parameter that a collection of values of a kind is handed in for."""
+        same = [name for name, (other, _) in self.parameters.items() if other == ("list", kind)]
+        if same and self.chance(0.4):
+            name = self.some(same)
+        else:
+            name = self.new_name()
+            count = self.some([0, 1, 1, 2, 2, 3, 5, self.some([8, 20, 60])])
+            self.parameters[name] = (("list", kind), [self.handed(kind) for _ in range(count)])
         return [("?" if name[0].isdigit() else ":") + name]
 
     def handed(self, kind: Entity | type) -> Value | Values:
@@ -733,3 +754,15 @@ class Texts(Equations):
         before, after = f"SELECT p FROM {entity.name} p WHERE '", "' = 'a'"
         filled = length - len(before) - len(after)
         return before + self.some(["a" * filled, "é" * (filled // 2) + "a" * (filled % 2)]) + after
+
+    def often(self) -> str:
+        """A text in which collections become about as many values as is allowed, together."""
+        entity, count = min(self.unit.entities.values(), key=self.count), self.some([64, 1024, 4096])
+        self.parameters = {
+            "o": (("list", int), [self.some([0, 1, None])] * count),
+            "m": (("list", int), [1] * self.some([0, 0, 1, 2])),
+        }
+        tests = ["1 IN :o"] * (65536 // count) + ["1 NOT IN (:m)"]
+        self.random.shuffle(tests)
+        text = f"SELECT COUNT(p) FROM {entity.name} p WHERE {' OR '.join(tests)}"
+        return text + self.some(["", "", "", " OR", " #"])

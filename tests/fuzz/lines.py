@@ -579,21 +579,22 @@ class Case:
         unit: Unit,
         state: State,
         lines: list[bytes],
+        is_wide: bool = False,
     ) -> None:
         self.mapping, self.unit, self.state, self.lines = mapping, unit, state, lines
-        self.known = None
+        self.is_wide, self.known = is_wide, None
 
     def predicted(self) -> tuple[list[bytes], State]:
         """The replies, and the state afterwards."""
         if self.known is None:
-            machine = Machine(self.unit, self.state)
+            machine = Machine(self.unit, self.state, self.is_wide)
             self.known = [
                 machine.answer(line) for line in lines_of(b"".join(self.lines))
             ], machine.committed
         return self.known
 
     def with_lines(self, lines: list[bytes]) -> Case:
-        return Case(self.mapping, self.unit, self.state, lines)
+        return Case(self.mapping, self.unit, self.state, lines, self.is_wide)
 
 
 def made(
@@ -603,10 +604,11 @@ def made(
     state: State,
     count: int,
     maker: type = Calls,
+    is_wide: bool = False,
 ) -> Case:
     """A case of so many lines, of which some hold line feeds by mutation."""
-    chance, machine, lines, heard, replies = random.Random(seed), Machine(unit, state), [], [], []
-    calls = maker(chance, machine)
+    chance, machine = random.Random(seed), Machine(unit, state, is_wide)
+    calls, lines, heard, replies = maker(chance, machine), [], [], []
 
     def take(line: bytes) -> None:
         lines.append(line + b"\n")
@@ -623,7 +625,7 @@ def made(
             take(line)
     if chance.random() < 0.5:
         lines[-1] = lines[-1].removesuffix(b"\n")
-    case = Case(mapping, unit, state, lines[:count])
+    case = Case(mapping, unit, state, lines[:count], is_wide)
     if lines_of(b"".join(case.lines)) == heard:
         case.known = replies, machine.committed
     return case

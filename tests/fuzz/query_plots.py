@@ -42,14 +42,15 @@ class QueryCalls:
 
     def querying(self, em: int, is_bulk: bool) -> dict[str, Part | dict[str, Value | Values]]:
         """The members of a call with a statement, and mostly the parameters that it takes."""
-        texts = Texts(self, self.seen_by(em))
+        texts = Texts(self, self.seen_by(em), self.machine.is_wide)
         tokens, is_odd = texts.statement(is_bulk), self.random.random() < (
             0.07 if self.marks(em) else 0.35
         )
         roll = self.random.random() if is_odd else 0
         text = texts.text(texts.damaged(tokens) if 0 < roll < 0.6 else tokens)
         if roll > 0.93:
-            text = texts.deep() if roll > 0.96 else texts.long()
+            is_often = texts.takes_lists and roll > 0.98
+            text = texts.often() if is_often else texts.deep() if roll > 0.96 else texts.long()
         params = {name: value for name, (_, value) in texts.parameters.items()}
         members = {"em": em, "text": text}
         if params or self.random.random() < 0.2:
@@ -87,7 +88,32 @@ class QueryCalls:
             )
         elif roll < 0.3 and params:
             params[self.random.choice(list(params))] = {"object": self.object()}
+        elif roll < 0.5 and params and self.machine.is_wide:
+            self.damage_lists(params, self.random.choice(list(params)))
         return params
+
+    def damage_lists(self, params: dict[str, Value | Values], name: str) -> None:
+        """A collection is handed in for a parameter in a value's place, or the other way round, or one
+        of too many, of lists, of another kind or of objects that are nowhere, or where names clash."""
+        value, roll = params[name], self.random.random()
+        if roll < 0.3:
+            params[name] = value[0] if isinstance(value, list) and value else [value]
+        elif roll < 0.4:
+            params[name] = [value] * self.random.choice([4095, 4096, 4097, 5000])
+        elif roll < 0.5:
+            params[name] = [[value]]
+        elif roll < 0.65:
+            params[name] = [*(value if isinstance(value, list) else []), self.object_or_value()]
+        elif roll < 0.85:
+            params[f"{name},{self.random.choice([0, 1, 1, 1, 2, 3, '01'])}"] = value
+        else:
+            params[self.random.choice(["more", "1", "a,1", ""])] = []
+
+    def object_or_value(self) -> Value | Values:
+        """An object that there may be, or a value of any kind, as JSON says it."""
+        if self.random.random() < 0.5:
+            return {"object": self.object()}
+        return self.given(self.value(self.random.choice([int, str, bytes])))
 
     # -- plots
 

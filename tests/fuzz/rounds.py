@@ -32,7 +32,7 @@ def at_limits(unit: Unit) -> State:
 
 def round_of(
     seed: str, at: int, count: int, is_random: bool = False, is_long: bool = False,
-    is_joined: bool = False,
+    is_joined: bool = False, is_wide: bool = False,
 ) -> Iterator[Case]:
     """The cases of a round; one with long contexts begins with many stored objects, one with joins
     with some."""
@@ -48,7 +48,7 @@ def round_of(
     for part in (1, 2):
         length = min(LONG_RUN if is_long else RUN, count)
         maker = JoinCalls if is_joined else LongCalls if is_long else Calls
-        case = made(f"{seed}/{at}/{part}", mapping, unit, state, length, maker)
+        case = made(f"{seed}/{at}/{part}", mapping, unit, state, length, maker, is_wide)
         count -= len(case.lines)
         yield case
         state = case.predicted()[1]

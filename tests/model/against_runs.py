@@ -21,7 +21,7 @@ from model.mapping import refusal
 from model.migration import opened
 from model.reading import UNSERVED, lines_of
 from model.unit import Unit
-from runs import HERE, other_replies, read
+from runs import HERE, language_of, other_replies, read
 
 if TYPE_CHECKING:
     from model.kinds import Cell, Mapping
@@ -61,13 +61,14 @@ def difference(folder: str) -> str | None:
     if word or said.startswith("jpa: Mapping"):
         return None if said == f"jpa: Mapping({word})" else f"Mapping({word})"
     unit, before = Unit(mapping_of(folder)), cells_of(read(folder, "cells-before.txt"))
+    is_wide = language_of(folder) == "wide"
     try:
         state = opened(unit, before)
     except Damaged as damaged:
         told = f"jpa: Damaged({damaged.table}:{damaged.row.hex()})"
         return None if told == said else told
     for ending in ("", "-2"):
-        calls, machine = read(folder, f"calls{ending}.jsonl"), Machine(unit, state)
+        calls, machine = read(folder, f"calls{ending}.jsonl"), Machine(unit, state, is_wide)
         if calls is None:
             continue
         found = other_replies(
@@ -85,7 +86,8 @@ def stands(folder: str) -> list[list[Cell]]:
     """The cells that stand before the opening of a run, and after so many lines, from none to all,
     as the model has them."""
     unit, before = Unit(mapping_of(folder)), sorted(cells_of(read(folder, "cells-before.txt")))
-    machine, others = Machine(unit, opened(unit, before)), left_alone(unit, before)
+    machine = Machine(unit, opened(unit, before), language_of(folder) == "wide")
+    others = left_alone(unit, before)
     found = [before, sorted(machine.committed.cells(unit) + others)]
     for line in lines_of(read(folder, "calls.jsonl")):
         machine.answer(line)

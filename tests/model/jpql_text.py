@@ -12,7 +12,7 @@ from model.reading import GREATEST, Refused
 if TYPE_CHECKING:
     from model.kinds import Value
 
-TEXT_LENGTH, NESTING, VARIABLES = 16384, 32, 8
+TEXT_LENGTH, NESTING, VARIABLES, TOGETHER = 16384, 32, 8, 65536
 KEYWORDS = set(
     """SELECT DISTINCT FROM WHERE GROUP BY HAVING ORDER AS INNER LEFT OUTER JOIN ON ASC DESC
     UPDATE SET NULL DELETE OR AND NOT BETWEEN IN LIKE ESCAPE IS EMPTY MEMBER OF EXISTS TYPE LENGTH
@@ -96,9 +96,11 @@ class Reader:
     """A reader of tokens. Each rule of the grammar is a method from a place to what it reads and
     the place after it, or None."""
 
-    def __init__(self, tokens: list[tuple[str, str]], is_wide: bool) -> None:
+    def __init__(
+        self, tokens: list[tuple[str, str]], is_wide: bool, lists: dict[str, int]
+    ) -> None:
         self.tokens, self.known = tokens, {}
-        self.is_wide = is_wide
+        self.is_wide, self.lists = is_wide, lists
         self.keywords = WIDE_KEYWORDS if is_wide else KEYWORDS
         self.functions = WIDE_FUNCTIONS if is_wide else FUNCTIONS
 
@@ -464,14 +466,31 @@ class Reader:
                 (Node("between", value=value, low=low[0], high=high[0]), high[1]) if high else None
             )
         if self.is_word(at, "IN"):
-            values = self.closed(lambda at: self.listed(self.value, at), at + 1)
-            return (Node("in", value=value, values=values[0]), values[1]) if values else None
+            return self.in_test(value, at + 1)
         if self.is_word(at, "LIKE"):
             return self.like_test(value, self.value(at + 1))
         if self.is_word(at, "MEMBER"):
             path = self.path(at + 1 + self.is_word(at + 1, "OF"))
             return (Node("member", value=value, path=path[0]), path[1]) if path else None
         return None
+
+    def in_test(self, value: Node, at: int) -> tuple[Node, int] | None:
+        """IN of values in parentheses, or of a collection that was handed in for a parameter, with
+        parentheses or without."""
+        found = self.list_name(at) or self.closed(self.list_name, at)
+        if found:
+            listed, after = found
+            values = [Node("parameter", name=(listed, k)) for k in range(self.lists[listed])]
+            return Node("in", value=value, values=values, listed=listed), after
+        values = self.closed(lambda at: self.listed(self.value, at), at)
+        return (
+            (Node("in", value=value, values=values[0], listed=None), values[1]) if values else None
+        )
+
+    def list_name(self, at: int) -> tuple[str, int] | None:
+        """A parameter that a collection was handed in for."""
+        sort, said = self.tokens[at] if at < len(self.tokens) else ("end", "")
+        return (said, at + 1) if sort == "parameter" and said in self.lists else None
 
     def like_test(self, value: Node, pattern: tuple[Node, int]) -> tuple[Node, int] | None:
         if not pattern:
@@ -611,13 +630,32 @@ def variables_of(statement: Node) -> list[str]:
     ]
 
 
-def statement_of(text: str, is_wide: bool = False) -> Node | None:
-    """The statement that a text is, in the profile's language or the wider one; None where it is
-    outside the grammar, and a refusal where it is past a limit."""
+def values_together(tokens: list[tuple[str, str]], lists: dict[str, int]) -> int:
+    """How many values the collections become in a text: those of each, wherever it stands alone behind
+    IN, with parentheses around it or not."""
+    found = 0
+    for at, (sort, said) in enumerate(tokens):
+        if sort == "word" and said.upper() == "IN":
+            behind = tokens[at + 1:at + 4]
+            if behind[:1] == [("mark", "(")] and behind[2:] == [("mark", ")")]:
+                behind = behind[1:]
+            found += sum(lists.get(said, 0) for sort, said in behind[:1] if sort == "parameter")
+    return found
+
+
+def statement_of(
+    text: str, is_wide: bool = False, lists: dict[str, int] | None = None
+) -> Node | None:
+    """The statement that a text is, in the profile's language or the wider one, with how many values
+    the collections have that are handed in for its parameters; None where it is outside the grammar,
+    and a refusal where it is past a limit."""
     if len(text.encode()) > TEXT_LENGTH or nesting(text) > NESTING:
         raise Refused("Limit")
     try:
-        statement = Reader(tokens_of(text), is_wide).statement()
+        tokens = tokens_of(text)
+        if values_together(tokens, lists or {}) > TOGETHER:
+            raise Refused("Limit")
+        statement = Reader(tokens, is_wide, lists or {}).statement()
     except Syntax:
         return None
     if len(variables_of(statement)) > VARIABLES:

@@ -607,7 +607,7 @@ class Machine(Merging, Queries, OwnCalls):
         """The reply to a line, as its bytes."""
         events = []
         try:
-            word, given = call_of(line)
+            word, given = call_of(line, self.is_wide)
         except Refused as refused:
             return reply({"error": told(refused), "events": []})
         try:

@@ -2,12 +2,12 @@
 reads it, model/jpql_types.py types it, model/jpql_run.py says what it means)."""
 from __future__ import annotations
 
-from typing import TYPE_CHECKING, Any
+from typing import TYPE_CHECKING, Any, Iterator
 
 from model.jpql_run import Meaning
 from model.jpql_text import parts_of, statement_of
 from model.jpql_types import IllTyped, Typing
-from model.reading import Number, Refused
+from model.reading import COLLECTION, Number, Refused
 from model.unit import LENGTH, size
 
 if TYPE_CHECKING:
@@ -17,19 +17,36 @@ if TYPE_CHECKING:
     from model.machine import Machine
     from model.unit import Entity
 
+    Handed = Number | Value | list[Number | Value]
+    # The name of a parameter, or of a collection's parameter with the place of one of its values.
+    Name = str | tuple[str, int]
+
+
+def each_named(params: dict[str, Handed]) -> Iterator[tuple[Name, Number | Value]]:
+    """Each value that is handed in, by its name."""
+    for name, value in params.items():
+        if isinstance(value, list):
+            yield from (((name, place), one) for place, one in enumerate(value))
+        else:
+            yield name, value
+
 
 class Given:
-    """The parameters that a call hands in: what each is, and an object's identity in its place."""
+    """The parameters that a call hands in: what each is, and an object's identity in its place. The
+    values of a collection go by its name and their places."""
 
-    def __init__(self, machine: Machine, params: dict[str, Number | Value]) -> None:
+    def __init__(self, machine: Machine, params: dict[str, Handed]) -> None:
+        self.lists = {name: len(value) for name, value in params.items() if isinstance(value, list)}
         self.values = {
             name: machine.object(value.number) if isinstance(value, Number) else value
-            for name, value in params.items()
+            for name, value in each_named(params)
         }
-        if any(size(value) > LENGTH for value in self.values.values()):
+        if any(size(value) > LENGTH for value in self.values.values()) or any(
+            count > COLLECTION for count in self.lists.values()
+        ):
             raise Refused("Limit")
 
-    def objects(self) -> dict[str, Live]:
+    def objects(self) -> dict[Name, Live]:
         """The live objects among them."""
         return {
             name: value
@@ -37,13 +54,13 @@ class Given:
             if value is not None and not isinstance(value, (int, str, bytes))
         }
 
-    def kinds(self) -> dict[str, Entity | type | None]:
+    def kinds(self) -> dict[Name, Entity | type | None]:
         kinds = {
             name: None if value is None else type(value) for name, value in self.values.items()
         }
         return {**kinds, **{name: live.entity.root for name, live in self.objects().items()}}
 
-    def meant(self) -> dict[str, Datum]:
+    def meant(self) -> dict[Name, Datum]:
         return {**self.values, **{name: live.identity() for name, live in self.objects().items()}}
 
     def has_keyless(self) -> bool:
@@ -65,14 +82,14 @@ class Queries:
         events: Events,
         em: int,
         text: str,
-        params: dict[str, Number | Value],
+        params: dict[str, Handed],
         first: int | None,
         most: int | None,
         is_single: bool = False,
     ) -> Any:
         """The rows that a statement finds, or the one row."""
         manager, given = self.manager(em), Given(self, params)
-        statement = statement_of(text, self.is_wide)
+        statement = statement_of(text, self.is_wide, given.lists)
         if any(number is not None and number < 0 for number in (first, most)):
             raise Refused("IllegalArgument", "range")
         self.typed(statement, given)
@@ -88,10 +105,10 @@ class Queries:
         return rows[0] if is_single else rows
 
     def executeUpdate(
-        self, events: Events, em: int, text: str, params: dict[str, Number | Value]
+        self, events: Events, em: int, text: str, params: dict[str, Handed]
     ) -> int:
         manager, given = self.manager(em), Given(self, params)
-        statement = statement_of(text, self.is_wide)
+        statement = statement_of(text, self.is_wide, given.lists)
         if not manager.is_begun:
             raise Refused("TransactionRequired")
         self.typed(statement, given)
@@ -110,9 +127,12 @@ class Queries:
             Typing(self.unit, given.kinds()).statement(statement)
         except IllTyped:
             raise Refused("IllegalArgument", "typing") from None
-        if {node.name for node in parts_of(statement) if node.sort == "parameter"} != set(
-            given.values
-        ) or given.has_keyless():
+        parts = list(parts_of(statement))
+        if (
+            {part.name for part in parts if part.sort == "parameter"} != set(given.values)
+            or {part.listed for part in parts if part.sort == "in"} - {None} != set(given.lists)
+            or given.has_keyless()
+        ):
             raise Refused("IllegalArgument", "parameter")
 
     def flush_before(self, events: Events, manager: Manager) -> None:

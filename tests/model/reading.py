@@ -9,7 +9,7 @@ if TYPE_CHECKING:
     from model.kinds import Part, Value, Values
 
 LEAST, GREATEST = -2**63, 2**63 - 1
-LINE, DEPTH = 1048576, 127
+LINE, DEPTH, COLLECTION = 1048576, 127, 4096
 MEMBERS = {
     "createEntityManager": [], "close": ["em"], "new": ["entity"],
     "set": ["object", "name", "value"], "get": ["object", "name"],
@@ -175,7 +175,12 @@ def given(data: Any) -> Number | Value:
     raise ValueError("value")
 
 
-def member_of(word: str, name: str, data: Any) -> Any:
+def handed(data: Any, is_wide: bool) -> Number | Value | list[Number | Value]:
+    """What is handed in for a parameter: a value, or a collection in the wider language."""
+    return [given(value) for value in data] if is_wide and isinstance(data, list) else given(data)
+
+
+def member_of(word: str, name: str, data: Any, is_wide: bool) -> Any:
     if name in ("em", "object", "member", "first", "max"):
         if not is_integer(data):
             raise ValueError(name)
@@ -193,14 +198,15 @@ def member_of(word: str, name: str, data: Any) -> Any:
     if name == "params":
         if not isinstance(data, dict):
             raise ValueError(name)
-        return {parameter: given(value) for parameter, value in data.items()}
+        return {parameter: handed(value, is_wide) for parameter, value in data.items()}
     if not isinstance(data, str):
         raise ValueError(name)
     return MODES[word][data] if name == "mode" else data
 
 
-def call_of(line: bytes) -> tuple[str, list[Any]]:
-    """The call that a line means: its word and its members in order."""
+def call_of(line: bytes, is_wide: bool = False) -> tuple[str, list[Any]]:
+    """The call that a line means, in the profile's language or the wider one: its word and its
+    members in order."""
     if len(line) > LINE:
         raise Refused("Limit")
     try:
@@ -211,7 +217,7 @@ def call_of(line: bytes) -> tuple[str, list[Any]]:
         if lacking - set(OPTIONAL) or set(data) - {"call", *members}:
             raise ValueError("members")
         return word, [
-            OPTIONAL[name] if name in lacking else member_of(word, name, data[name])
+            OPTIONAL[name] if name in lacking else member_of(word, name, data[name], is_wide)
             for name in members
         ]
     except (ValueError, KeyError):

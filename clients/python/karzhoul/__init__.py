@@ -13,21 +13,22 @@
 from typing import TYPE_CHECKING
 
 from . import refusals
-from .classes.binding import WrongValue
 from .classes.changes import NotBroughtOver
+from .classes.embedded import Embedded
 from .classes.faults import DeclarationError
 from .classes.fields import (
-    by_value, field, generated, json_text, key, many_to_many, many_to_one, money, naive,
+    by_value, embedded, field, generated, json_text, key, many_to_many, many_to_one, money, naive,
     one_to_many, one_to_one, typed, validates, version,
 )
+from .classes.values import WrongValue
 from .entities import Collection, EmbeddedId, Entity, Event
 from .factory import EntityManagerFactory, open
 from .lines import FlushModeType, LifecycleEvent, LockModeType
 from .managers import EntityManager
 from .refusals import (
-    BadLine, Busy, Damaged, EntityExists, EntityNotFound, GivenUp, IllegalArgument,
-    IllegalState, KarzhoulError, Limit, LineLimit, Listener, ManagerLimit, Mapping, NoFreeManager,
-    NoResult, NoSuchManager, NoSuchObject, NonUniqueResult, NotServed, ObjectLimit, OptimisticLock,
+    BadLine, Busy, Damaged, EntityExists, EntityNotFound, GivenUp, IllegalArgument, IllegalState,
+    KarzhoulError, Limit, LineLimit, Listener, ManagerLimit, Mapping, NoFreeManager, NoResult,
+    NoSuchManager, NoSuchObject, NonUniqueResult, NotServed, NotUnique, ObjectLimit, OptimisticLock,
     OutOfMemory, Overflow, Persistence, ProgramEnded, ProgramNotFound, QueryLimit, Refused,
     Restarted, Rollback, StoreFault, StoreInMemory, TextLimit, TransactionRequired,
 )
@@ -39,16 +40,17 @@ __version__ = "0.2.0"
 # Written out, since type checkers read it. `from karzhoul import *` gives no name that Python has
 # too, as `open`, or that its `typing` has, as `Mapping`.
 __all__ = [
-    "Attempt", "EmbeddedId", "Entity", "EntityManager", "EntityManagerFactory", "EntityTransaction",
-    "Event", "DeclarationError", "NotBroughtOver", "WrongValue",
-    "by_value", "field", "generated", "json_text", "key", "many_to_many", "many_to_one", "money",
-    "naive", "one_to_many", "one_to_one", "typed", "validates", "version", "FlushModeType", "LifecycleEvent", "LockModeType", "Statistics", "refusals",
-    "BadLine", "Busy", "Damaged", "EntityExists", "EntityNotFound", "GivenUp",
-    "IllegalArgument", "IllegalState", "KarzhoulError", "Limit", "LineLimit", "Listener",
-    "ManagerLimit", "NoFreeManager", "NoResult", "NoSuchManager", "NoSuchObject",
-    "NonUniqueResult", "NotServed", "ObjectLimit", "OptimisticLock", "OutOfMemory", "Overflow",
-    "Persistence", "ProgramEnded", "ProgramNotFound", "QueryLimit", "Refused", "Restarted",
-    "Rollback", "StoreFault", "StoreInMemory", "TextLimit", "TransactionRequired",
+    "Attempt", "Embedded", "EmbeddedId", "Entity", "EntityManager", "EntityManagerFactory",
+    "EntityTransaction", "Event", "DeclarationError", "NotBroughtOver", "WrongValue", "by_value",
+    "embedded", "field", "generated", "json_text", "key", "many_to_many", "many_to_one", "money",
+    "naive", "one_to_many", "one_to_one", "typed", "validates", "version", "FlushModeType",
+    "LifecycleEvent", "LockModeType", "Statistics", "refusals", "BadLine", "Busy", "Damaged",
+    "EntityExists", "EntityNotFound", "GivenUp", "IllegalArgument", "IllegalState", "KarzhoulError",
+    "Limit", "LineLimit", "Listener", "ManagerLimit", "NoFreeManager", "NoResult", "NoSuchManager",
+    "NoSuchObject", "NonUniqueResult", "NotServed", "NotUnique", "ObjectLimit", "OptimisticLock",
+    "OutOfMemory", "Overflow", "Persistence", "ProgramEnded", "ProgramNotFound", "QueryLimit",
+    "Refused", "Restarted", "Rollback", "StoreFault", "StoreInMemory", "TextLimit",
+    "TransactionRequired",
 ]
 if TYPE_CHECKING:
     __all__ += ["Collection", "Mapping", "open"]

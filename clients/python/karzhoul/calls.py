@@ -125,6 +125,8 @@ class Calls:
         # flush writes.
         self.heard: FrozenSet[str] = frozenset()
         self.hears_before = False
+        # The classes of objects that no callback hears of.
+        self.hidden: FrozenSet[Type[Entity]] = frozenset()
 
     @property
     def _kinds(self) -> Classes:
@@ -222,7 +224,7 @@ class Calls:
             while self._calls:  # As in `ask_lines`.
                 self._settle()
             number = run.made + 1
-            calls = _Calls(run, (line, VALUES % number))
+            calls = _Calls(run, (line, VALUES % b"%d" % number))
             calls.entity, calls.is_short = kind.__name__, True
             self._calls = calls
             self._turn += 1
@@ -455,21 +457,21 @@ class Calls:
             numbers = numbers_of(replies)
             if numbers is not None and (kind is not None or run.are_known(numbers)):
                 return run.objects(numbers, kind)
-        if not self._callbacks and (replies == NULL or are_silent(replies)):
+        if not self._callbacks and not self.hidden and are_silent(replies):
             return [None] * len(replies)
         if kind is None and not self._callbacks and not self._untold and len(replies) == 1:
-            numbers = loaded_in(replies[0])
-            rows = self._rows(run, calls, numbers, timeout) if numbers else None
+            loaded = loaded_in(replies[0])
+            rows = self._rows(run, calls, *loaded, timeout) if loaded else None
             return None if rows is None else [rows]
         return None
 
     def _rows(
-        self, run: Run, calls: _Calls, numbers: List[int], timeout: Optional[float]
+        self, run: Run, calls: _Calls, numbers: List[int], listed: bytes, timeout: Optional[float]
     ) -> Optional[List[Entity]]:
         """The rows of a reply, which were all loaded for it, with their values, as `_heard` gives
         them, in less time; None where they are any other ones."""
         if calls.shown is None:
-            calls.shown = numbers, _Calls(run, run.values_lines(numbers))
+            calls.shown = numbers, _Calls(run, run.values_lines(numbers, listed))
         turn, owner = self._turn, run.known.expect_rows(calls.lines[0])
         epoch = owner.epoch()
         if self._calls is not calls:  # As in `_shown`.
@@ -562,7 +564,7 @@ class Calls:
             self.show(run, run.unread([entity]))
         else:
             self._show_one(run, entity)
-        return entity._karzhoul_shown.values
+        return entity._karzhoul_values
 
     def _show_one(self, run: Run, entity: Entity) -> None:
         """Reads the values of an object anew, as `show` does, in less time."""
@@ -572,7 +574,7 @@ class Calls:
             shown = entity._karzhoul_shown
             if shown is shown.owner.unread and shown.owner is not run.known.anyone:
                 entity._karzhoul_foresight.note(True)
-            calls = self._calls = _Calls(run, (VALUES % entity._karzhoul_number,))
+            calls = self._calls = _Calls(run, (VALUES % b"%d" % entity._karzhoul_number,))
             places = run.known.expect_one(entity)
             if self._calls is not calls:  # As in `_shown`.
                 run.known.forget()

@@ -15,6 +15,7 @@ from .arguments import meant
 from .asked import Statement, mistakes_in
 from .dumping import Stored
 from .factory import EntityManagerFactory
+from .given import mapping_data
 from .linter import lint
 from .loading import HEARD, HEARD_OF_CHANGES, Loader
 from .plans import Plan, Terms, checked
@@ -23,6 +24,7 @@ from .records import Key, Shape, bare, shapes_of
 from .refusals import KarzhoulError, Misused, ProgramEnded, Refused
 from .sources import RowFault, Source
 from .spelling import FORMAT, Begun, Ended, cells_of, columns_of, line_of_item, row_of_cells
+from .unit import OWN_ENTITIES
 
 WRONG, FAILED, INTERRUPTED = 1, 4, 130
 # Opens the program for a command, over this mapping and this database.
@@ -84,9 +86,7 @@ def _size(word: str) -> int:
 
 def _mapping_of(said: argparse.Namespace) -> Optional[Dict[str, Any]]:
     """The mapping that a command names; None where it is wrong, which is told."""
-    if not os.path.exists(said.mapping):
-        raise FileNotFoundError(f"there is no mapping {said.mapping}: --mapping names another one")
-    data = Path(said.mapping).read_bytes()
+    data = mapping_data(said.mapping)
     findings = lint(data).findings
     for finding in findings:
         print(f"{said.mapping}:{finding}", file=sys.stderr)
@@ -173,7 +173,12 @@ def _write_lines(
 def _write_csv(
     stored: Stored, entity: str, wanted: Mapping[str, List[Key]], out: TextIO, told: Progress
 ) -> None:
-    columns = columns_of(stored.shapes[entity], stored.shapes)
+    shape = stored.shapes[entity]
+    # The keys of what is unique are made anew, by the next opening with the classes.
+    columns = [
+        it for it in columns_of(shape, stored.shapes)
+        if it.sort != "link" or shape.links[it.member].type not in OWN_ENTITIES
+    ]
     out.write(row_of_cells(column.name for column in columns) + "\n")
     for rows, record in enumerate(stored.records(entity, wanted[entity]), 1):
         out.write(row_of_cells(cells_of(record, columns)) + "\n")
@@ -233,7 +238,7 @@ def run_load(said: argparse.Namespace, opened: Opener) -> int:
     has_any = bare(mapping, heard) != bare(mapping)
     terms = Terms(said.size, said.dry_run, said.update, said.new_keys, is_wanted and has_any)
     alone = bare(mapping, heard if terms.hears else ())
-    with Source(said.file, shapes, said.csv) as source:
+    with Source(said.file, shapes, said.csv, said.new_keys) as source:
         try:
             plan = checked(source, shapes, terms)
             status = _load(said, opened, alone, source, plan, terms)

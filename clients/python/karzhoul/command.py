@@ -15,13 +15,22 @@ from typing import Any, List, Mapping, Optional, Sequence, Union
 
 from . import beginnings, carrying, factory, migration, selecting, show, stubs
 from .classes import printing
+from .classes.mapping import FORMS
 from .finding import find_program
+from .given import WrongMapping, given_of, mapping_data
+from .jpql import LanguageName
 from .linter import lint
+from .migrating import command as bringing_over
 from .opening import why_unopened
 from .refusals import Damaged, KarzhoulError, Misused
 from .refusals import Mapping as MappingRefused
 from .schema import mapping_schema
 
+_MIGRATE = """With --from it brings a database over from the mapping or the classes that it was
+written with to those of --mapping: each object is read, stored in a new file beside the old one,
+and that takes the old one's place by one rename. Stopped at any moment, the old one stands.
+docs/CARRY-OVER.md tells the rest. Without --from it is for mappings by hand, and tells what an
+opening with one of revision 2 changes (docs/REVISIONS.md)."""
 WRONG, MISSAID, REFUSED, FAILED, INTERRUPTED = 1, 2, 3, 4, 130
 Parsers = Sequence[argparse.ArgumentParser]
 
@@ -51,6 +60,9 @@ def main(words: Optional[List[str]] = None) -> int:
         # Whoever read has enough; what is still to be written goes nowhere.
         os.dup2(os.open(os.devnull, os.O_WRONLY), sys.stdout.fileno())
         return FAILED
+    except WrongMapping as fault:
+        print(fault, file=sys.stderr)
+        return WRONG
     except (KarzhoulError, OSError, ValueError) as fault:
         more = f"\n  {fault.explain()}" if isinstance(fault, Damaged) else ""
         print(f"karzhoul: {fault}{more}", file=sys.stderr)
@@ -79,7 +91,10 @@ def _parser() -> argparse.ArgumentParser:
         "--program", help="the program to start (else the one of the client, else KARZHOUL_PROGRAM)"
     )
     named.add_argument("mapping", help="the mapping file, or a pipe")
-    over.add_argument("--mapping", default="mapping.json", help="the mapping file (%(default)s)")
+    over.add_argument(
+        "--mapping", default="mapping.json",
+        help="the mapping file, or a module of classes, by its name or its file (%(default)s)",
+    )
     stored.add_argument("db", help="the database file")
     _add_check(commands, [common, named])
     _add_stubs(commands, [named])
@@ -126,14 +141,38 @@ def _add_show(commands: Any, takes: Parsers) -> None:
 
 def _add_migrate(commands: Any, takes: Parsers) -> None:
     migrated = commands.add_parser(
-        "migrate", parents=takes,
-        help="tell what an opening with another mapping changes in a database file",
+        "migrate", parents=takes, description=_MIGRATE,
+        help="bring a database file over to another mapping or other classes",
     )
-    way = migrated.add_mutually_exclusive_group(required=True)
-    way.add_argument("--dry-run", action="store_true", help="only tell, and write nothing")
+    way = migrated.add_mutually_exclusive_group()
+    way.add_argument(
+        "--dry-run", action="store_true",
+        help="without --from: only tell what an opening by a mapping by hand would write",
+    )
+    way.add_argument(
+        "--plan", action="store_true",
+        help="with --from: tell what will be done, try it on all objects, and write nothing",
+    )
     way.add_argument(
         "--copy", metavar="FILE",
-        help="copy the database to this new file, and then open it, which changes it",
+        help="keep the database as it was in this new file: without --from before it is opened by "
+        "the mapping, which changes it, and with --from in place of DB.before",
+    )
+    migrated.add_argument(
+        "--from", dest="before", metavar="MAPPING",
+        help="the mapping file, or the module of classes, that the database was written with",
+    )
+    migrated.add_argument(
+        "--with", dest="functions", metavar="MODULE",
+        help="the module of functions bring_over_CLASS(old), or its file",
+    )
+    migrated.add_argument(
+        "--drop", action="append", default=[], metavar="CLASS[.MEMBER]",
+        help="what of before may be lost",
+    )
+    migrated.add_argument(
+        "--lock", metavar="FILE",
+        help="the file of the numbers of classes (karzhoul.lock.json beside their module)",
     )
     asked = "in a dry run, ask the program too, over a copy, which --program says as well"
     migrated.add_argument("--with-program", action="store_true", help=asked)
@@ -148,6 +187,11 @@ def _add_shell(commands: Any, takes: Parsers) -> None:
     shell.add_argument(
         "--stop", action="store_true",
         help="end at the first line that is refused or not understood",
+    )
+    shell.add_argument(
+        "--language", choices=("profile", "wide"),
+        help="the language of statements: the profile's, as of a mapping, or the wide one, as of "
+        "classes",
     )
     shell.add_argument(
         "--echo", action="store_true",
@@ -243,9 +287,22 @@ def run_stubs(said: argparse.Namespace) -> int:
 
 
 def run_migrate(said: argparse.Namespace) -> int:
-    """Tells what an opening would change; then opens the database, once it is copied, or in a dry
-    run a copy of it, if that is wanted."""
-    data, db = Path(said.mapping).read_bytes(), _there(said.db)
+    """Brings a database over from another mapping. Where that isn't named, tells what an opening
+    would change; then opens the database, once it is copied, or in a dry run a copy of it, if that
+    is wanted."""
+    if said.before is not None:
+        _refuse_words(said, "--from", dry_run=said.dry_run, with_program=said.with_program)
+        return bringing_over.run(said)
+    _refuse_words(said, "", plan=said.plan, drop=said.drop, lock=said.lock,
+                  **{"with": said.functions})
+    if not said.dry_run and said.copy is None:
+        raise Misused("--from names the mapping that the database was written with; without it one "
+                      "of --dry-run and --copy FILE is needed")
+    given = given_of(said.mapping)
+    if not isinstance(given, str):
+        raise Misused("without --from it is for mappings by hand, and not for classes: karzhoul.open "
+                      "brings a database over to these, or refuses it with what to do")
+    data, db = Path(given).read_bytes(), _there(said.db)
     if said.copy is not None and os.path.lexists(said.copy):
         raise FileExistsError(f"there is a file {said.copy} already")
     report = lint(data)
@@ -268,6 +325,14 @@ def run_migrate(said: argparse.Namespace) -> int:
         )
     except sqlite3.Error as fault:
         raise KarzhoulError(f"{said.db} can't be read ({fault}): {why_unopened(db)}") from fault
+
+
+def _refuse_words(said: argparse.Namespace, there: str, **given: object) -> None:
+    """Refuses what doesn't go with `--from`, or without it."""
+    for name, value in given.items():
+        if value:
+            way = f"doesn't go with {there}" if there else "goes with --from alone"
+            raise Misused(f"--{name.replace('_', '-')} {way}")
 
 
 def _migrated(mapping: Any, db: Path, said: argparse.Namespace) -> int:
@@ -303,16 +368,22 @@ def _copy(db: Path, copy: Path) -> None:
 
 def _opened(said: argparse.Namespace) -> factory.EntityManagerFactory:
     """The unit over the mapping and the database that a command names."""
-    if not os.path.exists(said.mapping):
-        raise FileNotFoundError(f"there is no mapping {said.mapping}: --mapping names another one")
-    return _opened_over(said, said.mapping, said.db)
+    given = given_of(said.mapping)
+    if isinstance(given, str):
+        return _opened_over(said, given, said.db)
+    return _opened_over(said, json.loads(mapping_data(said.mapping)), said.db, is_wide=True)
 
 
 def _opened_over(
-    said: argparse.Namespace, mapping: Union[str, Mapping[str, Any]], db: Optional[str]
+    said: argparse.Namespace, mapping: Union[str, Mapping[str, Any]], db: Optional[str],
+    is_wide: bool = False,
 ) -> factory.EntityManagerFactory:
-    """The unit over a mapping and a database."""
-    return factory.open(mapping, db, program=said.program)
+    """The unit over a mapping and a database, whose queries are in the language that is said, else
+    in that of a mapping, or the wide one."""
+    language: Optional[LanguageName] = getattr(said, "language", None)
+    if language is None and is_wide:
+        language = "wide"
+    return factory.open(mapping, db, program=said.program, language=language)
 
 
 def _there(db: str) -> Path:
@@ -327,7 +398,7 @@ def run_show(said: argparse.Namespace) -> int:
     _there(said.db)
     with _opened(said) as app:
         try:
-            shown = show.tables(app)
+            shown = [it for it in show.tables(app) if it.entity.name != FORMS]
         except KeyboardInterrupt:
             app.program.kill()  # Else the end would wait for the call's answer.
             raise

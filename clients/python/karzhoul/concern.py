@@ -3,7 +3,7 @@ lost where it is closed."""
 
 from __future__ import annotations
 
-from typing import List, Set
+from typing import Any, Dict, Iterable, List, Sequence, Set
 
 
 class Concern:
@@ -26,3 +26,26 @@ class Concern:
     def of(self, call: str) -> List[int]:
         """Those of a call."""
         return {"persist": self.persisted, "remove": self.removed, "lock": self.locked}[call]
+
+
+class Noted:
+    """The numbers of the objects that a manager's calls persisted and removed, and that no flush
+    has written yet."""
+
+    __slots__ = ("new", "removed")
+
+    def __init__(self) -> None:
+        self.new: Dict[int, None] = {}
+        self.removed: Dict[int, None] = {}
+
+    def hear(self, events: Iterable[Sequence[Any]]) -> None:
+        """Takes note of events of calls that were done."""
+        for kind, number, *_ in events:
+            if kind == "PrePersist":
+                self.new[number] = None
+                self.removed.pop(number, None)
+            elif kind == "PreRemove":
+                self.removed[number] = None
+                self.new.pop(number, None)
+            elif kind in ("PostPersist", "PostRemove"):
+                (self.new if kind == "PostPersist" else self.removed).pop(number, None)

@@ -12,8 +12,8 @@ from typing import (
 )
 
 from .classes.fields import (
-    by_value, dataclass_transform, field, generated, json_text, key, many_to_many, many_to_one,
-    money, naive, one_to_many, one_to_one, typed, version,
+    by_value, dataclass_transform, embedded, field, generated, json_text, key, many_to_many,
+    many_to_one, money, naive, one_to_many, one_to_one, typed, version,
 )
 from .foresight import Foresight
 from .lines import LifecycleEvent, line_of, text_spelled
@@ -35,8 +35,8 @@ _LONGEST = 65_535
 @dataclass_transform(
     kw_only_default=True, eq_default=False,
     field_specifiers=(
-        by_value, field, generated, json_text, key, many_to_many, many_to_one, money, naive,
-        one_to_many, one_to_one, typed, version,
+        by_value, embedded, field, generated, json_text, key, many_to_many, many_to_one, money,
+        naive, one_to_many, one_to_one, typed, version,
     ),
 )
 class Entity:
@@ -48,32 +48,40 @@ class Entity:
 
     A class that extends it declares an entity (`classes`). `was` is the name that it had before,
     one that is `abstract` has no objects and no table, and `dropped` are attributes that it has no
-    more, and that none of its new ones is.
+    more, and that none of its new ones is. Of `unique` attributes no two objects have the same
+    values together: their names, or several such lists of names.
     """
 
-    __slots__ = ("_karzhoul_number", "_karzhoul_run", "_karzhoul_shown", "__weakref__")
+    __slots__ = (
+        "_karzhoul_number", "_karzhoul_run", "_karzhoul_shown", "_karzhoul_values", "__weakref__",
+    )
     _karzhoul_number: int
     # The run of the program that knows it by that number.
     _karzhoul_run: Run
-    # Its values as they were read last.
+    # Its values as they were read last, and for how long they are true.
+    _karzhoul_values: Sequence[Any]
     _karzhoul_shown: Shown
     _karzhoul_factory: ClassVar[EntityManagerFactory]
     # The line that makes one.
     _karzhoul_line: ClassVar[bytes]
     # The place of each member that is no relation among the values.
     _karzhoul_places: ClassVar[Mapping[str, int]] = {}
+    # The parts of embedded values and of keys, by their names in the mapping.
+    _karzhoul_stored: ClassVar[Mapping[str, Attribute]] = {}
     _karzhoul_foresight: ClassVar[Foresight]
     # The attribute that is the key, and the members that are its parts.
     _karzhoul_key: ClassVar[Tuple[str, Sequence[str]]]
 
     _karzhoul_is_typed: ClassVar[bool] = False
     # Of a class that declares an entity: its name of before, what it dropped, whether it is
-    # abstract.
-    _karzhoul_said: ClassVar[Optional[Tuple[Optional[str], Sequence[str], bool]]] = None
+    # abstract, and of which attributes no two objects have the same values.
+    _karzhoul_said: ClassVar[Optional[Tuple[
+        Optional[str], Sequence[str], bool, Sequence[Union[str, Sequence[str]]]
+    ]]] = None
 
     def __init_subclass__(
         cls, *, was: Optional[str] = None, abstract: bool = False, dropped: Sequence[str] = (),
-        **more: Any,
+        unique: Sequence[Union[str, Sequence[str]]] = (), **more: Any,
     ) -> None:
         super().__init_subclass__(**more)
         if "_karzhoul_factory" in cls.__dict__:
@@ -82,7 +90,7 @@ class Entity:
         if hasattr(cls, "_karzhoul_factory"):
             raise TypeError(f"{cls.__name__}: the class of an entity takes no subclass of your own")
         if not cls._karzhoul_is_typed:  # As those of `stubs` are.
-            cls._karzhoul_said = was, dropped, abstract
+            cls._karzhoul_said = was, dropped, abstract, unique
             if "__new__" not in cls.__dict__:
                 cls.__new__ = staticmethod(_new_declared)  # type: ignore[assignment]
 
@@ -127,7 +135,7 @@ class Entity:
         return self
 
     def __reduce_ex__(self, protocol: object) -> NoReturn:
-        kind, key = type(self).__name__, self._karzhoul_key[0]
+        kind, key = type(self).__name__, self._karzhoul_key[0] or "key"
         raise TypeError(
             f"an object of {kind} can't be pickled, since its program alone has its values: pickle "
             f"its {key}, by which it is found again, or the values that are needed"
@@ -161,11 +169,14 @@ def check_names(kind: Type[Entity], names: Iterable[str]) -> None:
 def _named(entity: Entity, key: Optional[Sequence[Any]]) -> str:
     """An object with its key, or with its number where the key isn't at hand."""
     name, parts = entity._karzhoul_key
-    value = None if key is None else key[0] if parts == [name] else tuple(key)
-    return (
-        f"<{type(entity).__name__} "
-        f"{f'#{entity._karzhoul_number}' if key is None else f'{name}={value!r}'}>"
-    )
+    if key is None:
+        told = f"#{entity._karzhoul_number}"
+    elif name:
+        told = f"{name}={key[0] if parts == [name] else tuple(key)!r}"
+    else:  # Several attributes.
+        said = [part.rpartition(".")[2] for part in parts]
+        told = " ".join(f"{part}={value!r}" for part, value in zip(said, key))
+    return f"<{type(entity).__name__} {told}>"
 
 
 class EmbeddedId:
@@ -415,6 +426,10 @@ class Attribute(property):
 
         super().__init__(read if place is None else _reader(place), assign)
 
+    def lines(self, entity: Entity, value: Any) -> List[bytes]:
+        """The lines that set it, where it is looked at through no view."""
+        return [self.line(entity, value)]
+
     def line(self, entity: Entity, value: Any) -> bytes:
         """The line that sets it."""
         number = entity._karzhoul_number
@@ -429,10 +444,9 @@ def _reader(place: int) -> Callable[[Entity], Any]:
     """What reads the value of this place of an object."""
 
     def read(it: Entity) -> Any:
-        shown = it._karzhoul_shown
-        if shown.epoch.is_over:
+        if it._karzhoul_shown.epoch.is_over:
             return it._karzhoul_factory.values_of(it)[place]
-        return shown.values[place]
+        return it._karzhoul_values[place]
 
     return read
 

@@ -9,7 +9,7 @@ from typing import TYPE_CHECKING, Any, Callable, Dict, Iterable, Iterator, Mappi
 
 from .arguments import meant
 from .culprits import Culprits
-from .jpql_check import BYTES, INT, TEXT, Kind, check
+from .jpql_check import BYTES, INT, TEXT, Kind, Kinds, check
 from .line_check import faults_of_line
 from .meanings import meaning
 from .refusals import BadLine, KarzhoulError, Refused, Rollback, StoreFault
@@ -71,7 +71,8 @@ def sentence(refused: Refused) -> Optional[str]:
 
 def _told(refused: Refused, factory: Optional[EntityManagerFactory]) -> Iterator[str]:
     if isinstance(refused, BadLine):
-        yield from faults_of_line(refused.line)
+        language = "profile" if factory is None else factory.language
+        yield from faults_of_line(refused.line, language)
     elif factory is not None:
         said = _said(refused.line)
         if refused.word in _OF_QUERIES:
@@ -85,7 +86,7 @@ def _told(refused: Refused, factory: Optional[EntityManagerFactory]) -> Iterator
 def _of_query(said: Mapping[str, Any], factory: EntityManagerFactory) -> Iterator[str]:
     if isinstance(said.get("text"), str):
         entities = entities_of(factory.mapping)
-        for each in check(said["text"], entities, _kinds(said, factory)):
+        for each in check(said["text"], entities, _kinds(said, factory), factory.language):
             yield str(each)
 
 
@@ -171,9 +172,13 @@ def _said(line: str) -> Mapping[str, Any]:
     return said if isinstance(said, dict) else {}
 
 
-def _kinds(said: Mapping[str, Any], factory: EntityManagerFactory) -> Dict[str, Optional[Kind]]:
+def _kinds(said: Mapping[str, Any], factory: EntityManagerFactory) -> Kinds:
     """The kinds of a query's parameters."""
-    return {name: _kind(value, factory) for name, value in said.get("params", {}).items()}
+    return {
+        name: [_kind(each, factory) for each in value] if isinstance(value, list)
+        else _kind(value, factory)
+        for name, value in said.get("params", {}).items()
+    }
 
 
 def _kind(value: Any, factory: EntityManagerFactory) -> Optional[Kind]:

@@ -9,13 +9,14 @@ from contextlib import AbstractContextManager, closing, contextmanager, nullcont
 from pathlib import Path
 from types import ModuleType
 from typing import (
-    TYPE_CHECKING, Any, Callable, Iterable, Iterator, List, Mapping, Optional, Sequence, Tuple, Type, TypeVar,
-    Union, overload,
+    TYPE_CHECKING, Any, Callable, Iterable, Iterator, List, Mapping, Optional, Sequence, Tuple,
+    Type, TypeVar, Union, overload,
 )
 
 from .arguments import entity_named
 from .begun import Begun
 from .calls import Calls
+from .jpql import LANGUAGES, LanguageName
 from .kinds import Classes
 from .entities import Attribute, E, Entity, check_names, classes_of
 from .finding import find_program
@@ -26,7 +27,7 @@ from .pausing import MOST_ATTEMPTS
 from .places import Place, Places
 from .program import Program, Words
 from .refusals import (
-    BadLine, KarzhoulError, ProgramEnded, Refused, Restarted, StoreFault,
+    BadLine, KarzhoulError, ProgramEnded, ProgramNotFound, Refused, Restarted, StoreFault,
 )
 from .refusals import Mapping as MappingRefused
 from .retrying import Retry
@@ -36,6 +37,7 @@ from .tally import Statistics
 if TYPE_CHECKING:
     from .classes.binding import Binding
     from .classes.conversions import Conversions
+    from .classes.unique import Uniques
 
 T = TypeVar("T")
 
@@ -45,6 +47,7 @@ def open(
     db: Optional[Words] = None, *,
     program: Optional[Words] = None, echo: bool = False, threads: bool = False,
     wait: Optional[float] = 30.0, lock: Union[None, str, Path] = None,
+    language: Optional[LanguageName] = None,
 ) -> EntityManagerFactory:
     """Starts the program over a mapping (a file, a pipe, or what such a file says), or over classes
     (a list of them or their module), and a database file; without one the store is in memory, and
@@ -60,6 +63,10 @@ def open(
     begun before one has no objects left, as by `restart`: what is held of before is `Restarted`
     where it is used, and so objects are for the block of their transaction (`places`).
 
+    Queries are read in a `language` of docs/QUERIES.md: the `"profile"`, or the `"wide"` one, which
+    has UPPER, LOWER and TRIM besides (chapter 4.7.2). Without it classes have the wide one, and a
+    mapping has the profile. A program that serves no wide one is a `ProgramNotFound`.
+
     A mapping that is refused is a `refusals.Mapping` that says where it is wrong, a store a
     `Damaged`, or a `StoreFault` that says what is in the way. `program` names the program to start
     (`finding.find_program` tells where it is looked for else). With `echo` each line, its reply
@@ -67,16 +74,19 @@ def open(
     """
     if db == ":memory:":
         raise ValueError("':memory:' would be a file of that name: leave db out for one in memory")
+    if language is not None and language not in LANGUAGES:
+        raise ValueError(f"language is \"profile\" or \"wide\", and not {language!r}")
     if _are_classes(mapping):
         from .classes.changes import open_classes
 
         def start(said: Mapping[str, Any], binding: Optional[Binding]) -> EntityManagerFactory:
-            return _opened(said, db, program, echo, threads, wait, binding)
+            return _opened(said, db, program, echo, threads, wait, language or "wide", binding)
 
         return open_classes(mapping, lock, db is None, start)  # type: ignore[arg-type]
     if lock is not None:
         raise TypeError("lock= is the file of the numbers of classes, and a mapping has its own")
-    return _opened(mapping, db, program, echo, threads, wait)  # type: ignore[arg-type]
+    said: Union[Words, Mapping[str, Any]] = mapping  # type: ignore[assignment]
+    return _opened(said, db, program, echo, threads, wait, language or "profile")
 
 
 def _are_classes(given: object) -> bool:
@@ -89,7 +99,8 @@ def _are_classes(given: object) -> bool:
 
 def _opened(
     mapping: Union[Words, Mapping[str, Any]], db: Optional[Words], program: Optional[Words],
-    echo: bool, threads: bool, wait: Optional[float], binding: Optional[Binding] = None,
+    echo: bool, threads: bool, wait: Optional[float], language: LanguageName,
+    binding: Optional[Binding] = None,
 ) -> EntityManagerFactory:
     """A factory over a mapping, whose objects are of the classes of a binding."""
     said, faults = _said(mapping)
@@ -99,8 +110,8 @@ def _opened(
     try:
         # A restart finds the store again wherever the process has gone.
         place = os.path.abspath(db or "") if store is None else str(store.db)
-        running = _started(word, said, place, store)
-        app = EntityManagerFactory(running, json.loads(said), echo, store, binding)
+        running = _started(word, said, place, store, language)
+        app = EntityManagerFactory(running, json.loads(said), language, echo, store, binding)
         if threads:
             app._places = Places(app, wait)
         return app
@@ -127,11 +138,15 @@ def _said(mapping: Union[Words, Mapping[str, Any]]) -> Tuple[bytes, Tuple[str, .
         return b"", (f"{os.fspath(mapping)} can't be read: {unread.strerror}",)
 
 
-def _started(program: Words, said: bytes, db: Words, store: Optional[MemoryStore]) -> Program:
+def _started(
+    program: Words, said: bytes, db: Words, store: Optional[MemoryStore], language: LanguageName
+) -> Program:
     """A program that answers calls, over a store; a `StoreFault` says what is in the way."""
+    # The profile is that of a program that is told none, as older ones are.
+    told = () if language == "profile" else ("--language", language)
     with _as_file(said) as file:
         folder = "" if store is None else str(store.folder)
-        running = Program([program, "--mapping", file, "--db", db], folder)
+        running = Program([program, *told, "--mapping", file, "--db", db], folder)
         try:
             running.start()
             return running
@@ -139,6 +154,11 @@ def _started(program: Words, said: bytes, db: Words, store: Optional[MemoryStore
             running.kill()
             if isinstance(fault, StoreFault):
                 fault.why = _why_unopened(db, store)
+            if isinstance(fault, ProgramEnded) and told and "--language" in fault.told:
+                raise ProgramNotFound(
+                    f"{os.fspath(program)!r} is older than this client: it serves the profile's "
+                    "language alone. Open with language=\"profile\", or take a later program"
+                ) from fault
             raise
 
 
@@ -172,14 +192,17 @@ class EntityManagerFactory(Calls, AbstractContextManager["EntityManagerFactory"]
     is done as a whole."""
 
     def __init__(
-        self, program: Program, mapping: Mapping[str, Any], echo: bool = False,
-        store: Optional[MemoryStore] = None, binding: Optional[Binding] = None,
+        self, program: Program, mapping: Mapping[str, Any], language: LanguageName,
+        echo: bool = False, store: Optional[MemoryStore] = None, binding: Optional[Binding] = None,
     ) -> None:
-        """With the store, where it is in memory, and the classes that a user wrote."""
+        """With the language of its queries, the store, where it is in memory, and the classes that
+        a user wrote."""
         super().__init__(mapping, classes_of(self, mapping, binding), echo)
+        self.language = language
         self.binding = binding
-        # What it does to queries, where it has classes.
+        # What it does to queries, where it has classes, and what is unique of these.
         self.conversions: Optional[Conversions] = None
+        self.uniques: Optional[Uniques] = None
         self._store = store
         # Where it is opened for threads.
         self._places: Optional[Places] = None
@@ -196,15 +219,29 @@ class EntityManagerFactory(Calls, AbstractContextManager["EntityManagerFactory"]
         if self._places is not None:
             self._places.run_begun()
 
-    def bind(self) -> None:
-        """From now on new objects of its classes are its own, and their methods hear of events."""
+    def bind(self, uniques: Optional[Uniques]) -> None:
+        """From now on new objects of its classes are its own, their methods hear of events, and
+        what is unique is kept so."""
         assert self.binding is not None
         from .classes.conversions import Conversions
 
+        from .classes.mapping import UNIQUE
+
+        self.uniques = uniques
+        if uniques is not None:
+            self.hidden = frozenset([self._classes[UNIQUE]])
         self.conversions = Conversions(self.binding.model)
         self.binding.find_fast(self.leaves)
         self.binding.listen(self)
         self.binding.opened(self)
+        self._ask_indexes()
+
+    def _ask_indexes(self) -> None:
+        """Tells a program that was started what will be looked up. A new run of it needs no word,
+        and what is refused costs time alone."""
+        lines = self.binding.index_lines() if self.binding is not None else []
+        if lines:
+            self.ask_lines(None, lines, is_quiet=True)
 
     def __exit__(self, kind: Optional[Type[BaseException]], *_: object) -> None:
         # What the block itself raised is told.
@@ -267,7 +304,8 @@ class EntityManagerFactory(Calls, AbstractContextManager["EntityManagerFactory"]
             self.program.close()
             self._calls = None
             said = json.dumps(self.mapping).encode()
-            self._begin_run(_started(program, said, db, self._store))
+            self._begin_run(_started(program, said, db, self._store, self.language))
+            self._ask_indexes()
 
     @overload
     def entity(self, name: str) -> Type[Entity]: ...
@@ -352,7 +390,7 @@ class EntityManagerFactory(Calls, AbstractContextManager["EntityManagerFactory"]
         beginning, with a new manager, at most so many times in all:
 
         - where another manager's commit came first: after an `OptimisticLock` or a `Busy`, be it of
-          a call or of the commit;
+          a call or of the commit, and after a `NotUnique` that `is_raced`;
         - where another thread's call ended the program, as by `end_program_after`: then it is
           opened again first. So it is where the program had ended before the work began;
         - opened for threads: where the run had too few objects left for the work (`ObjectLimit`).
@@ -422,7 +460,7 @@ class EntityManagerFactory(Calls, AbstractContextManager["EntityManagerFactory"]
                 for member, value in row.items():
                     attribute = getattr(kind, member, None)
                     if isinstance(attribute, Attribute) and not attribute.is_viewed:
-                        lines.append(attribute.line(each, value))
+                        lines += attribute.lines(each, value)
                     else:
                         self.tell_all(run, lines)
                         lines = []
@@ -441,12 +479,17 @@ class EntityManagerFactory(Calls, AbstractContextManager["EntityManagerFactory"]
         if not objects:
             return self.ask_lines(None, [])
         run, kind = self._run_of(objects[0]), type(objects[0])
-        place = kind._karzhoul_places.get(name)
-        if place is not None and all(type(it) is kind for it in objects):
+        attribute = kind._karzhoul_stored.get(name) or getattr(kind, name, None)
+        place = kind._karzhoul_places.get(getattr(attribute, "name", name))
+        is_of_kind = all(type(it) is kind for it in objects)
+        of_row = getattr(attribute, "of_row", None)
+        if of_row is not None and is_of_kind:
+            return [of_row(values) for values in self._values(run, objects)]
+        if place is not None and is_of_kind:
             found = [values[place] for values in self._values(run, objects)]
-            value = getattr(getattr(kind, name, None), "value", None)
+            value = getattr(attribute, "value", None)
             return found if value is None else list(map(value, found))
-        target = getattr(getattr(kind, name, None), "target", "")
+        target = getattr(attribute, "target", "")
         return self.ask_lines(run, [run.get_line(entity, name) for entity in objects], target)
 
     def get_members(self, entity: Entity, names: Iterable[str]) -> List[Any]:
@@ -462,7 +505,7 @@ class EntityManagerFactory(Calls, AbstractContextManager["EntityManagerFactory"]
         unread = run.unread(objects)
         if unread:
             self.show(run, unread)
-        return [entity._karzhoul_shown.values for entity in objects]
+        return [entity._karzhoul_values for entity in objects]
 
     def key_at_hand(self, entity: Entity) -> Optional[List[Any]]:
         """The parts of an object's key; None where calls are kept in a pipeline, which asking would
@@ -479,7 +522,7 @@ class EntityManagerFactory(Calls, AbstractContextManager["EntityManagerFactory"]
         run = self._run_of(entity)
         if self.binding is not None and isinstance(attribute := getattr(type(entity), name, None),
                                                    Attribute) and not attribute.is_viewed:
-            self.tell(run, attribute.line(entity, value))
+            self.tell_all(run, attribute.lines(entity, value))
             return
         self.tell(run, run.set_line(entity, name, value))
 

@@ -51,7 +51,8 @@ def _read(
 def _values(factory: EntityManagerFactory, held: Sequence[Entity], name: str) -> Sequence[Any]:
     """The values of a member of objects of one class; an embedded id is the tuple of its parts."""
     key, parts = held[0]._karzhoul_key
-    if name != key or list(parts) == [name]:
+    is_typed = hasattr(getattr(type(held[0]), name, None), "of_row")
+    if name != key or list(parts) == [name] or is_typed:
         return factory.get_many(held, name)
     return list(zip(*(factory.get_many(held, part) for part in parts)))
 

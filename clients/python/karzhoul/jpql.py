@@ -7,32 +7,62 @@ what may stand there.
 from __future__ import annotations
 
 import re
+from contextlib import suppress
 from dataclasses import dataclass, field, replace
-from typing import Any, Callable, Dict, List, NamedTuple, NoReturn, Optional, Tuple, TypeVar, Union
+from functools import lru_cache
+from typing import (
+    Any, Callable, Dict, FrozenSet, List, Literal, Mapping, NamedTuple, NoReturn, Optional, Tuple,
+    TypeVar, Union,
+)
 
 T = TypeVar("T")
 
 MOST_BYTES = 16_384
 MOST_NESTED = 32
 MOST_VARIABLES = 8
+MOST_LISTED = 4_096
+MOST_LISTED_TOGETHER = 65_536
 GREATEST = 2**63 - 1
-KEYWORDS = frozenset(
-    """SELECT DISTINCT FROM WHERE GROUP BY HAVING ORDER AS INNER LEFT OUTER JOIN ON ASC DESC UPDATE
-    SET NULL DELETE OR AND NOT BETWEEN IN LIKE ESCAPE IS EMPTY MEMBER OF EXISTS TYPE LENGTH CONCAT
-    SUBSTRING LOCATE ABS MOD SIZE COALESCE NULLIF COUNT SUM MIN MAX""".split()
-)
-# How many values a function takes, from and to.
-FUNCTIONS: Dict[str, Tuple[int, int]] = {
-    "LENGTH": (1, 1),
-    "CONCAT": (2, MOST_BYTES),
-    "SUBSTRING": (2, 3),
-    "LOCATE": (2, 3),
-    "ABS": (1, 1),
-    "MOD": (2, 2),
-    "COALESCE": (2, MOST_BYTES),
-    "NULLIF": (2, 2),
-}
 AGGREGATES = ("COUNT", "SUM", "MIN", "MAX")
+
+
+@dataclass(frozen=True)
+class Language:
+    """A language of queries: its keywords, how many values each function takes, from and to, and
+    whether a list may be handed in for a parameter that stands behind IN."""
+
+    keywords: FrozenSet[str]
+    functions: Mapping[str, Tuple[int, int]]
+    takes_lists: bool
+
+
+_PROFILE = Language(
+    frozenset(
+        """SELECT DISTINCT FROM WHERE GROUP BY HAVING ORDER AS INNER LEFT OUTER JOIN ON ASC DESC
+        UPDATE SET NULL DELETE OR AND NOT BETWEEN IN LIKE ESCAPE IS EMPTY MEMBER OF EXISTS TYPE
+        LENGTH CONCAT SUBSTRING LOCATE ABS MOD SIZE COALESCE NULLIF COUNT SUM MIN MAX""".split()
+    ),
+    {
+        "LENGTH": (1, 1),
+        "CONCAT": (2, MOST_BYTES),
+        "SUBSTRING": (2, 3),
+        "LOCATE": (2, 3),
+        "ABS": (1, 1),
+        "MOD": (2, 2),
+        "COALESCE": (2, MOST_BYTES),
+        "NULLIF": (2, 2),
+    },
+    takes_lists=False,
+)
+_WIDE = Language(
+    _PROFILE.keywords
+    | set("UPPER LOWER TRIM LEADING TRAILING BOTH CASE WHEN THEN ELSE END ALL ANY SOME".split()),
+    {**_PROFILE.functions, "UPPER": (1, 1), "LOWER": (1, 1), "TRIM": (1, 2)},
+    takes_lists=True,
+)
+LanguageName = Literal["profile", "wide"]
+# As `jpa --grammar` tells them.
+LANGUAGES: Mapping[LanguageName, Language] = {"profile": _PROFILE, "wide": _WIDE}
 _STATEMENTS = ("SELECT", "UPDATE", "DELETE")
 COMPARISONS = ("=", "<>", "<", "<=", ">", ">=")
 
@@ -231,10 +261,19 @@ class _No(Exception):
     """A rule doesn't fit here."""
 
 
-def statement_of(text: str, *, takes_lists: bool = False) -> Statement:
-    """The statement that a text is; an `Unreadable` where it is none. With `takes_lists` a
-    parameter may stand behind IN without parentheses."""
-    return _Reader(tokens_of(text), takes_lists).statement()
+def statement_of(text: str, language: LanguageName = "profile") -> Statement:
+    """The statement that a text is in a language; an `Unreadable` where it is none."""
+    return _Reader(tokens_of(text), LANGUAGES[language]).statement()
+
+
+@lru_cache(maxsize=256)
+def read(text: str) -> Optional[Statement]:
+    """The statement that a text is in either language, which nobody changes; None where it is none.
+    What both languages read is one statement in both."""
+    for language in (replace(_PROFILE, takes_lists=True), _WIDE):
+        with suppress(Unreadable, RecursionError):
+            return _Reader(tokens_of(text), language).statement()
+    return None
 
 
 @dataclass
@@ -243,7 +282,7 @@ class _Reader:
     `_No`; `expected` are the words for what may stand at the furthest place that was looked at."""
 
     tokens: List[Token]
-    takes_lists: bool = False
+    language: Language
     at: int = 0
     furthest: int = 0
     expected: List[str] = field(default_factory=list)
@@ -273,6 +312,9 @@ class _Reader:
     @property
     def _here(self) -> Token:
         return self.tokens[self.at]
+
+    def _is_keyword(self) -> bool:
+        return self._here.said.upper() in self.language.keywords
 
     def _note(self, *expected: str) -> None:
         if self.at > self.furthest:
@@ -318,7 +360,7 @@ class _Reader:
 
     def _name(self, what: str) -> Token:
         """A variable or an item's name, which is no keyword."""
-        is_name = self._here.sort == "word" and self._here.said.upper() not in KEYWORDS
+        is_name = self._here.sort == "word" and not self._is_keyword()
         return self._next() if is_name else self._no(what)
 
     def _named(self, what: str) -> Token:
@@ -543,7 +585,7 @@ class _Reader:
             self._must("AND")
             return self._of_values("between", value, low, self._value())
         if self._may("IN"):
-            if self.takes_lists and self._here.sort == "parameter":
+            if self.language.takes_lists and self._here.sort == "parameter":
                 return self._of_values("in", value, self._atom())
             return self._of_values("in", value, *self._closed(lambda: self._listed(self._value)))
         if self._may("LIKE"):
@@ -597,7 +639,7 @@ class _Reader:
         if token.sort != "word":
             self._no("a value")
         call = token.said.upper()
-        is_call = call in FUNCTIONS or call in AGGREGATES or call == "SIZE"
+        is_call = call in (*self.language.functions, *AGGREGATES, "SIZE")
         return self._call(call) if is_call else self._path()
 
     def _path(self) -> Node:
@@ -614,13 +656,31 @@ class _Reader:
         if call in AGGREGATES:
             value = self._closed(self._counted)
             return Node("aggregate", start, self._end(), call, (value,))
+        if call == "TRIM":
+            parts = self._closed(self._trimmed)
+            return Node("call", start, self._end(), call, parts)
         values = self._closed(lambda: self._listed(self._value))
-        least, most = FUNCTIONS[call]
+        least, most = self.language.functions[call]
         if not least <= len(values) <= most:
             self.at -= 1
             others = "" if least == most else f" or {most if most < 9 else 'more'}"
             self._no(f"the end of {least}{others} value{'s' if most > 1 else ''} of {call}")
         return Node("call", start, self._end(), call, tuple(values))
+
+    def _trimmed(self) -> Tuple[Node, ...]:
+        """The value of TRIM, and behind it what is taken off, where that is said before FROM."""
+        has_side = any(map(self._may, ("LEADING", "TRAILING", "BOTH")))
+        taken = self._try(self._taken_off)
+        if has_side and taken is None:
+            self._must("FROM")
+        return (self._value(),) if taken is None else (self._value(), taken)
+
+    def _taken_off(self) -> Node:
+        if self._here.sort not in ("text", "parameter"):
+            self._no("a text", "a parameter")
+        taken = self._atom()
+        self._must("FROM")
+        return taken
 
     def _counted(self) -> Node:
         self._may("DISTINCT")

@@ -7,12 +7,14 @@ It refuses exactly what the program refuses for its text, with the same word: `L
 from __future__ import annotations
 
 from dataclasses import dataclass
-from typing import Any, Dict, FrozenSet, List, Mapping, NamedTuple, Optional, Sequence, Tuple
+from typing import (
+    Any, Dict, FrozenSet, List, Mapping, NamedTuple, Optional, Sequence, Tuple, Union,
+)
 
 from . import jpql
 from .arguments import meant
-from .jpql import Block, Bulk, Node, Source, Statement, Token
-from .jpql_words import UNSERVED, syntax_told
+from .jpql import Block, Bulk, LanguageName, Node, Source, Statement, Token
+from .jpql_words import syntax_told, unserved
 from .unit import EntityDescription, Member, MemberKind
 
 SYNTAX, TYPING, PARAMETER = (f"IllegalArgument({why})" for why in ("syntax", "typing", "parameter"))
@@ -30,8 +32,9 @@ class Kind(NamedTuple):
 
 
 INT, TEXT, BYTES = Kind("int"), Kind("text"), Kind("bytes")
-# The kinds of parameters by their names: None is null, which goes with all.
-Kinds = Mapping[str, Optional[Kind]]
+# The kinds of parameters by their names: None is null, which goes with all. A list of kinds is that
+# of a list of values, which the wider language takes.
+Kinds = Mapping[str, Union[None, Kind, List[Optional[Kind]]]]
 
 
 @dataclass(frozen=True)
@@ -50,10 +53,11 @@ class QueryFinding:
 
 
 def check(
-    text: str, entities: Mapping[str, EntityDescription], given: Optional[Kinds] = None
+    text: str, entities: Mapping[str, EntityDescription], given: Optional[Kinds] = None,
+    language: LanguageName = "profile",
 ) -> List[QueryFinding]:
-    """What is wrong with a query over these entities, as `unit.entities_of` describes them, and
-    with the parameters that are given; without these, nothing is asked of parameters."""
+    """What is wrong with a query in a language over these entities, as `unit.entities_of` describes
+    them, and with the parameters that are given; without these, nothing is asked of parameters."""
     teller = _Teller(text)
     size = len(text.encode(errors="replace"))
     if size > jpql.MOST_BYTES:
@@ -61,14 +65,16 @@ def check(
     if jpql.nesting(text) > jpql.MOST_NESTED:
         return teller.limit(f"more than {jpql.MOST_NESTED} parentheses stand within one another")
     try:
-        statement = jpql.statement_of(text)
+        statement = jpql.statement_of(text, language)
     except jpql.Unreadable as fault:
-        token, message = syntax_told(fault, _readable_tokens(text, fault.token))
+        token, message = syntax_told(fault, _readable_tokens(text, fault.token), language)
         return teller.tell(SYNTAX, token.at, token.end, message)
+    if given is not None and _bare_values(teller, statement, given):
+        return teller.findings
     variables = jpql.variables_of(statement)
     if len(variables) > jpql.MOST_VARIABLES:
         return teller.limit(f"{len(variables)} variables are declared, and 8 are the most")
-    _Typing(entities, given or {}, teller).statement(statement)
+    _Typing(entities, given or {}, teller, language).statement(statement)
     if not teller.findings and given is not None:
         _parameters(teller, statement, given)
     return teller.findings
@@ -82,8 +88,27 @@ def _readable_tokens(text: str, until: Token) -> List[Token]:
         return []
 
 
+def _bare_values(teller: _Teller, statement: Statement, given: Kinds) -> bool:
+    """Tells the parameters that stand behind IN without parentheses, and are no lists; whether
+    there are any."""
+    for test in jpql.nodes_of(statement):
+        part = test.parts[-1] if test.sort == "in" else None
+        if part is not None and part.end == test.end and not isinstance(given.get(part.said), list):
+            way = f"IN ({teller.text[part.at : part.end]}) takes one value, and IN alone a list"
+            teller.tell(SYNTAX, part.at, part.end, way)
+    return bool(teller.findings)
+
+
 def _parameters(teller: _Teller, statement: Statement, given: Kinds) -> None:
-    """Tells the parameters that are missing, and those that are too much."""
+    """Tells the parameters that are missing, those that are too much, and lists that stand where
+    none may."""
+    tests = [node for node in jpql.nodes_of(statement) if node.sort == "in"]
+    placed = [test.parts[1] for test in tests if len(test.parts) == 2]
+    for node in jpql.parameters_of(statement):
+        is_placed = any(node is each for each in placed) and teller.text[node.at] != "("
+        if isinstance(given.get(node.said), list) and not is_placed:
+            told = f"{node.said!r} is a list, which stands behind IN alone"
+            teller.tell(PARAMETER, node.at, node.end, told)
     named = {node.said: node for node in jpql.parameters_of(statement)[::-1]}
     for name, node in sorted(named.items(), key=lambda pair: pair[1].at):
         if name not in given:
@@ -161,15 +186,18 @@ def _spelled(path: Node) -> Tuple[str, ...]:
 _NUMBERS = {"ABS": (INT,), "MOD": (INT, INT)}
 _TEXTS = {"LENGTH": (TEXT,), "SUBSTRING": (TEXT, INT, INT), "LOCATE": (TEXT, TEXT, INT)}
 _TAKEN: Dict[str, Tuple[Kind, ...]] = {**_NUMBERS, **_TEXTS}
+# Functions whose result is a whole number; that of any other one here is a text.
+_WHOLE = {*_NUMBERS, "LENGTH", "LOCATE"}
 
 
 class _Typing:
     """Whether a statement is well typed over entities, with parameters of these kinds."""
 
     def __init__(
-        self, entities: Mapping[str, EntityDescription], kinds: Kinds, teller: _Teller
+        self, entities: Mapping[str, EntityDescription], kinds: Kinds, teller: _Teller,
+        language: LanguageName,
     ) -> None:
-        self._kinds, self._teller = kinds, teller
+        self._kinds, self._teller, self._language = kinds, teller, language
         self._entities: Dict[str, _Entity] = {}
         for name, entity in entities.items():
             root = entity
@@ -227,10 +255,10 @@ class _Typing:
     def _variable(self, name: Token, scope: _Scope) -> Optional[_Entity]:
         word = name.said.lower()
         if word not in scope.variables:
-            unserved = UNSERVED.get(name.said.upper())
+            why = unserved(name.said, self._language)
             near = meant(word, scope.variables)
             known = f"; there are {', '.join(scope.variables)}" if scope.variables else ""
-            self._wrong(name, unserved or f"there is no variable {name.said} here{near or known}")
+            self._wrong(name, why or f"there is no variable {name.said} here{near or known}")
         return scope.variables.get(word)
 
     def _no_member(self, entity: _Entity, name: Token, what: str, names: Sequence[str]) -> None:
@@ -403,7 +431,7 @@ class _Typing:
 
     def _one_kind(self, parts: Sequence[Node], scope: _Scope) -> Optional[Kind]:
         """The one kind of what is compared."""
-        kinds = [(part, self._value(part, scope)) for part in parts]
+        kinds = [(part, kind) for part in parts for kind in self._of_each(part, scope)]
         known = [(part, kind) for part, kind in kinds if kind is not None]
         for part, kind in known[1:]:
             first, wanted = known[0]
@@ -412,6 +440,11 @@ class _Typing:
                 self._wrong(part, words)
                 return None
         return known[0][1] if known else None
+
+    def _of_each(self, node: Node, scope: _Scope) -> Sequence[Optional[Kind]]:
+        """The kinds of the values that a node stands for, which are several of a list."""
+        listed = self._kinds.get(node.said) if node.sort == "parameter" else None
+        return listed if isinstance(listed, list) else [self._value(node, scope)]
 
     def _type(self, node: Node, scope: _Scope) -> None:
         variable, *names = node.words
@@ -445,7 +478,8 @@ class _Typing:
         if node.sort == "literal":
             return INT if isinstance(node.value, int) else TEXT
         if node.sort == "parameter":
-            return self._kinds.get(node.said)
+            kind = self._kinds.get(node.said)
+            return None if isinstance(kind, list) else kind
         if node.sort == "path":
             return self._path(node, scope)
         if node.sort == "size":
@@ -479,7 +513,7 @@ class _Typing:
         taken = _TAKEN.get(node.said, (TEXT,) * len(node.parts))
         for kind, value in zip(taken, node.parts):
             self._of(kind, [value], scope, node.said)
-        return TEXT if node.said in ("CONCAT", "SUBSTRING") else INT
+        return INT if node.said in _WHOLE else TEXT
 
     # -- paths
 

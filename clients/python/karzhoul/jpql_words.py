@@ -6,12 +6,16 @@ from __future__ import annotations
 import difflib
 from typing import Dict, List, Optional, Sequence, Tuple
 
-from .jpql import AGGREGATES, FUNCTIONS, KEYWORDS, Token, Unreadable
+from .jpql import AGGREGATES, LANGUAGES, LanguageName, Token, Unreadable
 
 _CASE = "CASE isn't served: COALESCE and NULLIF are"
 _DATES = "dates and times aren't served: store whole numbers or texts"
 _NUMBERS = "this function isn't served: ABS and MOD are the functions of numbers"
 _TEXTS = "this function isn't served: those of texts are LENGTH, CONCAT, SUBSTRING and LOCATE"
+_WIDER = (
+    "this function is of the wider language, language='wide'; those of texts are LENGTH, CONCAT, "
+    "SUBSTRING and LOCATE here"
+)
 _TRUTH = "truth values aren't served: compare a whole number"
 _PLACES = "hand in first=.. and max=.. beside the text"
 _MAPS = "maps aren't served"
@@ -49,10 +53,10 @@ UNSERVED: Dict[str, str] = {
     "INSERT": "INSERT isn't served: manager.persist_all(..) stores new objects",
     "LIMIT": _PLACES,
     "OFFSET": _PLACES,
-    "LOWER": _TEXTS,
+    "LOWER": _WIDER,
     "REPLACE": _TEXTS,
-    "TRIM": _TEXTS,
-    "UPPER": _TEXTS,
+    "TRIM": _WIDER,
+    "UPPER": _WIDER,
     "NEW": "SELECT NEW isn't served: rows have their items by name",
     "NULLS": "NULLS FIRST and NULLS LAST aren't served: nulls come first, and last with DESC",
     "OBJECT": "OBJECT(..) isn't served: select the variable alone",
@@ -84,7 +88,16 @@ def spelled(token: Token) -> str:
     return f"'{token.said}'"
 
 
-def syntax_told(fault: Unreadable, tokens: Sequence[Token]) -> Tuple[Token, str]:
+def unserved(word: str, language: LanguageName) -> Optional[str]:
+    """Why a word of JPQL, or of other dialects, isn't served in a language; None where it is, or is
+    no such word."""
+    is_served = word.upper() in LANGUAGES[language].functions
+    return None if is_served else UNSERVED.get(word.upper())
+
+
+def syntax_told(
+    fault: Unreadable, tokens: Sequence[Token], language: LanguageName
+) -> Tuple[Token, str]:
     """The token to look at, of those that were read, and what to say of it."""
     token, before = fault.token, fault.before
     if fault.why:
@@ -93,28 +106,31 @@ def syntax_told(fault: Unreadable, tokens: Sequence[Token]) -> Tuple[Token, str]
         return token, _MARKS.get(token.said, f"{spelled(token)} stands in no query")
     earlier = [each for each in tokens if each.end <= token.at][-2:]
     return (
-        _unserved([token])
-        or _misspelt(token, 0.6, fault.expected)
-        or _unserved(earlier[::-1])
-        or _called(token, before)
+        _unserved([token], language)
+        or _misspelt(token, 0.6, fault.expected, language)
+        or _unserved(earlier[::-1], language)
+        or _called(token, before, language)
         or _misplaced(token, before)
-        or _misspelt(before, 0.7, fault.expected)
-        or (token, _expected(token, before, fault.expected))
+        or _misspelt(before, 0.7, fault.expected, language)
+        or (token, _expected(token, before, fault.expected, language))
     )
 
 
-def _unserved(tokens: Sequence[Token]) -> Optional[Tuple[Token, str]]:
+def _unserved(tokens: Sequence[Token], language: LanguageName) -> Optional[Tuple[Token, str]]:
     """The first of these tokens that isn't served."""
     for each in tokens:
-        if each.sort == "word" and each.said.upper() in UNSERVED:
-            return each, UNSERVED[each.said.upper()]
+        why = unserved(each.said, language) if each.sort == "word" else None
+        if why is not None:
+            return each, why
     return None
 
 
-def _called(token: Token, before: Optional[Token]) -> Optional[Tuple[Token, str]]:
+def _called(
+    token: Token, before: Optional[Token], language: LanguageName
+) -> Optional[Tuple[Token, str]]:
     """A function that there isn't, or a number that isn't whole."""
     if before is not None and token.is_mark("(") and before.sort == "word":
-        return before, _no_function(before.said)
+        return before, _no_function(before.said, language)
     sides = [each for each in (token, before) if each is not None]
     has_point = any(each.is_mark(".") for each in sides)
     if has_point and any(each.sort == "integer" for each in sides):
@@ -122,8 +138,8 @@ def _called(token: Token, before: Optional[Token]) -> Optional[Tuple[Token, str]
     return None
 
 
-def _no_function(word: str) -> str:
-    functions = [*FUNCTIONS, *AGGREGATES, "SIZE", "TYPE", "EXISTS"]
+def _no_function(word: str, language: LanguageName) -> str:
+    functions = [*LANGUAGES[language].functions, *AGGREGATES, "SIZE", "TYPE", "EXISTS"]
     near = difflib.get_close_matches(word.upper(), functions, n=1)
     meant = f": did you mean {near[0]}?" if near else f"; there are {', '.join(functions)}"
     return f"there is no function {word}{meant}"
@@ -143,29 +159,34 @@ def _misplaced(token: Token, before: Optional[Token]) -> Optional[Tuple[Token, s
     return None
 
 
+def _is_keyword(token: Token, language: LanguageName) -> bool:
+    return token.sort == "word" and token.said.upper() in LANGUAGES[language].keywords
+
+
 def _misspelt(
-    token: Optional[Token], cutoff: float, expected: List[str]
+    token: Optional[Token], cutoff: float, expected: List[str], language: LanguageName
 ) -> Optional[Tuple[Token, str]]:
     """The keyword that was meant by a token, or by the one before, which was taken for a name."""
-    if token is None or token.sort != "word" or token.said.upper() in KEYWORDS:
+    if token is None or token.sort != "word" or _is_keyword(token, language):
         return None
-    keywords = [word for word in expected if word in KEYWORDS]
+    keywords = [word for word in expected if word in LANGUAGES[language].keywords]
     near = difflib.get_close_matches(token.said.upper(), keywords, n=1, cutoff=cutoff)
     return (token, f"did you mean {near[0]}?") if near else None
 
 
-def _expected(token: Token, before: Optional[Token], expected: List[str]) -> str:
+def _expected(
+    token: Token, before: Optional[Token], expected: List[str], language: LanguageName
+) -> str:
     """What may stand there."""
     if "a variable" in expected and before is not None and before.sort == "word":
-        if token.sort == "end" or token.said.upper() in KEYWORDS:
+        if token.sort == "end" or _is_keyword(token, language):
             shown = f"{before.said} {before.said[0].lower()}"
             return f"a variable is missing behind {before.said}, as in {shown}"
     hidden = {"AS", "NOT", "DISTINCT", "OUTER", "OF"}
     hidden |= {"a path"} if "a value" in expected else set()
     words = [each for each in expected if each not in hidden]
     listed = ", ".join(words[:-1]) + f" or {words[-1]}" if len(words) > 1 else "".join(words)
-    is_keyword = token.sort == "word" and token.said.upper() in KEYWORDS
     is_name_wanted = any(word in ("a name", "a variable", "a path") for word in words)
-    reserved = ", and it is a keyword" if is_keyword and is_name_wanted else ""
+    reserved = ", and it is a keyword" if is_name_wanted and _is_keyword(token, language) else ""
     stands = "the text ends" if token.sort == "end" else f"{spelled(token)} stands"
     return f"{stands} where {listed or 'nothing'} is expected{reserved}"

@@ -4,6 +4,8 @@ which it can have been: the call, and how long its texts are."""
 from __future__ import annotations
 
 import json
+from contextlib import suppress
+from itertools import chain
 from typing import Any, Iterable, List, Mapping, Optional, Type
 
 from . import jpql
@@ -29,6 +31,9 @@ def told_apart(limit: Limit, managers_made: Optional[int] = None) -> Limit:
     made = kind_of(limit.line)(None, limit.events, limit.line)
     if isinstance(made, ManagerLimit):
         made.made = managers_made
+    if isinstance(made, QueryLimit):
+        said = json.loads(limit.line)
+        made.why = _why_lists(said["text"], said.get("params") or {})
     return made
 
 
@@ -66,8 +71,13 @@ def _kind_of_query(said: Mapping[str, Any]) -> Type[Limit]:
             return QueryLimit
     except RecursionError:  # A text that this client can't read.
         return Limit
-    if isinstance(params, dict) and _is_any_long(params.values()):
+    handed = params if isinstance(params, dict) else {}
+    given = list(handed.values())
+    lists = [value for value in given if isinstance(value, list)]
+    if _is_any_long(chain(given, *lists)):
         return TextLimit
+    if _why_lists(text, handed):
+        return QueryLimit
     # What an UPDATE puts together may be too long, or the flush before it loads too many orphans.
     is_either = said.get("call") == "executeUpdate" and "CONCAT" in text.upper()
     return Limit if is_either else ObjectLimit
@@ -79,10 +89,38 @@ def _is_over(text: str) -> bool:
         return True
     if jpql.nesting(text) > jpql.MOST_NESTED:
         return True
-    try:
-        return len(jpql.variables_of(jpql.statement_of(text))) > jpql.MOST_VARIABLES
-    except jpql.Unreadable:
-        return False
+    for language in jpql.LANGUAGES:
+        with suppress(jpql.Unreadable):
+            statement = jpql.statement_of(text, language)
+            return len(jpql.variables_of(statement)) > jpql.MOST_VARIABLES
+    return False
+
+
+def _why_lists(text: str, params: Mapping[str, Any]) -> str:
+    """In words, of what lists have more values than a query may have; nothing where none has."""
+    for name, given in params.items():
+        if len(_listed(given)) > jpql.MOST_LISTED:
+            return (f"the list {name!r} has {len(given):,} values, and {jpql.MOST_LISTED:,} are the "
+                    "most: ask in several queries")
+    with suppress(jpql.Unreadable):
+        together = _values_together(text, params)
+        if together > jpql.MOST_LISTED_TOGETHER:
+            return (f"the lists behind each IN have {together:,} values together, and "
+                    f"{jpql.MOST_LISTED_TOGETHER:,} are the most: ask in several queries")
+    return ""
+
+
+def _values_together(text: str, params: Mapping[str, Any]) -> int:
+    """How many values lists become in a text: those of each, wherever it stands alone behind IN."""
+    found, tokens = 0, jpql.tokens_of(text)
+    for at, token in enumerate(tokens):
+        if token.is_word("IN"):
+            behind = tokens[at + 1:at + 4]
+            if len(behind) == 3 and behind[0].is_mark("(") and behind[2].is_mark(")"):
+                behind = behind[1:]
+            is_parameter = behind[0].sort == "parameter"
+            found += len(_listed(params.get(behind[0].said))) if is_parameter else 0
+    return found
 
 
 def _is_any_long(values: Iterable[Any]) -> bool:

@@ -3,9 +3,10 @@
 from __future__ import annotations
 
 import re
-from typing import Dict, Iterator, Optional
+from typing import Dict, Iterator, List, Optional
 
 from .arguments import meant
+from .jpql import LANGUAGES, LanguageName
 from .lines import CALLS, OPTIONAL, OWN_CALLS, FlushModeType, LockModeType
 from .strict_json import NoJson, Value, read
 
@@ -18,8 +19,8 @@ _MODES = {
 _VALUE = 'null, a whole number, a text, {"hex":"0aff"} or {"object":1}'
 
 
-def faults_of_line(line: str) -> Iterator[str]:
-    """The faults of a line; none where it is a call."""
+def faults_of_line(line: str, language: LanguageName = "profile") -> Iterator[str]:
+    """The faults of a line, to a program of this language of queries; none where it is a call."""
     try:
         said = read(line)
     except NoJson as fault:
@@ -36,7 +37,7 @@ def faults_of_line(line: str) -> Iterator[str]:
         near = meant(word, CALLS) if isinstance(word, str) else ""
         yield f"column {call.at + 1}: there is no call {word!r}{near}"
     else:
-        yield from _faults_of_members(call.data, said.data)
+        yield from _faults_of_members(call.data, said.data, LANGUAGES[language].takes_lists)
 
 
 def _near(name: str, members: Dict[str, Value]) -> str:
@@ -44,7 +45,9 @@ def _near(name: str, members: Dict[str, Value]) -> str:
     return f" ({near[2:].replace('did you mean', 'is it')})" if near else ""
 
 
-def _faults_of_members(call: str, members: Dict[str, Value]) -> Iterator[str]:
+def _faults_of_members(
+    call: str, members: Dict[str, Value], takes_lists: bool
+) -> Iterator[str]:
     known = _KNOWN[call]
     for name in known:
         if name not in members and name not in OPTIONAL:
@@ -56,12 +59,12 @@ def _faults_of_members(call: str, members: Dict[str, Value]) -> Iterator[str]:
             takes = f"; it takes {', '.join(known)}" if known else "; it takes none"
             yield f"{place} is no member of {call}{meant(name, left) or takes}"
         elif name in known:
-            wanted = _wanted(call, name, value)
+            wanted = _wanted(call, name, value, takes_lists)
             if wanted is not None:
                 yield f"{place} is to be {wanted}"
 
 
-def _wanted(call: str, name: str, value: Value) -> Optional[str]:
+def _wanted(call: str, name: str, value: Value, takes_lists: bool) -> Optional[str]:
     """What a member is to be, where it is something else."""
     if name in _NUMBERS:
         return None if type(value.data) is int else "a whole number"
@@ -74,12 +77,21 @@ def _wanted(call: str, name: str, value: Value) -> Optional[str]:
         is_key = isinstance(value.data, list) and all(map(_is_value, value.data))
         return None if is_key else f"a list of the key's parts, each of them {_VALUE}"
     if name == "params":
-        is_dict = isinstance(value.data, dict) and all(map(_is_value, value.data.values()))
-        return None if is_dict else f"an object whose members are each {_VALUE}"
+        given = list(value.data.values()) if isinstance(value.data, dict) else [value]
+        if takes_lists:
+            given = [it for each in given for it in _each_of(each)]
+        more = ", or a list of such" if takes_lists else ""
+        is_right = isinstance(value.data, dict) and all(map(_is_value, given))
+        return None if is_right else f"an object whose members are each {_VALUE}{more}"
     if name == "mode":
         modes = _MODES[call]
         return None if value.data in modes else f"one of {', '.join(modes)}"
     return None if isinstance(value.data, str) else "a text"
+
+
+def _each_of(value: Value) -> List[Value]:
+    """The values of a list, or the one value."""
+    return value.data if isinstance(value.data, list) else [value]
 
 
 def _is_value(value: Value) -> bool:

@@ -24,6 +24,7 @@ from .transactions import Attempt, EntityTransaction, attempts
 from .warned import warn
 
 if TYPE_CHECKING:
+    from .classes.unique import Keeper
     from .places import Place
     from .runs import Run
 
@@ -52,6 +53,12 @@ class EntityManager(Queries, AbstractContextManager["EntityManager"]):
         self._transaction = EntityTransaction(self)
         self._pending, self._mode = Pending(self), FlushModeType.AUTO
         self._concern = self._new_concern()
+        # What keeps its objects' values unique, where that is asked for.
+        self.keeper: Optional[Keeper] = None
+        if run.factory.uniques is not None:
+            from .classes.unique import Keeper
+
+            self.keeper = Keeper(self, run.factory.uniques)
         # Whether it is closed as its transaction ends.
         self._is_settled = False
         run.opened[number] = ref(self)
@@ -92,9 +99,9 @@ class EntityManager(Queries, AbstractContextManager["EntityManager"]):
 
         for attempt in manager.attempts(3): with attempt: manager.find("Person", 1).name = "Bob"
 
-        It is begun again after a `Rollback` whose cause is an `OptimisticLock`. That of the last
-        attempt is raised, and so is anything else at once. A refused attempt lets the manager's
-        objects go: find them again within the block.
+        It is begun again after a `Rollback` whose cause is an `OptimisticLock`, and after a
+        `NotUnique` that `is_raced`. That of the last attempt is raised, and so is anything else at
+        once. A refused attempt lets the manager's objects go: find them again within the block.
         """
         if most < 1:
             raise ValueError(f"there are {most} attempts, and one is the least")
@@ -338,6 +345,7 @@ class EntityManager(Queries, AbstractContextManager["EntityManager"]):
     def _give_place_back(self) -> None:
         self._run.opened.pop(self.number, None)
         self._run.transaction_over(self.number)
+        self._run.noted.pop(self.number, None)
         if self.factory._places is not None:
             self.factory._places.give_back(self._place)
 

@@ -9,7 +9,7 @@ from .diagram import diagram
 from .entities import Entity
 from .refusals import KarzhoulError
 from .show import value_text
-from .unit import EntityDescription, MemberKind, entities_of
+from .unit import EntityDescription, MemberKind, entities_of, shown_entities
 
 if TYPE_CHECKING:
     from .factory import EntityManagerFactory
@@ -68,7 +68,7 @@ def rows_html(rows: Sequence[Any], names: Sequence[str], note: str = "") -> str:
 
 def mapping_html(mapping: Mapping[str, Any]) -> str:
     """The entities of a mapping and their relations, as a diagram."""
-    drawn = diagram(list(entities_of(mapping).values()))
+    drawn = diagram(list(shown_entities(mapping).values()))
     return f'<div class="karzhoul"><style>{_STYLE}</style>{drawn}</div>'
 
 
@@ -76,7 +76,8 @@ def mapping_html(mapping: Mapping[str, Any]) -> str:
 
 
 def _described(entity: Entity) -> EntityDescription:
-    return entities_of(entity._karzhoul_factory.mapping)[type(entity).__name__]
+    mapping, name = entity._karzhoul_factory.mapping, type(entity).__name__
+    return shown_entities(mapping).get(name) or entities_of(mapping)[name]
 
 
 def _values(objects: Sequence[Entity], names: Sequence[str]) -> Optional[List[List[Any]]]:

@@ -42,10 +42,11 @@ def why_unwritten(db: Path, pid: int) -> str:
     """What is in the way of a commit that a program of this number couldn't write, as far as that
     can be told."""
     way = "nothing of the commit is stored, and its transaction is still open"
-    return f"{db} can't be written: {_of_writing(db, pid)}; {way}"
+    return f"{db} can't be written: {what_bars_writing(db, pid)}; {way}"
 
 
-def _of_writing(db: Path, pid: int) -> str:
+def what_bars_writing(db: Path, pid: int) -> str:
+    """What is in the way of writing to a store, as far as that can be told."""
     if not db.parent.is_dir():
         return f"its folder {db.parent} is gone"
     if os.statvfs(db.parent).f_flag & os.ST_RDONLY:

@@ -36,60 +36,72 @@ class Pending:
         self._ran: Optional[Set[Due]] = None
 
     def before(
-        self, flush: Callable[[FrozenSet[Due]], T], timeout: Optional[float] = None
+        self, flush: Callable[[FrozenSet[Due]], T], timeout: Optional[float] = None,
+        is_commit: bool = False,
     ) -> T:
         """Runs the callbacks that come before a flush, and then the flush, which is given what ran.
+        Between the two, what is unique gets its keys (`classes.unique`).
 
         What a callback raises is raised, and the flush isn't sent. No other thread calls in
         between. A flush that a callback calls for runs no callback that ran already. It is a
         `RuntimeError` where callbacks have others run without an end.
         """
         factory = self._manager.factory
-        if not factory.hears_before:
+        keeper = self._manager.keeper
+        if not factory.hears_before and keeper is None:
             return flush(frozenset())
         with factory._lock:
             is_outer = self._ran is None
             try:
                 ran = self._ran = set() if self._ran is None else self._ran
-                self._run(ran, timeout)
+                due = self._run(ran, timeout)
+                if keeper is not None and due is not None:
+                    keeper.settle(due, is_commit)
                 return flush(frozenset(ran))
             finally:
                 if is_outer:
                     self._ran = None
 
-    def _run(self, ran: Set[Due], timeout: Optional[float]) -> None:
+    def _run(self, ran: Set[Due], timeout: Optional[float]) -> Optional[List[Due]]:
+        """Runs callbacks until nothing is new, and answers what the flush would tell, as `asked`.
+        """
         factory = self._manager.factory
         for _ in range(_MOST):
-            new = [due for due in self._asked(timeout) if due not in ran]
+            told = self.asked(timeout)
+            new = [due for due in told or () if due not in ran]
             if not new:
-                return
+                return told
             turn = factory._turn
             factory.tell_before(self._events(new, ran))
             if factory._turn == turn and factory._calls is None:
-                return  # Nothing was called, and so nothing is new.
+                return told  # Nothing was called, and so nothing is new.
         raise RuntimeError(
             f"callbacks before a flush made others run {_MOST:,} times over: {new[0][0]} of "
             f"{factory.objects(self._manager._run, [new[0][1]])[0]!r} was the last"
         )
 
-    def _asked(self, timeout: Optional[float]) -> List[Due]:
-        """What a flush would tell before it writes; nothing where the flush is refused as it is
+    def asked(self, timeout: Optional[float]) -> Optional[List[Due]]:
+        """What a flush would tell before it writes; None where the flush is refused as it is
         called, which its own reply says."""
         manager = self._manager
         line = line_of("pending", {"em": manager._em})
         try:
             [told] = manager.factory.ask_lines(manager._run, [line], timeout=timeout)
         except (NoSuchManager, TransactionRequired):
-            return []
+            return None
         return [(kind, number) for kind, number in told]
 
     def _events(self, new: List[Due], ran: Set[Due]) -> Iterator[Event]:
         """The events that have callbacks, each as its turn comes, if it hasn't run meanwhile."""
         factory, run = self._manager.factory, self._manager._run
         heard = {kind.value for _, kinds in factory._callbacks for kind in kinds}
-        due = [each for each in new if each[0] in heard]
+        waiting = {
+            each for each in new
+            if each[0] in heard and run.kinds[each[1]] not in factory.hidden
+        }
+        due = [each for each in new if each in waiting]
         objects = factory.objects(run, [number for _, number in due])
-        ran.update(each for each in new if each[0] not in heard)
+        ran.update(each for each in new if each not in waiting)
         for (kind, number), entity in zip(due, objects):
             if (kind, number) not in ran:
                 ran.add((kind, number))

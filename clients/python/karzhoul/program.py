@@ -360,17 +360,20 @@ class Program:
         status, told = _stopped(self._process, self._watch, _PATIENCE), self._told()
         if self._is_stopped:
             return ProgramEnded(None)
-        last = told.rstrip().rpartition("\n")[2]
-        return (
-            refusal_of(last[len("jpa: ") :])
-            if status in (2, 3) and last.startswith("jpa: ")
-            else ProgramEnded(status, told)
-        )
+        return refusal_told(status, told) or ProgramEnded(status, told)
 
     def _told(self) -> str:
         return os.pread(self._errors.fileno(), os.fstat(self._errors.fileno()).st_size, 0).decode(
             errors="replace"
         )
+
+
+def refusal_told(status: int, told: str) -> Optional[KarzhoulError]:
+    """The refusal that a program tells which ends with this status before it answers; None where it
+    tells none."""
+    last = told.rstrip().rpartition("\n")[2]
+    is_told = status in (2, 3) and last.startswith("jpa: ")
+    return refusal_of(last[len("jpa: ") :]) if is_told else None
 
 
 # What stands for this process: another one in each forked process.

@@ -7,14 +7,17 @@ from typing import Optional, Type, Union
 
 from .arguments import check_query, item_class, parameter_name, row_limit
 from .concern import Concern
+from .jpql_check import check
 from .lines import line_of, text_spelled
 from .misfits import misfit, misfit_of
 from .refusals import NoResult, Refused
 from .rewriting import ByKey, by_key, counting, is_list, with_lists
 from .rows import Names, Page, Row, Rows, as_row, as_rows
+from .unit import entities_of
 from .warned import warn
 
 if TYPE_CHECKING:
+    from .classes.unique import Keeper
     from .factory import EntityManagerFactory
     from .pending import Due, Pending
     from .runs import Run
@@ -45,6 +48,7 @@ class Queries:
     _em: str
     _pending: Pending
     _concern: Concern
+    keeper: Optional[Keeper]
 
     def _flushes_before(self) -> bool:
         """Whether a query flushes first."""
@@ -196,6 +200,8 @@ class Queries:
         raise versions: `SET p.version = p.version + 1` does, so that who read an object before and
         changes it is refused."""
         asked = self._asked(text, None, params, end_program_after, named)
+        if self.keeper is not None:
+            self.keeper.check_statement(text)
         return int(asked.answers([asked.line("executeUpdate")], is_one=True)[0])
 
     def _asked(
@@ -240,10 +246,10 @@ class _Asked(NamedTuple):
         conversions = self.manager.factory.conversions
         if conversions is not None:
             said, values = conversions.stored(said, values)
-        said, values = with_lists(said, values)
+        said, values = with_lists(said, values, self.manager.factory.language)
         members = {"em": self.manager._em, "text": text_spelled(said)}
         if has_params:
-            members["params"] = f"{{{','.join(_listed(self.manager._run, values))}}}"
+            members["params"] = self._listed(said, values)
         limits = (("first", first), ("max", most))
         members.update({name: row_limit(name, it) for name, it in limits if it is not None})
         try:
@@ -251,6 +257,18 @@ class _Asked(NamedTuple):
         except UnicodeEncodeError as fault:
             told = {f"the parameter {name!r}": value for name, value in values.items()}
             raise misfit_of(fault, {**told, "the query": said}) from None
+
+    def _listed(self, text: str, values: Mapping[str, Any]) -> str:
+        """Parameters as JSON. One that can't be told is a fault that also says what is wrong with
+        the text: a date has a stored form where it stands beside an attribute alone."""
+        try:
+            return f"{{{','.join(_listed(self.manager._run, values))}}}"
+        except TypeError as fault:
+            factory = self.manager.factory
+            wrong = check(text, entities_of(factory.mapping), language=factory.language)
+            if not wrong:
+                raise
+            raise TypeError(f"{fault}; and the query is wrong: {wrong[0]}") from None
 
     def answers(self, lines: List[bytes], is_one: bool = False, text: str = "") -> List[Any]:
         """The answers to its lines: the first has rows, or one, with an item of its class. With the
@@ -289,7 +307,9 @@ def _listed(run: Run, values: Mapping[str, Any]) -> Iterator[str]:
     """Parameters as JSON; a fault of what can't be one names it."""
     for name, value in values.items():
         try:
-            yield f"{text_spelled(name)}:{run.given(value)}"
+            is_many = isinstance(value, list)
+            said = f"[{','.join(map(run.given, value))}]" if is_many else run.given(value)
+            yield f"{text_spelled(name)}:{said}"
         except (TypeError, ValueError, OverflowError) as fault:
             raise misfit(fault, f"the parameter {name!r}", value) from None
 

@@ -4,11 +4,11 @@ the client's own faults."""
 from __future__ import annotations
 
 import re
-from typing import TYPE_CHECKING, Any, ClassVar, Dict, Optional, Tuple, Type
+from typing import TYPE_CHECKING, Any, ClassVar, Dict, Optional, Sequence, Tuple, Type
 
 if TYPE_CHECKING:
     from .concern import Concern
-    from .entities import Event
+    from .entities import Entity, Event
     from .factory import EntityManagerFactory
     from .runs import Run
 
@@ -93,6 +93,44 @@ class NoFreeManager(KarzhoulError):
 class StoreInMemory(KarzhoulError):
     """Nothing raises this any more: a store in memory is restarted as others are. It stays for the
     `except` clauses that name it."""
+
+
+class NotUnique(KarzhoulError):
+    """Two objects would have one value of what is unique (`field(unique=True)`). Nothing was
+    written, and the transaction is open as before; where it was another commit that took the value
+    first (`is_raced`), it is rolled back, and `retry` and `attempts` do the work again.
+
+    It is of the attributes `attributes` of the class `entity`, and their `values`: `object` would
+    have them, and `other` has them, or would have them too.
+    """
+
+    def __init__(
+        self, entity: str, attributes: Sequence[str], values: Sequence[Any], object: Entity,
+        other: Entity, is_raced: bool = False,
+    ) -> None:
+        super().__init__(entity, tuple(attributes), tuple(values))
+        self.entity, self.attributes, self.values = entity, tuple(attributes), tuple(values)
+        self.object, self.other, self.is_raced = object, other, is_raced
+        # As they are now: once it is told, their program may have ended.
+        self._told = f"{object!r} and {other!r}"
+
+    def __reduce__(self) -> Tuple[Any, ...]:
+        # A copy, as for another process, has no objects.
+        told = {name: it for name, it in vars(self).items() if name not in ("object", "other")}
+        return _copied_not_unique, (self.args, told)
+
+    def __str__(self) -> str:
+        names, values = " and ".join(self.attributes), " and ".join(map(repr, self.values))
+        unique = "is unique" if len(self.attributes) == 1 else "are unique together"
+        raced = ", which another commit took first" if self.is_raced else ""
+        return f"{self.entity}.{names} {unique}, and {self._told} would both have {values}{raced}"
+
+
+def _copied_not_unique(args: Tuple[Any, ...], told: Dict[str, Any]) -> NotUnique:
+    made: NotUnique = NotUnique.__new__(NotUnique, *args)
+    made.args = args
+    vars(made).update(told)
+    return made
 
 
 # The refusals by name, and those after which a transaction can only roll back.
@@ -389,12 +427,14 @@ class LineLimit(Limit):
 
 class QueryLimit(Limit):
     """`Limit("query")`: a query has at most 16,384 bytes, 32 parentheses within one another, and 8
-    variables."""
+    variables, a list that is handed in 4,096 values, and lists become 65,536 in a query."""
 
     kind = "query"
+    # Which list has too many values, where it is that.
+    why: str = ""
 
     def told(self) -> str:
-        return _QUERY
+        return self.why or _QUERY
 
 
 class Mapping(Refused, number=20):

@@ -6,6 +6,7 @@ from __future__ import annotations
 import re
 from typing import TYPE_CHECKING, Any, Iterable, Mapping, Optional, Sequence, Tuple, Type
 
+from .concern import Noted
 from .limits import told_apart
 from .refusals import MARKING, REFUSALS, BadLine, Limit, Refused, StoreFault
 
@@ -53,6 +54,8 @@ def note_written(run: Run, line: bytes, events: Iterable[Sequence[Any]]) -> None
     a later call of its transaction may be about it; and what a merge has made."""
     if line.startswith(_COMMIT):  # The transaction is over.
         return
+    if run.factory.uniques is not None and (found := _MANAGER.search(line)):
+        run.noted.setdefault(int(found[1]), Noted()).hear(events)
     if line.startswith(_MERGE) and (found := _MANAGER.search(line)):
         made = [event[1] for event in events if event[0] == "PrePersist"]
         run.merged.setdefault(int(found[1]), []).extend(made)

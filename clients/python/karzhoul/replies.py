@@ -6,7 +6,7 @@ import json
 import os
 import re
 from contextlib import suppress
-from typing import Any, Dict, List, Optional, Tuple
+from typing import Any, Dict, List, Optional, Set, Tuple
 
 # What stands between the numbers of replies that are an object each, and no event.
 _BETWEEN = b'}}\n{"events":[],"ok":{"object":'
@@ -64,23 +64,35 @@ def rows_of_values_in(
     replies: List[bytes], count: int
 ) -> Optional[Tuple[str, List[List[Any]]]]:
     """The entity of so many objects and the values of each, as replies tell them in their order,
-    where all have the same entity and the same relations; None where they are any other ones, or
-    bytes are among the values."""
-    at = replies[0].find(_VALUES) + len(_VALUES)
-    front = replies[0][:at]
-    rows = []
+    where all have the same entity; None where they are any other ones, or bytes are among what is
+    told."""
+    entities, rows = set(), []
     for reply in replies:
-        is_alike = reply.startswith(front) and reply.endswith(_VALUES_END)
-        if not is_alike or b'{"hex"' in reply:
+        if not reply.startswith(_SHOWN) or b'{"hex"' in reply:
             return None
-        rows.append(reply[at : -len(_VALUES_END)])
+        entity, values = _alike_in(reply) or _shown_in(reply)
+        entities |= entity
+        rows += values
+    return (entities.pop(), rows) if len(rows) == count and len(entities) == 1 else None
+
+
+def _alike_in(reply: bytes) -> Optional[Tuple[Set[str], List[List[Any]]]]:
+    """The entity and the values of the objects in a reply that all have the same entity and the
+    same relations: in less time, as nothing else is read. None where they are any other ones."""
+    at = reply.find(_VALUES) + len(_VALUES)
     # No value has what stands between two objects, since a quote within a text is escaped.
-    between = b"]}," + front[len(_SHOWN) - len(_ENTITY) :]
-    said = between.join(rows)
-    if not front.startswith(_SHOWN) or said.count(between) != count - 1:
+    rows = reply[at : -len(_VALUES_END)].split(b"]}," + reply[len(_SHOWN) - len(_ENTITY) : at])
+    said = b"],[".join(rows)
+    if not reply.endswith(_VALUES_END) or b'"values":[' in said:
         return None
-    entity = front[len(_SHOWN) : front.find(b'"', len(_SHOWN))].decode()
-    return entity, _decode(f"[[{said.replace(between, b'],[').decode()}]]")[0]
+    entity = reply[len(_SHOWN) : reply.find(b'"', len(_SHOWN))].decode()
+    return {entity}, _decode(f"[[{said.decode()}]]")[0]
+
+
+def _shown_in(reply: bytes) -> Tuple[Set[str], List[List[Any]]]:
+    """The entities and the values of the objects in a reply."""
+    rows = said_of(reply)["ok"]
+    return {row["entity"] for row in rows}, [row["values"] for row in rows]
 
 
 def object_in(reply: bytes) -> Tuple[bool, int]:
@@ -106,23 +118,24 @@ def values_in(reply: bytes) -> Optional[List[Any]]:
     return values
 
 
-def loaded_in(reply: bytes) -> Optional[List[int]]:
-    """The numbers of the objects that are the rows of a reply, where all of them were loaded for
-    it, each once, with numbers that follow each other; None where it is any other one."""
+def loaded_in(reply: bytes) -> Optional[Tuple[List[int], bytes]]:
+    """The numbers of the objects that are the rows of a reply, and these as a line lists them,
+    where all of them were loaded for it, each once, with numbers that follow each other; None where
+    it is any other one."""
     loaded, rows, ended = reply.partition(_ROWS)
     if not rows or not loaded.startswith(_LOADS) or not ended.endswith(_ROWS_END):
         return None
     told = ended[: -len(_ROWS_END)].split(_ROWS_BETWEEN)
     if not b"".join(told).isdigit():
         return None
-    numbers = list(map(int, told))
-    following = numbers
+    listed = b",".join(told)
+    following = numbers = _decode(f"[{listed.decode()}]")[0]
     if loaded[len(_LOADS) :] != _LOADS_BETWEEN.join(told):  # Their order may be another one.
         following = sorted(numbers)
         if loaded[len(_LOADS) :] != _LOADS_BETWEEN.join([b"%d" % number for number in following]):
             return None
     is_whole = following == list(range(following[0], following[0] + len(following)))
-    return numbers if is_whole else None
+    return (numbers, listed) if is_whole else None
 
 
 def said_of(reply: bytes) -> Dict[str, Any]:

@@ -9,7 +9,7 @@ from typing import TYPE_CHECKING, Callable, Optional, TypeVar
 
 from .begun import is_too_late
 from .pausing import note_refusals, pause
-from .refusals import ObjectLimit, ProgramEnded, Refused, Restarted, Rollback
+from .refusals import NotUnique, ObjectLimit, ProgramEnded, Refused, Restarted, Rollback
 from .transactions import is_of_callback
 
 if TYPE_CHECKING:
@@ -46,7 +46,7 @@ class Retry:
                     if self._refused:
                         note_refusals(fault, self._refused)
                     raise
-                if not isinstance(fault, Refused):
+                if not isinstance(fault, (NotUnique, Refused)):
                     self._factory.reopen()
             self._factory._tally.note_retry()
             pause(self._refused)
@@ -75,6 +75,8 @@ class _Attempt:
         """Whether the work was lost through no fault of its own, and is not stored."""
         if is_of_callback(fault):  # The commit was done.
             return False
+        if isinstance(fault, NotUnique):
+            return fault.is_raced
         if isinstance(fault, Refused):
             return is_too_late(fault) or self._is_at_an_end(fault)
         if isinstance(fault, ProgramEnded):

@@ -3,14 +3,13 @@ to go on behind a key."""
 
 from __future__ import annotations
 
-from functools import lru_cache
 from typing import Any, Collection, Dict, Iterable, List, Mapping, NamedTuple, Optional
-from typing import Sequence, Tuple
+from typing import Sequence, Set, Tuple
 
 from . import jpql
 from .arguments import meant
 from .entities import EmbeddedId, Entity
-from .jpql import Block, Node, Statement
+from .jpql import Block, LanguageName, Node, read
 
 _SINGLE = (str, bytes, bytearray, memoryview, Mapping, Entity, EmbeddedId)
 
@@ -18,15 +17,6 @@ _SINGLE = (str, bytes, bytearray, memoryview, Mapping, Entity, EmbeddedId)
 def is_list(value: Any) -> bool:
     """Whether a parameter is a list for IN, and no value."""
     return isinstance(value, Collection) and not isinstance(value, _SINGLE)
-
-
-@lru_cache(maxsize=256)
-def read(text: str) -> Optional[Statement]:
-    """The statement that a text is, which nobody changes; None where it is none."""
-    try:
-        return jpql.statement_of(text, takes_lists=True)
-    except (jpql.Unreadable, RecursionError):
-        return None
 
 
 class Edits:
@@ -49,23 +39,43 @@ class Edits:
 # ---- lists
 
 
-def with_lists(text: str, given: Mapping[str, Any]) -> Tuple[str, Dict[str, Any]]:
+def with_lists(
+    text: str, given: Mapping[str, Any], language: LanguageName = "profile"
+) -> Tuple[str, Dict[str, Any]]:
     """A query whose parameters are lists, as one with a parameter for each of their values; of an
-    empty list nothing is IN."""
+    empty list nothing is IN. The wider language has lists of its own: there they stay as they are,
+    but for those beside other values."""
     lists = {name: list(value) for name, value in given.items() if is_list(value)}
     plain = {name: value for name, value in given.items() if name not in lists}
     statement = read(text) if lists else None
-    if statement is None:
-        return text, plain  # Nothing is a list, or the program refuses the text.
+    for name, listed in lists.items():
+        if any(map(is_list, listed)):
+            raise TypeError(f"{name!r} is a list with lists in it, and IN takes one of values")
+    if statement is None:  # Nothing is a list, or the program refuses the text.
+        return text, dict(given) if language == "wide" else plain
     nodes = jpql.nodes_of(statement)
     tests = [node for node in nodes if node.sort == "in" and _lists_of(node, lists)]
     _must_stand_in(tests, nodes, lists)
+    if language == "wide":
+        beside = _beside(text, tests, lists)
+        plain.update({name: it for name, it in lists.items() if name not in beside})
+        lists = {name: it for name, it in lists.items() if name in beside}
+        tests = [test for test in tests if _lists_of(test, lists)]
     names = _names_of(lists, {*given, *(node.said for node in nodes if node.sort == "parameter")})
     edits = Edits(text)
     for test in tests:
         edits.replace(*_listed(text, test, names))
     values = {name: value for each in lists for name, value in zip(names[each], lists[each])}
-    return _must_fit(edits.text(), lists), {**plain, **values}
+    spread = _must_fit(edits.text(), lists) if lists else text
+    return spread, {**plain, **values}
+
+
+def _beside(text: str, tests: Sequence[Node], lists: Mapping[str, Any]) -> Set[str]:
+    """The lists that stand beside another value, or in parentheses of their own."""
+    return {
+        each.said for test in tests for each in _lists_of(test, lists)
+        if len(test.parts) > 2 or text[each.at] == "("
+    }
 
 
 def _lists_of(test: Node, lists: Mapping[str, Any]) -> List[Node]:

@@ -28,10 +28,7 @@ class Names:
 
     @cached_property
     def _items(self) -> List[Item]:
-        try:
-            statement = jpql.statement_of(self.text, takes_lists=True)
-        except (jpql.Unreadable, RecursionError):
-            return []  # The program knows more of queries than this client.
+        statement = jpql.read(self.text)  # None where the program knows more than this client.
         return statement.items if isinstance(statement, jpql.Block) else []
 
     @cached_property

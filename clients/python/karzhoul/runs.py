@@ -7,11 +7,12 @@ import json
 from collections import deque
 from itertools import repeat
 from typing import (
-    TYPE_CHECKING, Any, Container, Deque, Dict, FrozenSet, Iterable, List, Mapping, Optional,
-    Sequence, Tuple, Type, Union,
+    TYPE_CHECKING, Any, Callable, Container, Deque, Dict, FrozenSet, Iterable, List, Mapping,
+    Optional, Sequence, Tuple, Type, Union,
 )
 from weakref import ref
 
+from .concern import Noted
 from .kinds import Classes
 from .entities import E, Entity, Event
 from .lines import LifecycleEvent, spelled, text_spelled
@@ -29,6 +30,9 @@ EVENTS = {kind.value: kind for kind in LifecycleEvent}
 _set_number = Entity.__dict__["_karzhoul_number"].__set__
 _set_run = Entity.__dict__["_karzhoul_run"].__set__
 _set_shown = Entity.__dict__["_karzhoul_shown"].__set__
+_set_values = Entity.__dict__["_karzhoul_values"].__set__
+_bare: Callable[[Type[Entity]], Entity] = object.__new__
+_weakly: Callable[[Entity], ref[Entity]] = ref
 # Does all that an iterator does.
 _nothing: Deque[object] = deque(maxlen=0)
 _done = _nothing.extend
@@ -45,8 +49,8 @@ class Run:
     """
 
     __slots__ = (
-        "factory", "kinds", "known", "marked", "refused", "written", "merged", "managers", "opened",
-        "loaded", "_told", "_shown", "_objects", "_most",
+        "factory", "kinds", "known", "marked", "refused", "written", "merged", "noted", "managers",
+        "opened", "loaded", "_told", "_shown", "_objects", "_most",
     )
 
     def __init__(self, factory: EntityManagerFactory, kinds: Classes) -> None:
@@ -59,6 +63,9 @@ class Run:
         # The numbers of the objects that merges of each manager have made since its last
         # transaction, or in the open one.
         self.merged: Dict[int, List[int]] = {}
+        # What each manager has persisted and removed and no flush has written, by its number, where
+        # values are kept unique.
+        self.noted: Dict[int, Noted] = {}
         # The managers that are open, by their numbers.
         self.opened: Dict[int, ref[EntityManager]] = {}
         # The numbers of the objects that flushes of each manager's open transaction wrote or
@@ -70,10 +77,10 @@ class Run:
         self._most = 1000
         self.known = Known(self._held)
         # Of the replies that are being read: who loaded objects, which objects are in the answers,
-        # and the values that were read.
+        # and the values that were read, with for how long they are true.
         self.loaded: Dict[int, Owner] = {}
         self._told: List[int] = []
-        self._shown: Dict[int, Shown] = {}
+        self._shown: Dict[int, Tuple[Shown, Sequence[Any]]] = {}
 
     @property
     def made(self) -> int:
@@ -125,13 +132,13 @@ class Run:
         return f'{{"call":"get","object":{number},"name":{word}}}'.encode()
 
     @staticmethod
-    def values_lines(numbers: Sequence[int]) -> List[bytes]:
-        """The lines that ask for the values of objects, in their order."""
-        if len(numbers) == 1:
-            return [VALUES % numbers[0]]
+    def values_lines(numbers: Sequence[int], listed: bytes = b"") -> List[bytes]:
+        """The lines that ask for the values of objects, in their order; with the numbers as a line
+        lists them, where that is known."""
+        if listed and len(numbers) <= _AT_ONCE:
+            return [VALUES % listed]
         return [
-            b'{"call":"values","objects":[%b]}'
-            % ",".join(map(str, numbers[start : start + _AT_ONCE])).encode()
+            VALUES % ",".join(map(str, numbers[start : start + _AT_ONCE])).encode()
             for start in range(0, len(numbers), _AT_ONCE)
         ]
 
@@ -190,8 +197,7 @@ class Run:
         values, held = values_in(replies[1]), self._objects.get(number)
         if values is None or (held is not None and held() is not None):
             return None
-        place.values = values
-        made = self._new(number, self.kinds.load(number, kind), place)
+        made = self._new(number, self.kinds.load(number, kind), place, values)
         self.known.have(places)
         return made
 
@@ -209,17 +215,21 @@ class Run:
         own = self.kinds.settled(number, kind)
         if own is None:
             raise LookupError(f"the class of object #{number} isn't known")
-        shown = self._shown.get(number)
-        if shown is None:
-            owner = self.loaded.get(number, self.known.anyone)
-            shown = owner.unread if len(self._told) < 2 else Shown(OVER, owner, self._told)
+        read = self._shown.get(number)
+        if read is not None:
+            return self._new(number, own, *read)
+        owner = self.loaded.get(number, self.known.anyone)
+        shown = owner.unread if len(self._told) < 2 else Shown(OVER, owner, self._told)
         return self._new(number, own, shown)
 
-    def _new(self, number: int, kind: Type[E], shown: Shown) -> E:
+    def _new(
+        self, number: int, kind: Type[E], shown: Shown, values: Sequence[Any] = ()
+    ) -> E:
         """A new object of Python."""
         made = object.__new__(kind)
         _set_number(made, number)
         _set_run(made, self)
+        _set_values(made, values)
         _set_shown(made, shown)
         self._objects[number] = ref(made)
         if len(self._objects) > self._most:
@@ -256,6 +266,9 @@ class Run:
         told = objects_in(reply)
         self._told += told
         unknown = [number for number in told if settled(number, kind) is None]
+        if events and self.factory.hidden:
+            hidden = self.factory.hidden
+            self.factory._tally.leave_out(it[0] for it in events if self.kinds[it[1]] in hidden)
         for event in events if heard else ():
             if event[0] in heard and settled(event[1], None) is None:
                 unknown.append(event[1])
@@ -266,19 +279,20 @@ class Run:
     ) -> Optional[Refused]:
         """Takes in the replies to lines that ask for the values of objects, or their refusal."""
         coming = iter(places.items())
+        read: Dict[int, Tuple[Shown, Sequence[Any]]] = {}
         for line, reply in zip(lines, replies):
             said = said_of(reply)
             if "ok" not in said:
                 return self._refusal(line, said, NotServed)
             has_bytes = b'{"hex":' in reply
             for each, (number, place) in zip(said["ok"], coming):
-                values = each["values"]
-                place.values = list(map(_value, values)) if has_bytes else values
+                values = list(map(_value, each["values"])) if has_bytes else each["values"]
+                read[number] = place, values
                 self.kinds.settled(number, self.factory._classes[each["entity"]])
                 entity = self._held(number)
                 if entity is not None:
-                    entity._karzhoul_shown = place
-        self._shown = places
+                    entity._karzhoul_values, entity._karzhoul_shown = values, place
+        self._shown = read
         return None
 
     def show_one(
@@ -293,9 +307,8 @@ class Run:
             refused = self.show(lines, replies, places)
             self._shown = {}
         else:
-            place = places[entity._karzhoul_number]
-            place.values = values
-            _set_shown(entity, place)
+            _set_values(entity, values)
+            _set_shown(entity, places[entity._karzhoul_number])
         self.known.have(places)
         return refused
 
@@ -311,19 +324,13 @@ class Run:
             return None
         entity, rows = found
         kind = self.factory._classes[entity]
-        # As `_new` and `Shown` do, in less time.
-        new_shown = Shown.__new__
-        places: List[Shown] = []
-        for values in rows:
-            place = new_shown(Shown)
-            place.epoch, place.owner, place.group, place.values = epoch, owner, (), values
-            places.append(place)
-        new = object.__new__
-        made: List[Entity] = [new(kind) for _ in numbers]
+        # As `_new` does, in less time.
+        made: List[Entity] = list(map(_bare, repeat(kind, len(numbers))))
         _done(map(_set_number, made, numbers))
         _done(map(_set_run, made, repeat(self)))
-        _done(map(_set_shown, made, places))
-        items, keep = zip(numbers, [ref(it) for it in made]), self._objects.update
+        _done(map(_set_values, made, rows))
+        _done(map(_set_shown, made, repeat(Shown(epoch, owner))))
+        items, keep = zip(numbers, list(map(_weakly, made))), self._objects.update
         if self.factory._turn != turn:  # A handler of a signal may have some of them.
             return None
         keep(items)
@@ -384,7 +391,12 @@ class Run:
         self, line: bytes, said: Mapping[str, Any], heard: Container[str] = EVENTS
     ) -> Tuple[Event, ...]:
         """The events of these kinds that the reply to a line tells."""
-        events = [event for event in said["events"] if EVENTS[event[0]].value in heard]
+        hidden = self.factory.hidden
+        events = [
+            event for event in said["events"]
+            if EVENTS[event[0]].value in heard
+            and (not hidden or self.kinds[event[1]] not in hidden)
+        ]
         manager = self._manager(self.known.owner(line).manager) if events else None
         return tuple([self._event(manager, *event) for event in events])
 

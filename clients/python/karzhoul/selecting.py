@@ -18,6 +18,8 @@ from .asked import titles_of
 from .entities import Entity
 from .factory import open as opened
 from .finding import find_program
+from .given import given_of, mapping_data
+from .jpql import LanguageName
 from .jpql_check import BYTES, INT, TEXT, Kind, check
 from .linter import lint
 from .opening import why_unopened
@@ -35,8 +37,8 @@ language. Nothing is changed: a store of revision 1 is opened before it is asked
 revision 2. A program without --query opens it itself, and brings it over."""
 _PARAM = """the value of a parameter, :NAME or ?NAME in the text: n=7, name=Ada, n=null,
 code="7" for a text of digits, scan={"hex":"0aff"} for bytes"""
-_LANGUAGE = """the language of the SELECT: the profile's, or wide, which has UPPER, LOWER and TRIM
-besides; older programs have the profile's alone"""
+_LANGUAGE = """the language of the SELECT: the profile's, as of a mapping, or wide, as of classes,
+which has UPPER, LOWER and TRIM besides; older programs have the profile's alone"""
 
 
 def add_command(commands: Any, takes: List[argparse.ArgumentParser]) -> None:
@@ -47,12 +49,12 @@ def add_command(commands: Any, takes: List[argparse.ArgumentParser]) -> None:
     )
     asked.add_argument(
         "words", nargs="+", metavar="MAPPING DB SELECT", type=str,
-        help="the mapping file (else that of --mapping), the database file, and the SELECT, in "
-        "quotes",
+        help="the mapping file, or a module of classes (else that of --mapping), the database file, "
+        "and the SELECT, in quotes",
     )
     asked.add_argument("--mapping", help="the mapping file (else mapping.json)")
     asked.add_argument("--param", action="append", default=[], metavar="NAME=VALUE", help=_PARAM)
-    asked.add_argument("--language", choices=("profile", "wide"), default="profile", help=_LANGUAGE)
+    asked.add_argument("--language", choices=("profile", "wide"), help=_LANGUAGE)
     form = asked.add_mutually_exclusive_group()
     form.add_argument("--json", action="store_true", help="each row as a line of JSON")
     form.add_argument("--csv", action="store_true", help="CSV, with a row of names")
@@ -66,7 +68,9 @@ def add_command(commands: Any, takes: List[argparse.ArgumentParser]) -> None:
 def run_query(said: argparse.Namespace) -> int:
     """Prints the rows that a SELECT finds; a query that is refused is told with its mistakes."""
     _take_words(said)
-    data = Path(said.mapping).read_bytes()
+    given = given_of(said.mapping)
+    said.language = said.language or ("profile" if isinstance(given, str) else "wide")
+    data = mapping_data(said.mapping)
     findings = lint(data).findings
     for finding in findings:
         print(f"{said.mapping}:{finding}", file=sys.stderr)
@@ -99,8 +103,6 @@ def _take_words(said: argparse.Namespace) -> None:
         raise Misused("a query takes a mapping file, a database file and a SELECT in quotes")
     said.mapping = said.mapping or "mapping.json"
     said.db, said.text = words
-    if not os.path.exists(said.mapping):
-        raise FileNotFoundError(f"there is no mapping {said.mapping}: --mapping names another one")
 
 
 def _write(said: argparse.Namespace, query: _Query) -> None:
@@ -168,7 +170,8 @@ class _Query:
         self._mapping, self._data, self._db, self._text = said.mapping, data, said.db, said.text
         self._program = find_program(said.program)
         self._params = dict(map(_param, said.param))
-        self._is_wide = said.language == "wide"
+        self._language: LanguageName = said.language
+        self._is_wide = self._language == "wide"
 
     def rows(self) -> Iterator[Any]:
         """The rows as JSON says them; a `Refused` where it is refused."""
@@ -213,12 +216,10 @@ class _Query:
                 yield [_said(item) for item in row] if isinstance(row, list) else _said(row)
 
     def mistakes(self) -> List[str]:
-        """What the client's own check finds in it, which is one of the profile's language."""
-        if self._is_wide:
-            return []
+        """What the client's own check finds in it."""
         entities = entities_of(json.loads(self._data))
         kinds = {name: _kind(value) for name, value in self._params.items()}
-        return [str(finding) for finding in check(self._text, entities, kinds)]
+        return [str(finding) for finding in check(self._text, entities, kinds, self._language)]
 
 
 def _said(item: Any) -> Any:
@@ -255,8 +256,8 @@ def _printed(words: Sequence[str]) -> Iterator[str]:
 
 @contextmanager
 def _as_file(mapping: str, data: bytes) -> Iterator[str]:
-    """The file of a mapping, or one that says what was read of a pipe."""
-    if Path(mapping).is_file():
+    """The file of a mapping, or one that says what was read of a pipe, or what classes make."""
+    if Path(mapping).is_file() and Path(mapping).suffix != ".py":
         yield mapping
         return
     with tempfile.NamedTemporaryFile(prefix="karzhoul-", suffix=".json") as file:

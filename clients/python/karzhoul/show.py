@@ -11,7 +11,7 @@ from typing import Any, Dict, List, Sequence, Tuple
 from .diagram import diagram
 from .entities import Entity
 from .factory import EntityManagerFactory
-from .unit import EntityDescription, entities_of
+from .unit import EntityDescription, shown_entities
 
 Identity = Tuple[str, Tuple[Any, ...]]
 
@@ -52,7 +52,7 @@ def tables(app: EntityManagerFactory) -> List[Table]:
 class _Reader:
     def __init__(self, app: EntityManagerFactory) -> None:
         self._app = app
-        self.entities = entities_of(app.mapping)
+        self.entities = shown_entities(app.mapping)
         self._em = app.create_entity_manager()
 
     def table(self, entity: EntityDescription) -> Table:

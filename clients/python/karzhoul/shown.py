@@ -14,7 +14,7 @@ goes to the program that may change them. So each line is looked at before it is
 from __future__ import annotations
 
 import re
-from typing import Any, Callable, Dict, Iterable, Mapping, Optional, Sequence
+from typing import Callable, Dict, Iterable, Mapping, Optional, Sequence
 
 from .entities import Entity
 
@@ -35,7 +35,7 @@ OVER = Epoch(is_over=True)
 class Owner:
     """Whose calls change an object: its manager's; those of any manager where it isn't known."""
 
-    __slots__ = ("manager", "sets", "_epoch", "_others", "unread")
+    __slots__ = ("manager", "sets", "_epoch", "_others", "unread", "changed")
 
     def __init__(self, manager: int = 0) -> None:
         """With the number of its manager, 0 for any one."""
@@ -44,8 +44,8 @@ class Owner:
         self.sets = 0
         self._epoch = OVER
         self._others: Optional[Owner] = None
-        # What is known of the values of an object that weren't read.
-        self.unread = Shown(OVER, self)
+        # What is known of the values of an object that weren't read, and of one that was set.
+        self.unread, self.changed = Shown(OVER, self), Shown(OVER, self)
 
     def epoch(self) -> Epoch:
         """The epoch that is on."""
@@ -66,25 +66,25 @@ class Owner:
 
 
 class Shown:
-    """The values of an object: the key's parts, the version where there is one, and the attributes
-    of the chain of classes, superclass first. They are true until the epoch is over."""
+    """For how long the values of objects are true that were read together: until the epoch is over.
+    Those of an object are the key's parts, the version where there is one, and the attributes of
+    the chain of classes, superclass first."""
 
-    __slots__ = ("epoch", "owner", "values", "group")
+    __slots__ = ("epoch", "owner", "group")
 
     def __init__(self, epoch: Epoch, owner: Owner, group: Sequence[int] = ()) -> None:
         self.epoch, self.owner = epoch, owner
         # Where they weren't read yet: the numbers of the objects that were told together.
         self.group = group
-        self.values: Sequence[Any] = ()
 
 
 _FRONT = b'{"call":"'
-# The line that asks for the values of one object.
-VALUES = b'{"call":"values","objects":[%d]}'
+# The line that asks for the values of objects of these numbers.
+VALUES = b'{"call":"values","objects":[%b]}'
 # What they may load is new, and a listener that hears of that assigns to it alone.
 _PURE = (
     "get", "values", "pending", "find", "getReference", "contains", "new", "createEntityManager",
-    "begin", "setFlushMode", "setRollbackOnly", "detach", "clear",
+    "begin", "setFlushMode", "setRollbackOnly", "detach", "clear", "index",
 )
 _OF_OBJECT = re.compile(rb'\{"call":"\w+","object":([0-9]+),')
 _OF_MANAGER = re.compile(rb'\{"call":"\w+","em":([0-9]+)[,}]')
@@ -162,7 +162,8 @@ class Known:
         entity, coming = self._held(number), self._coming.get(number)
         if entity is not None:
             shown = entity._karzhoul_shown
-            shown.epoch = OVER
+            if not shown.epoch.is_over:
+                entity._karzhoul_shown = shown.owner.changed
             shown.owner.sets += 1
         if coming is not None:
             coming.epoch = OVER

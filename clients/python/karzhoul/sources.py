@@ -9,6 +9,7 @@ import tempfile
 from contextlib import AbstractContextManager
 from typing import BinaryIO, Iterator, List, Mapping, Optional, Tuple, Union, cast
 
+from .classes.mapping import UNIQUE
 from .records import Next, Record, Shape, Unfit
 from .refusals import KarzhoulError
 from .spelling import Begun, Column, Ended, Item, UnfitRow, columns_named, item_of_line
@@ -31,10 +32,13 @@ class RowFault(KarzhoulError):
 class Source(AbstractContextManager["Source"]):
     """A file of JSON lines, or of CSV where its entity is told, which can be read several times."""
 
-    def __init__(self, path: str, shapes: Mapping[str, Shape], entity: Optional[str]) -> None:
-        """Opens it; `-` is the standard input."""
+    def __init__(
+        self, path: str, shapes: Mapping[str, Shape], entity: Optional[str], new_keys: bool = False
+    ) -> None:
+        """Opens it; `-` is the standard input. Where objects get new keys, the keys of unique
+        values, which may be of those, are left out: they are made anew."""
         self.name = "standard input" if path == "-" else path
-        self._shapes, self._entity = shapes, entity
+        self._shapes, self._entity, self._new_keys = shapes, entity, new_keys
         self._file = _seekable(sys.stdin.buffer if path == "-" else open(path, "rb"))
 
     def __exit__(self, *_: object) -> None:
@@ -47,10 +51,15 @@ class Source(AbstractContextManager["Source"]):
     def items(self) -> Iterator[Tuple[int, Union[Record, Next]]]:
         """What it says, each with its first line; a `RowFault` at the first that can't be read."""
         self._file.seek(0)
-        if self._entity is None:
-            yield from self._said()
-        else:
-            yield from self._tabled(self._shapes[self._entity])
+        found = self._said() if self._entity is None else self._tabled(self._shapes[self._entity])
+        for line, item in found:
+            if self._new_keys and isinstance(item, Record):
+                if item.entity == UNIQUE:
+                    continue
+                for name in list(item.links):
+                    if self._shapes[item.entity].links[name].type == UNIQUE:
+                        del item.links[name]
+            yield line, item
 
     def _lines(self) -> Iterator[str]:
         for number, data in enumerate(self._file, 1):

@@ -19,7 +19,7 @@ _EVENTS = {
     b'["PostLoad",': "loaded", b'["PostPersist",': "inserted", b'["PostUpdate",': "changed",
     b'["PostRemove",': "removed",
 }
-_LOADED = b'["PostLoad",'
+_LOADED, _NO_EVENTS = b'["PostLoad",', b'{"events":[],'
 # So many characters of a line or a reply are told.
 _MOST = 2_000
 _MOST_WAITING = 200
@@ -102,7 +102,9 @@ class Tally:
             text = b"\n".join(replies)
         if len(waiting) > _MOST_WAITING:
             self._count()
-        if (posts := text.count(b'["Post')) and posts == text.count(_LOADED):
+        if len(lines) == 1 and text.startswith(_NO_EVENTS):
+            pass  # As below, without a look at long values.
+        elif (posts := text.count(b'["Post')) and posts == text.count(_LOADED):
             self._objects["loaded"] += posts
         elif posts:
             # No value has these, since a quote within a text is escaped.
@@ -125,6 +127,13 @@ class Tally:
             left -= count
         if left:
             self._calls.update(name for name in map(_call, lines) if name not in counted)
+
+    def leave_out(self, events: Iterable[str]) -> None:
+        """Leaves out of the objects those of which these events were told."""
+        for event in events:
+            name = _EVENTS.get(b'["%b",' % event.encode())
+            if name is not None:
+                self._objects[name] -= 1
 
     def refused(self, refused: Iterable[Refused]) -> None:
         """Counts refusals."""

@@ -4,13 +4,14 @@ from __future__ import annotations
 
 from contextlib import suppress
 from types import TracebackType
-from typing import TYPE_CHECKING, FrozenSet, Iterator, Optional, Type
+from typing import TYPE_CHECKING, FrozenSet, Iterator, Optional, Type, Union
 
 from .interrupts import begin_of_block, carried_out, end_of_block, guard, is_guarded, unguard
 from .lines import line_of
 from .pausing import note_refusals, pause
 from .pending import Due
-from .refusals import IllegalState, KarzhoulError, OptimisticLock, ProgramEnded, Restarted, Rollback
+from .refusals import IllegalState, KarzhoulError, NotUnique, ProgramEnded, Restarted, Rollback
+from .refusals import OptimisticLock
 
 if TYPE_CHECKING:
     from .managers import EntityManager
@@ -49,7 +50,7 @@ class EntityTransaction:
         rolled back. What a callback raises that runs before (`EntityManagerFactory.listen`) leaves
         it open, with nothing stored."""
         self._manager.factory.tell_kept()
-        self._manager._pending.before(self._commit)
+        self._manager._pending.before(self._commit, is_commit=True)
 
     def _commit(self, ran: FrozenSet[Due]) -> None:
         # What callbacks set that are told once it is done isn't stored.
@@ -58,10 +59,15 @@ class EntityTransaction:
             self._manager._ask_flushing("commit", ran)
         except Exception as fault:
             is_told = is_of_callback(fault)  # Then the commit was done.
+            raced: Optional[NotUnique] = None
             if isinstance(fault, Rollback) and not is_told:
                 fault._concern = self._manager._concern
+                if self._manager.keeper is not None:
+                    raced = self._manager.keeper.raced(fault)
             if isinstance(fault, Rollback) or is_told:
                 self._end(sets)
+            if raced is not None:
+                raise raced from fault
             raise
         self._end(sets)
 
@@ -83,6 +89,8 @@ class EntityTransaction:
         """It is over. With how often objects had been set when it was, where some were since."""
         manager = self._manager
         manager._run.transaction_over(manager.number)
+        if manager.keeper is not None:
+            manager.keeper.over()
         manager._concern = manager._new_concern(sets)
         self.is_active = False  # Last, since an interrupt before has it be ended again.
 
@@ -143,7 +151,7 @@ class Attempt:
         self._transaction, self._number, self._is_last = transaction, number, number == most
         self.is_done = False
         # The refusal of its commit, after which it is to be made again.
-        self.refused: Optional[Rollback] = None
+        self.refused: Union[None, NotUnique, Rollback] = None
 
     @begin_of_block
     def __enter__(self) -> EntityTransaction:
@@ -161,7 +169,7 @@ class Attempt:
         except Exception as refused:
             if self._is_raised(refused):
                 raise
-            assert isinstance(refused, Rollback)
+            assert isinstance(refused, (NotUnique, Rollback))
             self.refused = refused
             return True
         self.is_done = fault is None
@@ -171,6 +179,7 @@ class Attempt:
         """Whether what ended the attempt is raised, and no other one follows. It says then how
         often the work was refused."""
         is_stale = isinstance(fault, Rollback) and isinstance(fault.cause, OptimisticLock)
+        is_stale = is_stale or isinstance(fault, NotUnique) and fault.is_raced
         is_refused = is_stale and not is_of_callback(fault)
         if is_refused and not self._is_last:
             return False

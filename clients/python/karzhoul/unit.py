@@ -4,7 +4,7 @@ classes."""
 from __future__ import annotations
 
 import enum
-from dataclasses import dataclass
+from dataclasses import dataclass, replace
 from typing import Any, Dict, Iterator, List, Mapping, Optional, Tuple
 
 
@@ -62,6 +62,21 @@ def entities_of(mapping: Mapping[str, Any]) -> Dict[str, EntityDescription]:
     """The entities of a well-formed mapping, by name."""
     declared = {entity["name"]: entity for entity in mapping["entities"]}
     return {name: _described(declared, name) for name in declared}
+
+
+# What the client of classes keeps in a store for itself.
+OWN_ENTITIES, OWN_MEMBERS = ("KarzhoulForm", "KarzhoulUnique"), ("_unique_", "_gone_")
+
+
+def shown_entities(mapping: Mapping[str, Any]) -> Dict[str, EntityDescription]:
+    """The entities of a mapping as people are shown them: without what the client of classes keeps
+    for itself, the forms of columns, the keys of unique values, and what classes have no more."""
+    return {
+        name: replace(entity, members=tuple(
+            it for it in entity.members if not it.name.startswith(OWN_MEMBERS)
+        ))
+        for name, entity in entities_of(mapping).items() if name not in OWN_ENTITIES
+    }
 
 
 def _described(declared: Mapping[str, Any], name: str) -> EntityDescription:

@@ -73,6 +73,8 @@ class Changed(ClassesTest):
             self.changed(*changes, more=more)
         for each in words.split(" .. "):
             self.assertIn(each, str(raised.exception))
+        self.assertIsInstance(raised.exception, karzhoul.KarzhoulError)
+        self.assertTrue(raised.exception.__suppress_context__ or not raised.exception.__context__)
         self.assertEqual(self.lock.read_text(), self.before)
         self.assertEqual(self.told("SELECT m.name, m.fax, m.age FROM Member m WHERE m.id = 1"),
                          [["Ada", "12", 36]])
@@ -273,6 +275,21 @@ class Changed(ClassesTest):
     def test_money_of_too_few_digits(self) -> None:
         self.refused(NotBroughtOver, "Member.fee is stored as money(2) .. Member id=1 .. more "
                      "digits than 0", "money(2,", "money(0,", 'Decimal("1.50")', 'Decimal("1")')
+
+    def test_another_scale_of_one_that_is_required_now(self) -> None:
+        """The default would be brought to the other scale with what is stored. It goes by two."""
+        required = 'fee: Decimal = money(2, default=Decimal("1.50"))'
+        with self.changed(required, "fee: Decimal | None = money(2)") as app:
+            with app.begin() as manager:
+                manager.one("SELECT m FROM Member m WHERE m.id = 1").fee = None
+        lock = self.lock.read_text()
+        with self.assertRaisesRegex(NotBroughtOver, r"Member\.fee is stored as money\(2\), and "):
+            self.changed("money(2,", "money(4,")
+        self.assertEqual(self.lock.read_text(), lock)
+        asked = "SELECT m.fee FROM Member m"
+        self.assertEqual(list(map(str, self.told(asked))), ["1.50", "1.50"])
+        rows = self.told(asked, "money(2,", "money(4,")
+        self.assertEqual(list(map(str, rows)), ["1.5000", "1.5000"])
 
     def test_an_attribute_that_may_be_renamed(self) -> None:
         self.refused(DeclarationError, 'Member.phone is new, and fax is gone .. was="fax"',

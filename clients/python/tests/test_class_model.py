@@ -4,132 +4,34 @@ from __future__ import annotations
 
 import json
 import random
-from datetime import date, datetime, time, timedelta, timezone
-from decimal import Decimal
+from operator import attrgetter
 from types import ModuleType
-from typing import Any, Callable, Dict, List, Tuple
-from uuid import UUID
+from typing import Any, Dict, List, NamedTuple, Set, Tuple
 
+from karzhoul import NotUnique
 from karzhoul.classes.changes import make
 from karzhoul.linter import lint
 
 from .classed import ClassesTest
 from .support import needs_program
+from .written_classes import Made, written
 
-HEAD = """
-class State(Enum):
-    OPEN = 1
-    SHUT = 2
-
-class Rank(Enum):
-    LOW = 1
-    HIGH = 10
-
-class Point:
-    def __init__(self, x: int, y: int) -> None:
-        self.x, self.y = x, y
-    def __eq__(self, other: object) -> bool:
-        return isinstance(other, Point) and (self.x, self.y) == (other.x, other.y)
-
-def said(it: Point) -> str:
-    return f"{it.x},{it.y}"
-
-def point(it: str) -> Point:
-    return Point(*map(int, it.split(",")))
-
-class Noted:
-    noted: str = "no"
-
-class Base(Entity, abstract=True):
-    id: int = generated()
-    version: int = version()
-    made: date = date(2026, 1, 1)
-"""
-Make = Callable[[random.Random, ModuleType], Any]
-# An annotation, the word that it needs, and values of it.
-KINDS: List[Tuple[str, str, Make]] = [
-    ("int", "", lambda r, m: r.randint(-(2**63), 2**63 - 1)),
-    ("str", "", lambda r, m: r.choice(["", "é'\"\n", "a" * 99, "\U0001f600"])),
-    ("bytes", "", lambda r, m: r.randbytes(r.randrange(20))),
-    ("bool", "", lambda r, m: r.random() < 0.5),
-    ("date", "", lambda r, m: date.fromordinal(r.randint(1, date.max.toordinal()))),
-    ("time", "", lambda r, m: time(r.randrange(24), 5, 0, r.randrange(10**6))),
-    ("datetime", "", lambda r, m: datetime(
-        r.randint(2, 9998), 1, 1, 1, tzinfo=timezone(timedelta(minutes=r.randint(-99, 99))))),
-    ("datetime", "naive", lambda r, m: datetime(r.randint(1, 9999), 12, 31, 23, 59, 59, 999_999)),
-    ("timedelta", "", lambda r, m: timedelta(microseconds=r.randint(-(2**60), 2**60))),
-    ("Decimal", "money:3", lambda r, m: Decimal(r.randint(-(10**9), 10**9)).scaleb(-3)),
-    ("State", "", lambda r, m: r.choice(list(m.State))),
-    ("Rank", "by_value", lambda r, m: r.choice(list(m.Rank))),
-    ("UUID", "", lambda r, m: UUID(int=r.getrandbits(128))),
-    ("list[int]", "json_text", lambda r, m: [r.randrange(9) for _ in range(3)]),
-    ("dict[str, str]", "json_text", lambda r, m: {"a": "b", "c": str(r.random())}),
-    ("Point", "typed:said, point", lambda r, m: m.Point(r.randrange(9), r.randrange(9))),
-]
+Key = Tuple[Any, ...]
 
 
-class Written:
-    """A module of classes at random: its text, and how values of each attribute are made."""
+class Stored(NamedTuple):
+    """What was stored of an object: its values, and the keys of what it leads to."""
 
-    def __init__(self, seed: int, size: int) -> None:
-        r = random.Random(seed)
-        self.values: Dict[str, Dict[str, Make]] = {}
-        self.optional: Dict[str, List[str]] = {}
-        self.links: Dict[str, Dict[str, str]] = {}
-        self.lists: Dict[str, Dict[str, str]] = {}
-        lines: List[str] = [HEAD]
-        roots: List[str] = []
-        for number in range(size):
-            name = f"E{number}"
-            parent = r.choice(roots) if roots and r.random() < 0.3 else ""
-            base = parent or ("Noted, Base" if r.random() < 0.3 else "Base")
-            values = dict(self.values.get(parent, {}))
-            if not parent:
-                values["made"] = KINDS[4][2]
-                if base.startswith("Noted"):
-                    values["noted"] = KINDS[1][2]
-                roots.append(name)
-            own = self._attributes(r, name, values, parent)
-            own += self._relations(r, name, parent, roots)
-            lines += [f"class {name}({base}):", *(own or ["    pass"]), ""]
-            self.values[name] = values
-        self.text = "\n".join(lines)
+    made: Made
+    key: Key
+    values: Dict[str, Any]
+    links: Dict[str, Key]
+    lists: Dict[str, Set[Key]]
 
-    def _attributes(
-        self, r: random.Random, name: str, values: Dict[str, Make], parent: str
-    ) -> List[str]:
-        optional = self.optional[name] = list(self.optional.get(parent, []))
-        lines: List[str] = []
-        for place in range(r.randrange(6)):
-            kind, word, make_value = r.choice(KINDS)
-            attribute, may_be_none = f"{name.lower()}_{place}", r.random() < 0.4
-            call, _, arguments = word.partition(":")
-            default = "default=None" if may_be_none else ""
-            told = ", ".join(filter(None, [arguments, default]))
-            value = f" = {call}({told})" if call else " = None" if may_be_none else ""
-            lines.append(f"    {attribute}: {kind}{' | None' if may_be_none else ''}{value}")
-            values[attribute] = make_value
-            optional += [attribute] if may_be_none else []
-        return lines
 
-    def _relations(
-        self, r: random.Random, name: str, parent: str, roots: List[str]
-    ) -> List[str]:
-        links = self.links[name] = dict(self.links.get(parent, {}))
-        lists = self.lists[name] = dict(self.lists.get(parent, {}))
-        lines: List[str] = []
-        if r.random() < 0.5:
-            links[f"{name.lower()}_to"] = target = r.choice(roots)
-            lines.append(f"    {name.lower()}_to: '{target} | None' = many_to_one(default=None)")
-        if r.random() < 0.3:
-            lists[f"{name.lower()}_all"] = target = r.choice(roots)
-            lines.append(f"    {name.lower()}_all: list['{target}'] = many_to_many()")
-        if r.random() < 0.3:
-            up, down = f"{name.lower()}_up", f"{name.lower()}_down"
-            lines.append(f"    {up}: Optional['{name}'] = many_to_one(default=None)")
-            lines.append(f"    {down}: list['{name}'] = one_to_many('{up}')")
-            links[up] = name
-        return lines
+def key_of(entity: Any, classes: Dict[str, Made]) -> Key:
+    """The parts of an object's key."""
+    return tuple(attrgetter(path)(entity) for path in classes[type(entity).__name__].key.paths)
 
 
 @needs_program
@@ -138,66 +40,126 @@ class Forty(ClassesTest):
         for seed in range(3):
             with self.subTest(seed=seed):
                 self.lock, self.db = (self.folder / f"{seed}.{it}" for it in ("lock", "db"))
-                self._goes_through(random.Random(seed), Written(seed, 40))
+                self._goes_through(random.Random(seed), *written(seed, 40))
 
-    def _goes_through(self, r: random.Random, written: Written) -> None:
-        module = self.module(written.text)
+    def _goes_through(self, r: random.Random, text: str, classes: List[Made]) -> None:
+        module = self.module(text)
         made = make(module, self.lock)
         self.assertEqual(list(lint(json.dumps(made.mapping).encode()).findings), [])
         self.assertEqual(make(module, self.lock).mapping, made.mapping)
-        stored = self._store(r, module, written)
+        known = {each.name: each for each in classes}
+        stored = self._store(r, module, known)
         with self.open(module) as app, app.begin() as manager:
-            for (name, key), (values, links) in stored.items():
-                found = manager.find(name, key)
-                self.assertEqual(type(found).__name__, name)
-                for attribute, value in values.items():
-                    self.assertEqual(getattr(found, attribute), value, f"{name}.{attribute}")
-                    self._is_found(manager, module, name, found, attribute, value)
-                for link, target in links.items():
-                    self.assertEqual(getattr(found, link).id, target, f"{name}.{link}")
+            for each in stored:
+                self._is_as_stored(manager, module, each, stored, known)
+        with self.open(module) as app:
+            for each in stored:
+                self._stays_unique(r, app, module, each)
         self.assertEqual(make(module, self.lock).mapping, made.mapping)
 
+    # ---- storing
+
     def _store(
-        self, r: random.Random, module: ModuleType, written: Written
-    ) -> Dict[Tuple[str, int], Tuple[Dict[str, Any], Dict[str, Any]]]:
-        """Stores two objects of each class, with links, and answers what each has."""
-        objects: Dict[str, List[Any]] = {}
-        given: List[Tuple[Any, Dict[str, Any], Dict[str, Any]]] = []
+        self, r: random.Random, module: ModuleType, classes: Dict[str, Made]
+    ) -> List[Stored]:
+        """Stores two objects of each class, with their relations."""
         with self.open(module) as app, app.begin() as manager:
-            for name, makers in written.values.items():
-                for _ in range(2):
-                    values = {
-                        each: None if each in written.optional[name] and r.random() < 0.3
-                        else maker(r, module) for each, maker in makers.items()
-                    }
-                    made = getattr(module, name)(**values)
-                    manager.persist(made)
-                    objects.setdefault(name, []).append(made)
-                    links = {
-                        link: r.choice(objects[target])
-                        for link, target in written.links[name].items() if target in objects
-                    }
-                    for link, target in links.items():
-                        setattr(made, link, target)
-                    given.append((made, values, links))
-            for name, lists in written.lists.items():
-                for attribute, target in lists.items():
-                    for each in objects[name]:
-                        getattr(each, attribute).append(objects[target][0])
-            return {
-                (type(made).__name__, made.id): (
-                    values, {link: target.id for link, target in links.items()}
-                )
-                for made, values, links in given
+            objects: Dict[str, List[Any]] = {}
+            values: Dict[int, Dict[str, Any]] = {}
+            for number, made in enumerate(classes.values()):
+                for place in (2 * number, 2 * number + 1):
+                    given = _values(r, module, made)
+                    own = getattr(module, made.name)(**made.key.make(place, module), **given)
+                    manager.persist(own)
+                    objects.setdefault(made.name, []).append(own)
+                    values[id(own)] = given
+            for made in classes.values():
+                for own, other in zip(objects[made.name], reversed(objects[made.name])):
+                    _relate(r, made, own, other, objects)
+            return [
+                _stored(made, own, values[id(own)], classes)
+                for made in classes.values() for own in objects[made.name]
+            ]
+
+    # ---- and back
+
+    def _is_as_stored(
+        self, manager: Any, module: ModuleType, each: Stored, stored: List[Stored],
+        classes: Dict[str, Made],
+    ) -> None:
+        name, key = each.made.name, each.key
+        found = manager.find(name, key if len(key) > 1 else key[0])
+        self.assertEqual(type(found).__name__, name)
+        for attribute, value in each.values.items():
+            self.assertEqual(getattr(found, attribute), value, f"{name}.{attribute}")
+            self._is_found(manager, module, each, attribute, value)
+        for link, target in each.links.items():
+            self.assertEqual(key_of(getattr(found, link), classes), target, f"{name}.{link}")
+        for attribute, members in each.lists.items():
+            self.assertEqual(_keys(getattr(found, attribute), classes), members, attribute)
+        for attribute, owner in each.made.inverse.items():
+            wanted = {
+                it.key for it in stored
+                if it.links.get(owner) == key or key in it.lists.get(owner, ())
             }
+            self.assertEqual(_keys(getattr(found, attribute), classes), wanted, attribute)
 
     def _is_found(
-        self, manager: Any, module: ModuleType, name: str, entity: Any, attribute: str, value: Any
+        self, manager: Any, module: ModuleType, each: Stored, attribute: str, value: Any
     ) -> None:
         """It is found by what it has."""
-        if value is None:
-            asked = f"SELECT e.{attribute} FROM {name} e WHERE e.{attribute} IS NULL AND e.id = :id"
-            self.assertEqual(manager.query(asked, id=entity.id), [None])
-        elif not isinstance(value, (list, dict)):
-            asked = f"SELECT e.{attribute} FROM {name} e WHERE e.{attribute} = :v AND e.id = :id"
-            self.assertEqual(manager.query(asked, v=value, id=entity.id), [value])
+        if isinstance(value, (list, dict)):
+            return
+        where, given = f"e.{attribute} IS NULL", {}
+        if isinstance(value, module.Spot):
+            where, given = f"e.{attribute}.at = :v", {"v": value.at}
+        elif value is not None:
+            where, given = f"e.{attribute} = :v", {"v": value}
+        for place, (path, part) in enumerate(zip(each.made.key.paths, each.key)):
+            where += f" AND e.{path} = :k{place}"
+            given[f"k{place}"] = part
+        asked = f"SELECT e.{attribute} FROM {each.made.name} e WHERE {where}"
+        self.assertEqual(manager.query(asked, **given), [value], asked)
+
+    def _stays_unique(self, r: random.Random, app: Any, module: ModuleType, each: Stored) -> None:
+        """No other object may have what is unique of it, together or alone."""
+        for together in each.made.unique:
+            values = _values(r, module, each.made)
+            values.update((name, each.values[name]) for name in together)
+            with self.assertRaises(NotUnique) as refused, app.begin() as manager:
+                key = each.made.key.make(500, module)
+                manager.persist(getattr(module, each.made.name)(**key, **values))
+            for name in together:
+                self.assertIn(name, str(refused.exception))
+
+
+def _values(r: random.Random, module: ModuleType, made: Made) -> Dict[str, Any]:
+    """A value of each attribute, of which some may be None."""
+    return {
+        name: None if name in made.optional and r.random() < 0.3 else maker(r, module)
+        for name, maker in made.values.items()
+    }
+
+
+def _relate(
+    r: random.Random, made: Made, own: Any, other: Any, objects: Dict[str, List[Any]]
+) -> None:
+    for link, target in made.links.items():
+        setattr(own, link, r.choice(objects[target]))
+    for link in made.pairs:
+        setattr(own, link, other)
+    for attribute, target in made.lists.items():
+        for member in r.sample(objects[target], r.randrange(3)):
+            getattr(own, attribute).append(member)
+
+
+def _stored(made: Made, own: Any, values: Dict[str, Any], classes: Dict[str, Made]) -> Stored:
+    if "noted" in values:  # Its validator shouts, and its callback hears of one persist.
+        values = {**values, "noted": values["noted"].upper(), "heard": 1}
+    links = {link: key_of(getattr(own, link), classes) for link in (*made.links, *made.pairs)}
+    lists = {name: _keys(getattr(own, name), classes) for name in made.lists}
+    return Stored(made, key_of(own, classes), values, links, lists)
+
+
+def _keys(members: List[Any], classes: Dict[str, Made]) -> Set[Key]:
+    return {key_of(each, classes) for each in members}

@@ -2,15 +2,20 @@
 
 from __future__ import annotations
 
+import json
 import os
+import signal
 import subprocess
 from datetime import date, datetime, timezone
 from decimal import Decimal
-from typing import Any, List
+from pathlib import Path
+from typing import Any, Callable, List
+from unittest import mock
 from uuid import UUID
 
 import karzhoul
 from karzhoul import WrongValue
+from karzhoul.classes.binding import _OPEN, Binding
 
 from .classed import ClassesTest
 from .support import HERE, needs_program
@@ -184,6 +189,8 @@ class Objects(ClassesTest):
                     self.assertIn(repr(value), told)
             with self.assertRaisesRegex(WrongValue, "Loan.due is a date, and never None"):
                 loan.due = None
+            with self.assertRaisesRegex(WrongValue, "Loan.member is a Member, and never None"):
+                loan.member = None
             with self.assertRaisesRegex(WrongValue, r"write Decimal\('1.10'\)"):
                 loan.fee = 1.5
             self.assertEqual(loan.due, date(2026, 1, 5))
@@ -243,6 +250,18 @@ class Objects(ClassesTest):
             with self.subTest(condition=condition):
                 self.assertEqual(self.rows(f"{asked}{condition}", it=value), numbers)
 
+    def test_a_query_that_is_wrong_is_told_where_a_parameter_fits_nothing(self) -> None:
+        for asked, told in (
+            ("SELECT l FROM Loan l WHERE l.duee < :it", "1:30: duee: Loan has no member duee"),
+            ("SELECT l AS member FROM Loan l WHERE l.due < :it", "1:13: member: .* a keyword"),
+        ):
+            with self.subTest(asked), self.assertRaisesRegex(
+                TypeError, f"the parameter 'it': .*, and no date; and the query is wrong: {told}"
+            ):
+                self.rows(asked, it=date(2026, 1, 5))
+        with self.assertRaisesRegex(TypeError, "and no date$"):
+            self.rows("SELECT l FROM Loan l WHERE LENGTH(:it) > 0", it=date(2026, 1, 5))
+
     def test_literals_are_so_too(self) -> None:
         asked = "SELECT l.number FROM Loan l WHERE "
         told = {
@@ -280,6 +299,13 @@ class Objects(ClassesTest):
                              [date(2026, 1, 5), date(2026, 2, 1)])
             page = manager.page("SELECT l.fee FROM Loan l", 1, 1, total=True)
             self.assertEqual((list(page), page.total), ([Decimal("1.50")], 2))
+
+    def test_a_key_of_another_type_is_a_wrong_value(self) -> None:
+        with self.app.begin() as manager:
+            for call in (manager.find, manager.get_reference):
+                with self.assertRaisesRegex(karzhoul.WrongValue, "key of Loan is a whole number, "
+                                            "and 'one' is no int"):
+                    call(self.it.Loan, "one")
 
     def test_keys_of_a_type_are_walked_through(self) -> None:
         with self.app.begin() as manager:
@@ -349,6 +375,46 @@ class Example(ClassesTest):
         self.assertRegex(told, "use.py:3: error: Incompatible types in assignment")
         self.assertIn("Found 1 error in 1 file (checked 2 source files)", told)
 
+    def test_embedded_values_keys_and_what_is_unique(self) -> None:
+        it = self.example("readers.py")
+        with self.open(it) as app:
+            with app.begin() as manager:
+                ada = it.Reader(name="Ada", home=it.Address(city="Ghent"))
+                other = it.Reader(name="Ada", home=it.Address(city="Bruges"))
+                copy = it.Copy(isbn="a", number=2, holder=ada)
+                manager.persist_all([ada, other, copy, it.Copy(isbn="a", number=1, holder=ada)])
+            self.assertEqual([it.move(app, 1, city) for city in ("Bruges", "Aalst")], [False, True])
+            with app.begin() as manager:
+                self.assertEqual([copy.number for copy in it.held_in(manager, "Aalst")], [1, 2])
+                self.assertEqual(manager.get_reference(it.Copy, ("a", 2)).holder.name, "Ada")
+
+    @needs_mypy
+    def test_a_type_checker_takes_these_too(self) -> None:
+        self.assertEqual(self.checked("readers", (
+            "from readers import *\n"
+            "def use(reader: Reader, copy: Copy) -> None:\n"
+            "    reader.home = 5\n"
+            "    reader.home = None\n"
+            "    copy.number = 'a'\n"
+            "    copy.wanted_by[0].work = reader.home\n"
+            "    print(reader.home.city + 1)\n"
+        )), [3, 4, 5, 7])
+
+    def checked(self, name: str, use: str) -> List[int]:
+        """The lines of a use of an example that mypy refuses, which takes the example itself."""
+        self.example(f"{name}.py")
+        (self.folder / "use.py").write_text(use)
+        words = [MYPY, "--strict", "--python-version", "3.11", "--cache-dir",
+                 str(self.folder / "cache")]
+        place = {**os.environ, "MYPYPATH": f"{HERE.parent}:{self.folder}"}
+        told = subprocess.run(
+            [*words, str(self.folder / f"{name}.py"), str(self.folder / "use.py")], env=place,
+            capture_output=True, text=True,
+        ).stdout
+        lines = [line.split(":") for line in told.splitlines() if " error: " in line]
+        self.assertEqual({Path(line[0]).name for line in lines}, {"use.py"}, told)
+        return [int(line[1]) for line in lines]
+
     def test_the_readme_has_it(self) -> None:
         text = (HERE / "data" / "members.py").read_text()
         classes = text[text.index("class Member") : text.index("def lend")].strip()
@@ -377,3 +443,110 @@ class Alone(ClassesTest):
             self.open(text)
 
 
+LOOKED = """
+class Rank(Enum):
+    LOW = 1
+    HIGH = 2
+
+class Named(Entity, abstract=True):
+    id: int = generated(index=True)
+    name: str = field(index=True)
+
+class Title(Named):
+    price: Decimal = money(2, index=True)
+    rank: Rank = by_value(default=Rank.LOW, index=True)
+    since: datetime | None = naive(default=None, index=True)
+    shelf: str = typed(str.lower, str.upper, default="A", index=True)
+    plain: str = ""
+
+class Volume(Title):
+    number: int = field(default=1, index=True)
+
+class Shelf(Entity):
+    code: str = key(index=True)
+"""
+
+
+@needs_program
+class LookedUp(ClassesTest):
+    def told_by(self, work: Callable[[], object]) -> List[str]:
+        """What the program is told to look up."""
+        with self.assertLogs("karzhoul", "DEBUG") as logs:
+            work()
+        lines = [record.getMessage().partition(" -> ") for record in logs.records]
+        found = [(json.loads(line), reply) for line, _, reply in lines if '"index"' in line]
+        for _, reply in found:
+            self.assertTrue(reply.startswith('{"events":[],"ok":null}'), reply)
+        return [f"{line['entity']}.{line['name']}" for line, _ in found]
+
+    def test_what_is_to_be_looked_up_is_told_when_a_program_is_started(self) -> None:
+        it = self.module(LOOKED)
+        whole = [
+            "Title.id", "Title.name", "Title.price", "Title.rank", "Title.since", "Title.shelf",
+            "Volume.number", "Shelf.code",
+        ]
+        self.assertEqual(self.told_by(lambda: self.open(it)), whole)
+        [app] = _OPEN[it.Title]
+        with app.begin() as manager:
+            manager.persist(it.Volume(name="b", price=Decimal("2.50")))
+            manager.persist(it.Title(name="a", price=Decimal("1.50"), rank=it.Rank.HIGH))
+        self.assertEqual(self.told_by(app.restart), [])  # The program keeps what it was told.
+        os.kill(app.program.pid, signal.SIGKILL)
+        with self.assertRaises(karzhoul.ProgramEnded):
+            app.create_entity_manager()
+        self.assertEqual(self.told_by(app.reopen), whole)
+        with app.begin() as manager:
+            dear = manager.query("SELECT t.name FROM Title t WHERE t.price > :p", p=Decimal(2))
+            named = manager.query("SELECT t.name FROM Title t ORDER BY t.name")
+            self.assertEqual((dear, named), (["b"], ["a", "b"]))
+
+    def test_a_program_that_looks_nothing_up_is_opened_all_the_same(self) -> None:
+        with mock.patch.object(Binding, "index_lines", return_value=[b'{"call":"seek"}'] * 2):
+            app = self.open(LOOKED)
+        with app.begin() as manager:
+            self.assertEqual(manager.query("SELECT t FROM Title t"), [])
+
+
+MADE = """
+from uuid import uuid4
+
+class Ticket(Entity):
+    id: int = generated()
+    code: UUID = field(default_factory=uuid4, unique=True)
+    made: datetime = field(init=False)
+    state: str = field(default="open", init=False)
+    day: date = field(default_factory=lambda: date(2026, 1, 5))
+
+    def pre_persist(self) -> None:
+        self.made = datetime(2026, 1, 5, tzinfo=timezone.utc)
+"""
+
+
+@needs_program
+class Made(ClassesTest):
+    """Attributes that the constructor makes, or doesn't take."""
+
+    def test_what_is_made_for_each_object(self) -> None:
+        it = self.module(MADE)
+        with self.open(it) as app:
+            with app.begin() as manager:
+                one, two = it.Ticket(), it.Ticket(day=date(2026, 1, 6))
+                manager.persist_all([one, two])
+            self.assertNotEqual(one.code, two.code)
+            self.assertEqual((one.day.day, two.day.day, one.made.day, one.state), (5, 6, 5, "open"))
+            for name in ("made", "state"):
+                with self.assertRaisesRegex(TypeError, f"Ticket takes no {name}, which is init"):
+                    it.Ticket(**{name: "x"})
+            one.state = "shut"
+        with self.assertRaisesRegex(ValueError, "default or default_factory, and not both"):
+            karzhoul.field(default=1, default_factory=int)
+
+    def test_one_that_is_new_over_a_store_is_made_for_each_object(self) -> None:
+        first = "class Ticket(Entity):\n    id: int = generated()\n"
+        with self.open(first) as app, app.begin() as manager:
+            manager.persist_all([app.new("Ticket") for _ in range(3)])
+        it = self.module(MADE.replace("made: datetime", "made: datetime | None"))
+        with self.open(it) as app, app.begin() as manager:
+            codes = manager.scalars("SELECT t.code FROM Ticket t")
+            self.assertEqual(len(set(codes)), 3)
+            self.assertEqual(manager.query("SELECT t.state FROM Ticket t"), ["open"] * 3)

@@ -3,17 +3,20 @@
 from __future__ import annotations
 
 import contextlib
+import importlib
 import io
 import json
 import os
 import sys
-from typing import Tuple
+from typing import List, Tuple
 from unittest import mock
 
 from karzhoul.command import main
+from karzhoul.given import given_of
 from karzhoul.linter import lint
 
 from .classed import HEAD, ClassesTest
+from .support import PROGRAM, needs_program
 
 LOANS = """
 class Member(Entity):
@@ -45,9 +48,13 @@ LOAN = {
 
 class Command(ClassesTest):
     def said(self, *words: str) -> Tuple[int, str, str]:
+        return self.ran("mapping", *words)
+
+    def ran(self, *words: str) -> Tuple[int, str, str]:
+        """A command's status and what it prints."""
         out, err = io.StringIO(), io.StringIO()
         with contextlib.redirect_stdout(out), contextlib.redirect_stderr(err):
-            status = main(["mapping", *words])
+            status = main(list(words))
         return status, out.getvalue(), err.getvalue()
 
     def written(self, name: str, text: str) -> str:
@@ -87,3 +94,60 @@ class Command(ClassesTest):
         self.assertEqual(self.said("no_such_module")[0], 2)
         self.assertEqual(self.said(self.written("command_none", ""))[0], 1)
         self.assertIn(os.sep, file)
+
+    def stored(self, name: str) -> str:
+        """The file of a module, over a store that has Ada and her loan."""
+        file = self.written(name, LOANS)
+        given_of(file)
+        module = importlib.import_module(name)
+        with self.open(module) as app, app.begin() as manager:
+            ada = module.Member(name="Ada")
+            ada.loans.append(module.Loan(number=1, member=ada, due=module.date(2026, 1, 5)))
+            manager.persist(ada)
+        return file
+
+    @needs_program
+    def test_other_commands_take_a_module_in_the_place_of_a_mapping(self) -> None:
+        file, db, program = self.stored("command_taken"), str(self.db), ["--program", str(PROGRAM)]
+        over = [db, "--mapping", file, *program]
+        status, out, err = self.ran("show", *over)
+        self.assertEqual((status, err), (0, ""))
+        self.assertIn("Loan: 1 object (all that are stored)\nnumber | due ", out)
+        self.assertNotIn("KarzhoulForm", out)
+        asked = "SELECT UPPER(l.member.name), l.due FROM Loan l"
+        self.assertEqual(self.ran("query", file, db, asked, "--json", *program),
+                         (0, '["ADA","2026-01-05"]\n', ""))
+        status, out, err = self.ran("dump", *over)
+        self.assertEqual((status, err), (0, ""))
+        self.assertIn('{"entity":"Member","key":[1],"version":0,"values":{"name":"Ada"}}', out)
+        with mock.patch("sys.stdin", io.StringIO("SELECT UPPER(m.name) FROM Member m\n")):
+            status, out, err = self.ran("shell", *over)
+        self.assertEqual((status, err), (0, ""))
+        self.assertIn("ADA", out)
+
+    @needs_program
+    def test_wrong_classes_in_the_place_of_a_mapping(self) -> None:
+        self.stored("command_right")
+        file = self.written("command_bad", "class A(Entity):\n    id: float = key()\n")
+        for command in ("show", "dump", "shell"):
+            status, out, err = self.ran(command, str(self.db), "--mapping", file)
+            self.assertEqual((status, out), (1, ""))
+            self.assertIn("command_bad.py:9: A.id is a float", err)
+        status, _, err = self.ran("show", str(self.db), "--mapping", "no.such.module")
+        self.assertEqual(status, 4)
+        self.assertIn("there is no mapping no.such.module: as a module", err)
+
+    @needs_program
+    def test_the_language_of_a_prompt(self) -> None:
+        file = self.stored("command_spoken")
+        mapping = self.folder / "mapping.json"
+        self.said(file, "-o", str(mapping))
+        over = [str(self.db), "--mapping", str(mapping), "--program", str(PROGRAM)]
+        cases: List[Tuple[List[str], int, str]] = [
+            ([], 3, "refused: IllegalArgument(syntax)"), (["--language", "wide"], 0, "ADA"),
+        ]
+        for words, status, told in cases:
+            with mock.patch("sys.stdin", io.StringIO("SELECT UPPER(m.name) FROM Member m\n")):
+                ran = self.ran("shell", *over, *words)
+            self.assertEqual(ran[0], status, ran)
+            self.assertIn(told, ran[1])

@@ -297,8 +297,9 @@ class Refused(WithStore):
         self.assertTrue(err.endswith(": it is no database of SQLite\n"), err)
 
     def test_one_way_must_be_said(self) -> None:
-        with self.assertRaises(SystemExit):
-            self.told()
+        status, told, err = self.told()
+        self.assertEqual((status, told), (2, []))
+        self.assertIn("one of --dry-run and --copy FILE is needed", err)
         with self.assertRaises(SystemExit):
             self.told("--dry-run", "--copy", "copy.db")
 

@@ -166,7 +166,8 @@ class Ways(unittest.TestCase):
         cases = [{"words": ["--query", text, *words], "lines": ['["ADA",1]', "[null,2]"]}]
         found = self.played(cases, text, *words, "--json")
         self.assertEqual(found, (0, '["ADA",1]\n[null,2]\n', ""))
-        table = "1    | 2\n-----+--\nADA  | 1\nnull | 2\n2 rows\n"
+        head = "UPPER(p.name) | id\n--------------+---\n"
+        table = f"{head}ADA           |  1\nnull          |  2\n2 rows\n"
         self.assertEqual(self.played(cases, text, *words), (0, table, ""))
         plan = {"words": ["--query", text, *words, "--explain"], "lines": ["reads all rows"]}
         self.assertEqual(self.played([plan], text, "--explain", *words), (0, "reads all rows\n", ""))
@@ -180,8 +181,9 @@ class Ways(unittest.TestCase):
         text, words = "SELECT UPPER(p.id) FROM Person p", ["--language", "wide"]
         refusal = {"told": "jpa: IllegalArgument(typing)", "status": 3}
         found = self.played([{"words": ["--query", text, *words], **refusal}], text, *words)
-        why = "  The query compares or computes what doesn't go together, or names what isn't there."
-        self.assertEqual(found, (3, "", f"karzhoul: IllegalArgument(typing)\n{why}\n"))
+        word = "IllegalArgument(typing)"
+        why = f"  1:14: p.id: UPPER takes a text, and p.id is a whole number [{word}]"
+        self.assertEqual(found, (3, "", f"karzhoul: {word}\n{why}\n"))
 
     def test_an_older_program_has_no_wider_language(self) -> None:
         told = f"karzhoul: {self.stub} is an older program, which has the language of the profile alone\n"

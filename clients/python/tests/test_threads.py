@@ -330,16 +330,26 @@ class Waiting(ThreadsTest):
                 karzhoul.open(PERSONS, program=PROGRAM, threads=True, wait=wait)
 
 
+def interrupt_in(seconds: float) -> threading.Timer:
+    """Once it is started, interrupts the main thread in so many seconds, as Ctrl-C does: by a
+    signal from outside of what it runs. (One that a handler raises would interrupt the handler.)"""
+    main = threading.main_thread().ident
+    assert main is not None
+    return threading.Timer(seconds, signal.pthread_kill, (main, signal.SIGINT))
+
+
 @needs_program
 class Interrupts(ThreadsTest):
     def test_an_interrupt_while_one_waits(self) -> None:
         """No place is lost, and who comes after is let in."""
         for _ in range(20):
             managers = [self.app.create_entity_manager() for _ in range(16)]
+            interrupt = interrupt_in(random.uniform(0.001, 0.02))
             with self.assertRaises(KeyboardInterrupt):
-                signal.setitimer(signal.ITIMER_REAL, random.uniform(0.001, 0.02))
+                interrupt.start()
                 with self.app.begin():
                     self.fail("16 are open")
+            interrupt.join()
             for manager in managers:
                 manager.close()
         self.assertEqual(len([self.app.create_entity_manager() for _ in range(16)]), 16)
@@ -351,15 +361,12 @@ class Interrupts(ThreadsTest):
 
         for _ in range(100):
             deadline = time.monotonic() + 60
-            try:
-                signal.setitimer(signal.ITIMER_REAL, random.uniform(0.0001, 0.003))
+            interrupt = interrupt_in(random.uniform(0.0001, 0.003))
+            with self.assertRaises(KeyboardInterrupt):
+                interrupt.start()
                 while time.monotonic() < deadline:
                     work()
-                self.fail("an interrupt was lost")
-            except KeyboardInterrupt:
-                pass
-            finally:
-                signal.setitimer(signal.ITIMER_REAL, 0)
+            interrupt.join()
         self.assertEqual(len([self.app.create_entity_manager() for _ in range(16)]), 16)
 
     def test_an_interrupt_at_each_step(self) -> None:
@@ -398,8 +405,6 @@ class Interrupts(ThreadsTest):
 
     def setUp(self) -> None:
         super().setUp()
-        before = signal.signal(signal.SIGALRM, lambda *_: os.kill(os.getpid(), signal.SIGINT))
-        self.addCleanup(signal.signal, signal.SIGALRM, before)
         before = signal.signal(signal.SIGINT, signal.default_int_handler)
         self.addCleanup(signal.signal, signal.SIGINT, before)
 

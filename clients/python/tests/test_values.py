@@ -19,6 +19,7 @@ from unittest import mock
 import karzhoul
 from karzhoul import Entity, FlushModeType, LifecycleEvent, LockModeType, shown
 from karzhoul.refusals import KarzhoulError
+from karzhoul.runs import Run
 
 from .steps import interrupted_at_step
 from .support import ORDERS, PROGRAM, ManagerTest, counted, needs_program, present
@@ -82,6 +83,29 @@ class Asked(ManagerTest):
             self.assertEqual([order.number for order in rows], list(range(100, 2600)))
 
         self.assertEqual(self.asked_by(read), ["query"] + ["values"] * 3)
+
+    def test_rows_that_lead_to_several_objects_are_made_at_once(self) -> None:
+        with self.app.begin() as manager:
+            eve = self.Person(name="Eve")
+            manager.persist(eve)
+            manager.persist(self.Order(number=20, amount=20, person=eve))
+            manager.persist(self.Order(number=21))
+
+        def read() -> None:
+            rows = self.em.query("SELECT o FROM Order o")
+            self.assertEqual([order.amount for order in rows], [*range(10, 15), 20, None])
+
+        with mock.patch.object(Run, "show", side_effect=AssertionError):
+            self.assertEqual(self.asked_by(read), ["query", "values"])
+        [last] = self.em.query("SELECT o FROM Order o WHERE o.number = 20")
+        self.assertEqual(last.person.name, "Eve")
+
+    def test_a_row_that_is_set_leaves_the_others_as_they_were_read(self) -> None:
+        rows = self.em.query("SELECT o FROM Order o")
+        rows[1].amount = 99
+        self.assertEqual(self.asked_by(lambda: [it.amount for it in (rows[0], *rows[2:])]), [])
+        self.assertEqual(self.asked_by(lambda: getattr(rows[1], "amount")), ["values"])
+        self.assertEqual([it.amount for it in rows], [10, 99, 12, 13, 14])
 
     def test_members_of_a_collection_are_read_by_one_line(self) -> None:
         orders = present(self.em, self.Person, 2).orders

@@ -45,8 +45,8 @@ class Wrong(ClassesTest):
 
     def test_two_keys(self) -> None:
         self.refused(
-            "class A(Entity):\n    a: int = key()\n    b: int = key()\n", 10,
-            "A.b is a second key beside a: an entity of classes has one; take the word key() away",
+            "class A(Entity):\n    a: int = key()\n    b: int = generated()\n", 10,
+            "A.b is generated, and so the whole key: take the other key() away",
         )
 
     def test_a_link_without_its_word(self) -> None:

@@ -10,6 +10,7 @@ use Rattle.jpa_history.specs.declared.history.Change.{Change}
 use Rattle.jpa_history.specs.declared.history.ClassHistory.{ClassHistory}
 use Rattle.jpa_history.specs.declared.history.History.{History}
 use Rattle.jpa_functions.specs.FunctionsIn.{functions_in}
+use Rattle.jpql_tree.specs.declared.Language.{Language}
 use Rattle.jpa.specs.Served.{own_unit, unit_in}
 
 -- it has nothing that a second revision might say
@@ -19,6 +20,6 @@ persons_history = record { classes = kept ∷ kept ∷ [] }
     kept : ClassHistory
     kept = record { dropped = []; changes = Change.Kept ∷ [] }
 
-persons_described : unit_in (codes "{\"revision\":1,\"entities\":[{\"name\":\"Person\",\"table\":1,\"key\":[{\"name\":\"id\",\"type\":\"int\"}],\"generated\":true,\"version\":{\"name\":\"version\",\"column\":1},\"attributes\":[{\"name\":\"name\",\"type\":\"text\",\"column\":2}],\"relations\":[{\"name\":\"orders\",\"kind\":\"oneToMany\",\"target\":\"Order\",\"mappedBy\":\"person\",\"cascade\":[\"ALL\"],\"orphanRemoval\":true}]},{\"name\":\"Order\",\"table\":2,\"key\":[{\"name\":\"number\",\"type\":\"int\"}],\"attributes\":[{\"name\":\"amount\",\"type\":\"int\",\"column\":1}],\"relations\":[{\"name\":\"person\",\"kind\":\"manyToOne\",\"target\":\"Person\",\"column\":2}]}]}") ≡ Ok (own_unit, persons_history)
+persons_described : unit_in Language.Profile (codes "{\"revision\":1,\"entities\":[{\"name\":\"Person\",\"table\":1,\"key\":[{\"name\":\"id\",\"type\":\"int\"}],\"generated\":true,\"version\":{\"name\":\"version\",\"column\":1},\"attributes\":[{\"name\":\"name\",\"type\":\"text\",\"column\":2}],\"relations\":[{\"name\":\"orders\",\"kind\":\"oneToMany\",\"target\":\"Order\",\"mappedBy\":\"person\",\"cascade\":[\"ALL\"],\"orphanRemoval\":true}]},{\"name\":\"Order\",\"table\":2,\"key\":[{\"name\":\"number\",\"type\":\"int\"}],\"attributes\":[{\"name\":\"amount\",\"type\":\"int\",\"column\":1}],\"relations\":[{\"name\":\"person\",\"kind\":\"manyToOne\",\"target\":\"Person\",\"column\":2}]}]}") ≡ Ok (own_unit Language.Profile, persons_history)
 unfolding mapping_of drafts_in drafts_of history_of class_history_of change_of text_data draft_of entity_of root_of part_of version_of attribute_of side_of relation_of functions_in is_utf8 chars serde_json_on_literals
 persons_described = refl

@@ -15,6 +15,7 @@ use Rattle.jpa_value.specs.declared.refusal.MappingFault.{MappingFault}
 use Rattle.jpa_history.specs.declared.history.History.{History}
 use Rattle.jpa_behaviour.specs.Served.{world_of_unit}
 use Rattle.jpa_migration.specs.Migration.{defaults_pass}
+use Rattle.jpql_tree.specs.declared.Language.{Language}
 use Rattle.jpa.specs.Served.{ProgramUnit, unit_from, HoldsUnit, is_servable, IsServable, GivesServable}
 
 module _ {S : Type 0} (g : Ghosts S) where
@@ -54,13 +55,13 @@ module _ {A E : Type 0} (answer : Result A E) (function memory : E) where
     servable a is = both_pass a (names_are_known unit.registry unit.metamodel) (defaults_pass (world_of_unit meaning unit) history) is unknown thrown
 
 -- what serves the unit that bytes give ends well only where they give one that can be served
-pub gives_servable : {A E : Type 0} (mapping : Option (List ℕ)) (unit : ProgramUnit) (history : History) (answer : Result A E) → Ok (unit, history) ≡ unit_from mapping → OnOk answer (IsServable unit history) → OnOk answer (GivesServable mapping)
-gives_servable mapping unit history (Ok a) is serves = (unit, history, sym is, serves)
-gives_servable mapping unit history (Err e) is serves = serves
+pub gives_servable : {A E : Type 0} (language : Language) (mapping : Option (List ℕ)) (unit : ProgramUnit) (history : History) (answer : Result A E) → Ok (unit, history) ≡ unit_from language mapping → OnOk answer (IsServable unit history) → OnOk answer (GivesServable language mapping)
+gives_servable language mapping unit history (Ok a) is serves = (unit, history, sym is, serves)
+gives_servable language mapping unit history (Err e) is serves = serves
 
 -- the unit that bytes give can be served where no refusal of it was told
-pub asked_unit : {A : Type 0} (mapping : Option (List ℕ)) (unit : ProgramUnit) (history : History) (answer : Result A Cause) → Ok (unit, history) ≡ unit_from mapping
+pub asked_unit : {A : Type 0} (language : Language) (mapping : Option (List ℕ)) (unit : ProgramUnit) (history : History) (answer : Result A Cause) → Ok (unit, history) ≡ unit_from language mapping
     → (names_are_known unit.registry unit.metamodel ≡ false → answer ≡ Err (Cause.Mapping MappingFault.Function))
     → (names_are_known unit.registry unit.metamodel ≡ true → defaults_pass (world_of_unit meaning unit) history ≡ false → (answer ≡ Err (Cause.Mapping MappingFault.Function)) ⊎ (answer ≡ Err Cause.OutOfMemory))
-    → (a : A) → answer ≡ Ok a → GivesServable mapping
-asked_unit mapping unit history answer is unknown thrown a ok = (unit, history, sym is, servable answer (Cause.Mapping MappingFault.Function) Cause.OutOfMemory unit history unknown thrown a ok)
+    → (a : A) → answer ≡ Ok a → GivesServable language mapping
+asked_unit language mapping unit history answer is unknown thrown a ok = (unit, history, sym is, servable answer (Cause.Mapping MappingFault.Function) Cause.OutOfMemory unit history unknown thrown a ok)

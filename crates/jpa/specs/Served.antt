@@ -29,25 +29,25 @@ use Rattle.jpa_program.specs.Persons.{persons}
 abbrev pub ProgramUnit : Type 0
 ProgramUnit = ServedUnit ProgramFunctions Listener Converter
 
--- the unit that the bytes of a mapping describe, with what has changed of it since revision 1, or
--- the first that is wrong: with its entities, then with its functions
-abbrev pub unit_in : List ℕ → Result (ProgramUnit × History) Cause
-unit_in bytes =
+-- the unit that the bytes of a mapping describe, in a language of queries, with what has changed of
+-- it since revision 1, or the first that is wrong: with its entities, then with its functions
+abbrev pub unit_in : Language → List ℕ → Result (ProgramUnit × History) Cause
+unit_in language bytes =
     and_then (mapping_of bytes) (λ mapping.
     and_then (functions_in bytes) (λ functions.
-    and_then (registered functions)
+    and_then (registered language functions)
     (λ registry. Ok (record { metamodel = mapping.metamodel; registry = registry }, mapping.history))))
 
 -- the unit that is served without a mapping: the program's own persons with their orders, and no
 -- function
-abbrev pub own_unit : ProgramUnit
-own_unit = record { metamodel = persons; registry = record { listeners = []; converters = [] } }
+abbrev pub own_unit : Language → ProgramUnit
+own_unit l = record { metamodel = persons; registry = record { listeners = []; converters = []; language = l } }
 
 -- the unit of a mapping's bytes, or the first that is wrong with them, and of no bytes the
 -- program's own
-abbrev pub unit_from : Option (List ℕ) → Result (ProgramUnit × History) Cause
-unit_from (Some bytes) = unit_in bytes
-unit_from None = Ok (own_unit, unchanged)
+abbrev pub unit_from : Language → Option (List ℕ) → Result (ProgramUnit × History) Cause
+unit_from language (Some bytes) = unit_in language bytes
+unit_from language None = Ok (own_unit language, unchanged)
 
 -- the language that a name says, which is the profile's where none is said
 abbrev pub language_named : Option (List ℕ) → Language
@@ -55,8 +55,8 @@ language_named None = Language.Profile
 language_named (Some name) = if bytes_eq name (codes "wide") then Language.Wide else Language.Profile
 
 -- where the unit can't be made the first that is wrong is told, unless memory ran out
-abbrev pub RefusesUnit : {T : Type 0} → Option (List ℕ) → Result T Cause → Type 0
-RefusesUnit mapping result = (cause : Cause) → unit_from mapping ≡ Err cause →
+abbrev pub RefusesUnit : {T : Type 0} → Language → Option (List ℕ) → Result T Cause → Type 0
+RefusesUnit language mapping result = (cause : Cause) → unit_from language mapping ≡ Err cause →
     IsErrAnd result (λ told. (told ≡ Cause.OutOfMemory) ⊎ (told ≡ cause))
 
 -- want of memory, or a fault of the mapping
@@ -73,9 +73,10 @@ abbrev pub IsServable : ProgramUnit → History → Type 0
 IsServable unit history = is_servable unit history ≡ true
 
 -- the unit of these bytes, or of none, can be served
-abbrev pub GivesServable : Option (List ℕ) → Type 0
-GivesServable mapping =
-    (unit : ProgramUnit) × (history : History) × (unit_from mapping ≡ Ok (unit, history)) × IsServable unit history
+abbrev pub GivesServable : Language → Option (List ℕ) → Type 0
+GivesServable language mapping =
+    (unit : ProgramUnit) × (history : History) × (unit_from language mapping ≡ Ok (unit, history))
+    × IsServable unit history
 
 module _ {S : Type 0} (g : Ghosts S) where
   -- the cells of the unit's tables are those of a set of its objects and of next numbers, and no

@@ -1,6 +1,6 @@
 //! The program: it serves the entities of a mapping over a store in memory or in a file, by the
 //! calls on standard input, and writes the replies to standard output; or it answers one question
-//! over a store's file.
+//! over a store's file, or prints what the grammar of a language of queries has.
 #![tactic(auto)]
 
 ghost use Rattle.std.specs.Prelude.{◌≡◌, ◌⊎◌, true, false, None, Ok, Err, option_copied, IsSome, IfOk, IfErr, IsErrAnd, OnOk};
@@ -15,20 +15,20 @@ use jpa_behaviour::{Registry, ServedUnit};
 use jpa_cells::{Holding, holding_of};
 use jpa_functions::{ProgramFunctions, read_functions, registry_of};
 use jpa_history::History;
-use jpa_lines::RunFault;
+use jpa_lines::write_text;
 use jpa_mapping::{Mapping, read_mapping};
 use jpa_program::{first_unit, open, run};
 use jpa_questions::{
-    Misgiven, Parameter, Question, ask_store, check_unit, read_parameters, read_question,
-    write_plan, write_rows,
+    Misgiven, Parameter, Question, Untold, check_unit, read_parameters, read_question, tell_rows,
+    write_plan,
 };
 use jpa_settings::{Settings, Stop, read_settings, status};
 use jpa_value::{Cause, MappingFault, Refusal, Seq, Text, refusal_text};
-use jpql_eval::Datum;
+use jpql_shapes::grammar_text;
 use jpql_tree::Language;
 use sqlite::{Alter, Connection, Error, ErrorCode, Unknown};
 use std::alloc::Global;
-use std::io::{ErrorKind, Write};
+use std::io::ErrorKind;
 use std::process::ExitCode;
 use std::{env, fs, io};
 
@@ -86,13 +86,17 @@ fn mapping_bytes(rt: &HostRuntime, settings: &Settings) -> Result<Option<Vec<u8>
 
 /// The unit that a mapping's bytes describe, with what has changed of it since revision 1: its
 /// entities are read before its functions.
-fn described(alloc: Global, bytes: &[u8]) -> Result<(ServedUnit<ProgramFunctions>, History), Cause>
-    ensures unit { IsUnlessMemory result (spec.unit_in bytes.now) }
+fn described(
+    alloc: Global,
+    language: Language,
+    bytes: &[u8],
+) -> Result<(ServedUnit<ProgramFunctions>, History), Cause>
+    ensures unit { IsUnlessMemory result (spec.unit_in language bytes.now) }
     ensures refused { IfErr result spec.IsMappingCause }
 {
     let Mapping { metamodel, history } = read_mapping(alloc, bytes)?;
     let functions = read_functions(alloc, bytes)?;
-    let registry = registry_of(alloc, functions)?;
+    let registry = registry_of(alloc, language, functions)?;
     Ok((
         ServedUnit {
             metamodel,
@@ -104,13 +108,13 @@ fn described(alloc: Global, bytes: &[u8]) -> Result<(ServedUnit<ProgramFunctions
 
 /// The unit that is served without a mapping: the program's own persons with their orders, and no
 /// function.
-fn own_unit(alloc: Global) -> Result<ServedUnit<ProgramFunctions>, Cause>
-    ensures unit { IsUnlessMemory result (Ok spec.own_unit) }
+fn own_unit(alloc: Global, language: Language) -> Result<ServedUnit<ProgramFunctions>, Cause>
+    ensures unit { IsUnlessMemory result (Ok (spec.own_unit language)) }
     ensures refused { IfErr result spec.IsMappingCause }
 {
     Ok(ServedUnit {
         metamodel: first_unit(alloc)?,
-        registry: Registry::new(alloc),
+        registry: Registry::new(alloc, language),
     })
 }
 
@@ -118,15 +122,17 @@ fn own_unit(alloc: Global) -> Result<ServedUnit<ProgramFunctions>, Cause>
 /// which nothing has changed.
 fn unit_from(
     alloc: Global,
+    language: Language,
     mapping: Option<&[u8]>,
 ) -> Result<(ServedUnit<ProgramFunctions>, History), Cause>
-    ensures unit { IsUnlessMemory result (spec.unit_from (option_copied mapping.entry)) }
+    ensures unit { IsUnlessMemory result
+        (spec.unit_from language (option_copied mapping.entry)) }
     ensures refused { IfErr result spec.IsMappingCause }
 {
     match mapping {
-        Some(bytes) => described(alloc, bytes),
+        Some(bytes) => described(alloc, language, bytes),
         None => {
-            let unit = own_unit(alloc)?;
+            let unit = own_unit(alloc, language)?;
             let classes = Seq::new(alloc);
             Ok((unit, History { classes }))
         }
@@ -225,11 +231,16 @@ fn serve_file(
 
 /// Serves the unit of a mapping's bytes over the store's file that is named, or without one over a
 /// store in memory.
-fn serve_mapping(rt: &HostRuntime, mapping: Option<&[u8]>, db: Option<&Text>) -> Result<Stop, Cause>
-    ensures served { OnOk result (spec.GivesServable (option_copied mapping.entry)) }
-    ensures refused { spec.RefusesUnit (option_copied mapping.entry) result }
+fn serve_mapping(
+    rt: &HostRuntime,
+    language: Language,
+    mapping: Option<&[u8]>,
+    db: Option<&Text>,
+) -> Result<Stop, Cause>
+    ensures served { OnOk result (spec.GivesServable language (option_copied mapping.entry)) }
+    ensures refused { spec.RefusesUnit language (option_copied mapping.entry) result }
 {
-    let (unit, history) = unit_from(rt.alloc(), mapping)?;
+    let (unit, history) = unit_from(rt.alloc(), language, mapping)?;
     match db {
         Some(path) => serve_file(rt, path, unit, &history),
         None => serve_in_memory(rt, unit, &history),
@@ -237,11 +248,15 @@ fn serve_mapping(rt: &HostRuntime, mapping: Option<&[u8]>, db: Option<&Text>) ->
 }
 
 /// The unit of a mapping's bytes, for which a question is judged.
-fn unit_to_ask(alloc: Global, mapping: Option<&[u8]>) -> Result<ServedUnit<ProgramFunctions>, Cause>
-    ensures served { OnOk result (spec.GivesServable (option_copied mapping.entry)) }
-    ensures refused { spec.RefusesUnit (option_copied mapping.entry) result }
+fn unit_to_ask(
+    alloc: Global,
+    language: Language,
+    mapping: Option<&[u8]>,
+) -> Result<ServedUnit<ProgramFunctions>, Cause>
+    ensures served { OnOk result (spec.GivesServable language (option_copied mapping.entry)) }
+    ensures refused { spec.RefusesUnit language (option_copied mapping.entry) result }
 {
-    let (unit, history) = unit_from(alloc, mapping)?;
+    let (unit, history) = unit_from(alloc, language, mapping)?;
     check_unit(&unit, &history)?;
     Ok(unit)
 }
@@ -255,13 +270,13 @@ fn is_filled(rt: &HostRuntime, path: &Text) -> bool {
     }
 }
 
-/// The rows that a question finds in a store's file, which stays as it is.
-fn rows_found(
+/// Prints the rows that a question finds in a store's file, which stays as it is.
+fn print_rows(
     rt: &HostRuntime,
     path: &Text,
     unit: &ServedUnit<ProgramFunctions>,
     question: &Question,
-) -> Result<Seq<Seq<Datum>>, Cause> {
+) -> Result<Stop, Cause> {
     if !is_filled(rt, path) {
         return Err(Cause::StoreFault);
     }
@@ -269,36 +284,42 @@ fn rows_found(
         Ok(conn) => conn,
         Err((error, _)) => return Err(cause_of(error)),
     };
-    let (rows, conn) = ask_store(rt.alloc(), conn, unit, question);
-    if let Err(cause) = &rows {
+    let mut lines = Vec::new(rt.alloc());
+    let (told, conn) = tell_rows(rt.alloc(), conn, unit, question, &mut lines);
+    if let Err(Untold::Refused(cause)) = &told {
         tell_holding(rt, cause, &conn);
     }
-    // the log isn't brought into the file, which stays as it was
+    // the log isn't brought into the file, which stays as it was; others may open it before who
+    // reads the lines is done
     drop(conn.into_store().close());
-    rows
+    match told {
+        Ok(()) => Ok(print_text(rt, lines.as_slice())),
+        Err(Untold::Refused(cause)) => Err(cause),
+        Err(Untold::Broken(_)) => Err(Cause::OutOfMemory),
+    }
 }
 
-/// What is told of a question: the lines of the rows that it finds, or how it would find them.
-fn told(
+/// Prints a text.
+fn print_text(rt: &HostRuntime, text: &[u8]) -> Stop {
+    match write_text(&mut io::writer(rt), text) {
+        Ok(()) => Stop::End,
+        Err(fault) => Stop::Run(fault),
+    }
+}
+
+/// Prints the rows that a question finds, or how it would find them.
+fn print_answer(
     rt: &HostRuntime,
     path: &Text,
     unit: &ServedUnit<ProgramFunctions>,
     question: &Question,
     explain: bool,
-) -> Result<Vec<u8>, Cause> {
+) -> Result<Stop, Cause> {
     if explain {
-        return write_plan(rt.alloc(), &unit.metamodel, question);
+        let plan = write_plan(rt.alloc(), &unit.metamodel, question)?;
+        return Ok(print_text(rt, plan.as_slice()));
     }
-    let rows = rows_found(rt, path, unit, question)?;
-    write_rows(rt.alloc(), &unit.metamodel, rows.as_slice())
-}
-
-/// Writes a text on standard output.
-fn print_text(rt: &HostRuntime, text: &[u8]) -> Stop {
-    match io::writer(rt).write_all(text) {
-        Ok(()) => Stop::End,
-        Err(_) => Stop::Run(RunFault::Write),
-    }
+    print_rows(rt, path, unit, question)
 }
 
 /// Answers a question over a store's file: its mapping is refused before its text, and its text
@@ -312,14 +333,14 @@ fn answer(
     parameters: &[Parameter],
     explain: bool,
 ) -> Result<Stop, Cause>
-    ensures served { OnOk result (spec.GivesServable (option_copied mapping.entry)) }
-    ensures refused { spec.RefusesUnit (option_copied mapping.entry) result }
+    ensures served { OnOk result (spec.GivesServable language (option_copied mapping.entry)) }
+    ensures refused { spec.RefusesUnit language (option_copied mapping.entry) result }
 {
-    let unit = unit_to_ask(rt.alloc(), mapping)?;
+    let unit = unit_to_ask(rt.alloc(), language, mapping)?;
     let metamodel = &unit.metamodel;
     let question = read_question(rt.alloc(), metamodel, language, text.as_str(), parameters)?;
-    let answer = told(rt, path, &unit, &question, explain)?;
-    Ok(print_text(rt, answer.as_slice()))
+    let stop = print_answer(rt, path, &unit, &question, explain)?;
+    Ok(stop)
 }
 
 /// The end for words that give no parameters.
@@ -336,7 +357,7 @@ fn no_parameters(alloc: Global, misgiven: &Misgiven) -> Stop {
     }
 }
 
-/// The language in which the query of the settings is read.
+/// The language of queries that the settings name.
 fn language_of(settings: &Settings) -> Language
     ensures { result ≡ spec.language_named settings.now.language }
 {
@@ -353,7 +374,8 @@ fn ask_as_said(
     db: &Text,
     query: &Text,
 ) -> Result<Stop, Cause> {
-    let parameters = match read_parameters(rt.alloc(), settings.params.as_slice()) {
+    let language = language_of(settings);
+    let parameters = match read_parameters(rt.alloc(), language, settings.params.as_slice()) {
         Ok(parameters) => parameters,
         Err(misgiven) => return Ok(no_parameters(rt.alloc(), &misgiven)),
     };
@@ -362,21 +384,30 @@ fn ask_as_said(
         rt,
         mapping.as_deref(),
         db,
-        language_of(settings),
+        language,
         query,
         parameters.as_slice(),
         settings.explain,
     )
 }
 
-/// Serves what the settings say, or answers their question; what is refused is refused before the
-/// first line.
+/// Serves what the settings say, answers their question, or prints the grammar; what is refused is
+/// refused before the first line.
 fn serve_as_said(rt: &HostRuntime, settings: &Settings) -> Result<Stop, Cause> {
+    if settings.grammar {
+        let text = grammar_text(language_of(settings));
+        return Ok(print_text(rt, text.as_bytes()));
+    }
     if let (Some(db), Some(query)) = (&settings.db, &settings.query) {
         return ask_as_said(rt, settings, db, query);
     }
     let mapping = mapping_bytes(rt, settings)?;
-    serve_mapping(rt, mapping.as_deref(), settings.db.as_ref())
+    serve_mapping(
+        rt,
+        language_of(settings),
+        mapping.as_deref(),
+        settings.db.as_ref(),
+    )
 }
 
 /// Serves, and answers why it ended.

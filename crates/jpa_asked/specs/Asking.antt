@@ -1,7 +1,9 @@
 -- What a call asks, judged before anything is done: the text, what is bound to its parameters, and
 -- the sort of the statement (Jakarta Persistence 3.1, chapters 3.10.1 queries, 3.10.12 parameters,
 -- 4.6.4 input parameters).
-use Rattle.std.specs.Prelude.{List, [], ◌∷◌, map, Option, Some, None, Result, Ok, Err}
+use Rattle.std.specs.Prelude.{◌≡◌, ℕ, ◌==◌, ◌+◌, Bool, ◌&&◌, List, [], ◌∷◌, map, sum, if◌then◌else◌, Option, Some}
+use Rattle.std.specs.Prelude.{None, Result, Ok, Err}
+use Rattle.std.specs.List.{list_any}
 use Rattle.jpa_value.specs.declared.value.Kind.{Kind}
 use Rattle.jpa_value.specs.declared.value.Value.{Value}
 use Rattle.jpa_value.specs.declared.value.Identity.{Identity}
@@ -11,18 +13,20 @@ use Rattle.jpa_model.specs.declared.unit.PersistenceUnit.{PersistenceUnit}
 use Rattle.jpa_model.specs.Chains.{root_class}
 use Rattle.jpa_heap.specs.declared.Handed.{Handed}
 use Rattle.jpa_context.specs.Work.{Work, object, identity_at}
-use Rattle.jpa_context.specs.Steps.{◌>>=◌, ◌>>◌, Op, give, refuse, require, read}
+use Rattle.jpa_context.specs.Steps.{◌>>=◌, ◌>>◌, Op, Done, give, refuse, require, read}
+use Rattle.jpql_grammar.specs.declared.lists.GivenList.{GivenList}
 use Rattle.jpql_tree.specs.declared.Language.{Language}
 use Rattle.jpql_tree.specs.declared.Query.{Query}
-use Rattle.jpql_tree.specs.Grammar.{Text}
+use Rattle.jpql_tree.specs.Names.{Text}
 use Rattle.jpql_types.specs.declared.sort.Sort.{Sort}
 use Rattle.jpql_types.specs.declared.typed.Typed.{Typed}
 use Rattle.jpql_types.specs.declared.typed.TypedSelect.{TypedSelect}
 use Rattle.jpql_types.specs.Statements.{checked}
 use Rattle.jpql_eval.specs.declared.datum.Datum.{Datum}
 use Rattle.jpa_asked.specs.declared.asked.Binding.{Binding}
+use Rattle.jpa_asked.specs.declared.asked.Reading.{Reading}
 use Rattle.jpa_asked.specs.declared.asked.Statement.{Statement}
-use Rattle.jpa_asked.specs.Reading.{query_of, is_within, declares_few}
+use Rattle.jpa_asked.specs.Reading.{tokens_in, query_of, are_used_in, is_within, declares_few}
 
 -- what is there is given, else the call is refused
 abbrev pub give_or : {A : Type 0} → Cause → Option A → Op A
@@ -34,13 +38,17 @@ abbrev pub given : {A : Type 0} → Result A Cause → Op A
 given (Ok x) = give x
 given (Err r) = refuse r
 
--- the tree of a text; none where it is outside the language's grammar, which is told later. Limit is
--- told at once
-abbrev pub read_of : Language → Text → Op (Option Query)
-read_of l text = do
-  require (is_within text) Cause.Limit
-  require (declares_few (query_of l text)) Cause.Limit
-  give (query_of l text)
+-- what a text says; that it is outside the language's grammar, or lacks a list, is told later. Limit
+-- is told at once
+abbrev pub read_of : Language → List GivenList → Text → Op Reading
+read_of l lists text = do
+  require (is_within l lists text) Cause.Limit
+  require (declares_few (query_of l lists text)) Cause.Limit
+  give (record { tree = query_of l lists text; uses_lists = are_used_in lists (tokens_in l text) })
+
+-- the text is read, and this is its tree
+abbrev pub ReadsAs : Language → List GivenList → Text → Work → Query → Type 0
+ReadsAs l lists text w query = (said : Reading) × (read_of l lists text w ≡ Done said w) × (said.tree ≡ Some query)
 
 -- ---- what is bound to a parameter
 
@@ -81,15 +89,35 @@ abbrev pub arguments_of : PersistenceUnit → List Binding → Work → Option (
 arguments_of m [] w = Some []
 arguments_of m (b ∷ bs) w = onto (datum_of m w b.value) (arguments_of m bs w)
 
+-- ---- lists
+
+-- whether a name has a comma, as those of a list's values alone have
+abbrev pub has_comma : Text → Bool
+has_comma name = list_any (λ b. b == 44) name
+
+-- how many names have one
+abbrev pub values_bound : List Binding → ℕ
+values_bound [] = 0
+values_bound (b ∷ bs) = (if has_comma b.name then 1 else 0) + values_bound bs
+
+-- how many values lists have
+abbrev pub values_given : List GivenList → ℕ
+values_given lists = sum (map (λ (l : GivenList). l.count) lists)
+
+-- whether the values of lists alone have names with a comma, so that no name stands twice
+abbrev pub are_apart : List GivenList → List Binding → Bool
+are_apart lists bindings = values_bound bindings == values_given lists
+
 -- ---- the statement
 
--- a statement, typed, with what stands for its parameters by place: objects stand for what they are
--- before a flush
-abbrev pub statement_of : PersistenceUnit → Option Query → List Binding → Op Statement
-statement_of m tree bindings = do
-  query ← give_or (Cause.IllegalArgument Argument.Syntax) tree
+-- A statement, typed, with what stands for its parameters by place: objects stand for what they are
+-- before a flush. Each list stands in the text, and has its names for itself.
+abbrev pub statement_of : PersistenceUnit → Reading → List GivenList → List Binding → Op Statement
+statement_of m said lists bindings = do
+  query ← give_or (Cause.IllegalArgument Argument.Syntax) said.tree
   sorts ← read (sorts_of m bindings)
   typed ← given (checked m query sorts)
+  require (said.uses_lists && are_apart lists bindings) (Cause.IllegalArgument Argument.Parameter)
   found ← read (arguments_of m bindings)
   arguments ← give_or (Cause.IllegalArgument Argument.Parameter) found
   give (record { typed = typed; arguments = arguments })

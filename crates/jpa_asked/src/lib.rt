@@ -8,9 +8,10 @@
 
 mod asked;
 mod laws;
+mod lists;
 mod parameters;
 mod statement;
 
-pub use asked::{Asked, Binding, Statement};
+pub use asked::{Asked, Binding, Reading, Statement};
 pub use laws::read_laws;
 pub use statement::{read_of, statement_of};

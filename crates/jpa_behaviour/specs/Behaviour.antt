@@ -6,18 +6,20 @@ use Rattle.jpa_value.specs.declared.value.Value.{Value}
 use Rattle.jpa_value.specs.Limits.{most_bytes}
 use Rattle.jpa_value.specs.Value.{is_null, is_representable}
 use Rattle.jpa_model.specs.declared.unit.PersistenceUnit.{PersistenceUnit}
+use Rattle.jpql_tree.specs.declared.Language.{Language}
 use Rattle.jpa_behaviour.specs.declared.Image.{Image}
 use Rattle.jpa_behaviour.specs.declared.Named.{Named}
 use Rattle.jpa_behaviour.specs.declared.Heard.{Heard}
 
 -- heard: what the listener or callback of a name answers to an image. column: what the converter of
 -- a name makes of an attribute's value for its column, attribute: what it makes of a column's
--- value; each is nothing where it throws
+-- value; each is nothing where it throws. language: that of the queries (chapter 4)
 pub record World : Type 0 where
   pub model : PersistenceUnit
   pub heard : List ℕ → Image → Heard
   pub column : List ℕ → Value → Option Value
   pub attribute : List ℕ → Value → Option Value
+  pub language : Language
 
 -- ---- what a world of registered functions keeps
 
@@ -71,7 +73,14 @@ pub record IsRegular (world : World) : Type 0 where
   pub inverse : AreInverse world
   pub heard : HearsRepresentable world
 
--- the world of a unit that names no stored function: nobody is heard, and no converter answers
+-- the world of a unit that names no stored function: nobody is heard, no converter answers, and
+-- queries are those of the profile
 abbrev pub without_functions : PersistenceUnit → World
 without_functions m =
-    record { model = m; heard = λ name image. Heard.Assign []; column = λ name v. None; attribute = λ name v. None }
+    record {
+      model = m;
+      heard = λ name image. Heard.Assign [];
+      column = λ name v. None;
+      attribute = λ name v. None;
+      language = Language.Profile;
+    }

@@ -9,6 +9,7 @@ use Rattle.jpa_value.specs.declared.refusal.Cause.{Cause}
 use Rattle.jpa_model.specs.Chains.{same_name}
 use Rattle.jpa_model.specs.WellFormed.{are_distinct_by}
 use Rattle.jpa_model.specs.declared.unit.PersistenceUnit.{PersistenceUnit}
+use Rattle.jpql_tree.specs.declared.Language.{Language}
 use Rattle.jpa_behaviour.specs.declared.Image.{Image}
 use Rattle.jpa_behaviour.specs.declared.Heard.{Heard}
 use Rattle.jpa_behaviour.specs.Behaviour.{World, is_convertible, sees_representable, answers_representable}
@@ -44,10 +45,11 @@ Adds (Err cause) old new (Err why) = (new ≡ old) × (cause ≡ why)
 -- ---- what is registered
 
 -- listeners (callbacks are among them) and converters are two sorts of name; each list is in the
--- order of adding
+-- order of adding. Queries are texts of the language
 pub record Registered (L C : Type 0) : Type 0 where
   pub listeners : List (Known L)
   pub converters : List (Known C)
+  pub language : Language
 
 -- no name of a sort stands twice
 abbrev pub AreNamedOnce : {L C : Type 0} → Registered L C → Type 0
@@ -112,7 +114,13 @@ module _ {L C : Type 0} (f : Meaning L C) where
 
   -- the entities, with what is registered
   abbrev pub world_of : PersistenceUnit → Registered L C → World
-  world_of m r = record { model = m; heard = heard_in r; column = column_in r; attribute = attribute_in r }
+  world_of m r = record {
+    model = m;
+    heard = heard_in r;
+    column = column_in r;
+    attribute = attribute_in r;
+    language = r.language;
+  }
 
 -- ---- the answers of a registry
 

@@ -11,16 +11,18 @@ use crate::by_name::ByName;
 use crate::converted::or_thrown;
 use crate::{Heard, Image};
 use jpa_value::{Argument, Cause, Value};
+use jpql_tree::Language;
 use std::alloc::Global;
 use std::marker::Model;
 
-/// Stored functions by name. Listeners, with the callbacks among them, and converters are two sorts
-/// of name.
+/// Stored functions by name, and the language of queries. Listeners, with the callbacks among them,
+/// and converters are two sorts of name.
 #[derive(Drop)]
 pub struct Registry<B: Behaviour> {
     alloc: Global,
     listeners: ByName<B::Listener>,
     converters: ByName<B::Converter>,
+    language: Language,
 }
 
 impl<B: Behaviour> Model for Registry<B> {
@@ -28,20 +30,29 @@ impl<B: Behaviour> Model for Registry<B> {
 
     ghost Value = { Registered B.Listener B.Converter };
 
-    ghost view = { λ r. record { listeners = r.listeners; converters = r.converters } };
+    ghost view = { λ r. record { listeners = r.listeners; converters = r.converters; language = r.language } };
 }
 
 impl<B: Behaviour> Registry<B> {
-    /// No functions. Takes no memory.
-    pub fn new(alloc: Global) -> Registry<B>
+    /// No functions, and a language of queries. Takes no memory.
+    pub fn new(alloc: Global, language: Language) -> Registry<B>
         ensures listeners { result.listeners ≡ [] }
         ensures converters { result.converters ≡ [] }
+        ensures language { result.language ≡ language }
     {
         Registry {
             alloc,
             listeners: ByName::new(alloc),
             converters: ByName::new(alloc),
+            language,
         }
+    }
+
+    /// The language of queries (chapter 4). Takes no memory.
+    pub fn language(&self) -> Language
+        ensures { result ≡ self.now.language }
+    {
+        self.language
     }
 
     /// Whether there is a listener or callback of this name. Takes no memory.
@@ -65,6 +76,7 @@ impl<B: Behaviour> Registry<B> {
         ensures added { spec.Adds result self.old.listeners self.new.listeners
             (spec.added name.now what self.old.listeners) }
         ensures kept { self.new.converters ≡ self.old.converters }
+        ensures same { self.new.language ≡ self.old.language }
     {
         self.listeners.add(self.alloc, name, what)
     }
@@ -75,6 +87,7 @@ impl<B: Behaviour> Registry<B> {
         ensures added { spec.Adds result self.old.converters self.new.converters
             (spec.added name.now what self.old.converters) }
         ensures kept { self.new.listeners ≡ self.old.listeners }
+        ensures same { self.new.language ≡ self.old.language }
     {
         self.converters.add(self.alloc, name, what)
     }

@@ -37,7 +37,7 @@ fn query_answer(
     out: &mut Writer,
 ) -> Result<(), Stop> {
     at_most_one_tree();
-    match read_query(alloc, language, text) {
+    match read_query(alloc, language, &[], text) {
         Ok(query) => {
             add_query(&query, out);
             drop(query);

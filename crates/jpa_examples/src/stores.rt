@@ -23,6 +23,7 @@ use jpa_rowspace::RowSpace;
 use jpa_store_reader::{Committed, open_store};
 use jpa_stored::{Stored, StoredSet};
 use jpa_value::{Bytes, Cause, Identity, Seq};
+use jpql_tree::Language;
 use sqlite::{Connection, MemStore};
 use std::alloc::Global;
 
@@ -93,7 +94,11 @@ fn committed_of(
 ) -> Result<Committed, Stop>
     ensures { IfOk result (λ committed. all_shaped metamodel.now committed.set ≡ true) }
 {
-    let registry = registry_of(alloc, read_functions(alloc, functions.as_bytes())?)?;
+    let registry = registry_of(
+        alloc,
+        Language::Profile,
+        read_functions(alloc, functions.as_bytes())?,
+    )?;
     let schema = Schema::of(alloc, metamodel)?;
     let mut space = RowSpace::new(alloc, store_of(alloc, rows)?, schema);
     Ok(open_store(alloc, metamodel, &registry, history, &mut space)?)
@@ -171,7 +176,11 @@ fn written(
 ) -> Result<String, Cause>
     requires { all_shaped metamodel.now committed.now.set ≡ true }
 {
-    let registry = registry_of(alloc, read_functions(alloc, functions.as_bytes())?)?;
+    let registry = registry_of(
+        alloc,
+        Language::Profile,
+        read_functions(alloc, functions.as_bytes())?,
+    )?;
     let mut out = String::new(alloc);
     push_objects(alloc, metamodel, &registry, &committed.set, &mut out)?;
     Ok(out)

@@ -41,7 +41,7 @@ fn typed(
     parameters: &[(Text, ParamType)],
     text: &str,
 ) -> Result<Typed, Cause> {
-    let query = read_query(alloc, Language::Profile, text)?;
+    let query = read_query(alloc, Language::Profile, &[], text)?;
     check_query(alloc, metamodel, query, parameters)
 }
 

@@ -8,6 +8,7 @@ use Rattle.jpa_value.specs.declared.refusal.Cause.{Cause}
 use Rattle.jpa_protocol.specs.declared.event.Told.{Told}
 use Rattle.jpa_model.specs.declared.unit.Origin.{Origin}
 use Rattle.jpa_model.specs.declared.unit.PersistenceUnit.{PersistenceUnit}
+use Rattle.jpql_tree.specs.declared.Language.{Language}
 use Rattle.jpa_behaviour.specs.declared.Heard.{Heard}
 use Rattle.jpa_behaviour.specs.Behaviour.{World}
 use Rattle.jpa_stored.specs.declared.stored.Stored.{Stored}
@@ -52,7 +53,7 @@ unit = record {
 }
 
 abbrev world : World
-world = record { model = unit; heard = λ name image. Heard.Assign []; column = λ name v. Some v; attribute = λ name v. Some v }
+world = record { model = unit; heard = λ name image. Heard.Assign []; column = λ name v. Some v; attribute = λ name v. Some v; language = Language.Profile }
 
 abbrev key : ℕ → List Value
 key n = Value.Int (pos n) ∷ []

@@ -12,6 +12,7 @@ use Rattle.jpa_model.specs.declared.unit.Origin.{Origin}
 use Rattle.jpa_model.specs.declared.unit.PersistenceUnit.{PersistenceUnit}
 use Rattle.jpa_model.specs.declared.unit.Relation.{Relation}
 use Rattle.jpa_model.specs.declared.unit.Side.{Side}
+use Rattle.jpql_tree.specs.declared.Language.{Language}
 use Rattle.jpa_behaviour.specs.declared.Heard.{Heard}
 use Rattle.jpa_behaviour.specs.Behaviour.{World}
 use Rattle.jpa_stored.specs.declared.stored.Stored.{Stored}
@@ -63,7 +64,7 @@ unit cascades = record {
 }
 
 abbrev world : Bool → World
-world cascades = record { model = unit cascades; heard = λ name image. Heard.Assign []; column = λ name v. Some v; attribute = λ name v. Some v }
+world cascades = record { model = unit cascades; heard = λ name image. Heard.Assign []; column = λ name v. Some v; attribute = λ name v. Some v; language = Language.Profile }
 
 abbrev key : ℕ → List Value
 key n = Value.Int (pos n) ∷ []

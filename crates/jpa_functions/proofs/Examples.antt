@@ -7,6 +7,7 @@ use Rattle.jpa_value.specs.declared.value.Value.{Value}
 use Rattle.jpa_value.specs.declared.event.LifecycleEvent.{LifecycleEvent}
 use Rattle.jpa_value.specs.declared.refusal.Argument.{Argument}
 use Rattle.jpa_value.specs.declared.refusal.Cause.{Cause}
+use Rattle.jpql_tree.specs.declared.Language.{Language}
 use Rattle.jpa_behaviour.specs.declared.Image.{Image}
 use Rattle.jpa_behaviour.specs.declared.Heard.{Heard}
 use Rattle.jpa_functions.specs.declared.make.Function.{Function}
@@ -121,11 +122,12 @@ note = record { name = codes "x"; make = Make.Listener Listener.Note }
 abbrev flip : Function
 flip = record { name = codes "x"; make = Make.Converter Converter.Flip }
 
-two_sorts : registered (note ∷ flip ∷ []) ≡ Ok (record {
+two_sorts : registered Language.Profile (note ∷ flip ∷ []) ≡ Ok (record {
   listeners = (record { name = codes "x"; what = Listener.Note }) ∷ [];
   converters = (record { name = codes "x"; what = Converter.Flip }) ∷ [];
+  language = Language.Profile;
 })
 two_sorts = refl
 
-a_second_name : registered (note ∷ flip ∷ note ∷ []) ≡ Err (Cause.IllegalArgument Argument.Second)
+a_second_name : registered Language.Profile (note ∷ flip ∷ note ∷ []) ≡ Err (Cause.IllegalArgument Argument.Second)
 a_second_name = refl

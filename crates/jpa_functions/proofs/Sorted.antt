@@ -10,13 +10,14 @@ use Rattle.jpa_value.specs.declared.refusal.Cause.{Cause}
 use Rattle.jpa_model.specs.Chains.{same_name}
 use Rattle.jpa_model.specs.Described.{IsUnlessMemory}
 use Rattle.jpa_model.specs.WellFormed.{are_distinct_by}
+use Rattle.jpql_tree.specs.declared.Language.{Language}
 use Rattle.jpa_behaviour.specs.Registered.{Known, Registered, AreNamedOnce, has_name, known_as}
 use Rattle.jpa_functions.specs.declared.make.Function.{Function}
 use Rattle.jpa_functions.specs.declared.make.Make.{Make}
 use Rattle.jpa_functions.specs.declared.make.Listener.{Listener}
 use Rattle.jpa_functions.specs.declared.make.Converter.{Converter}
 use Rattle.jpa_functions.specs.Distinct.{none_meets}
-use Rattle.jpa_functions.specs.Sorts.{are_of_one_sort, share_a_name, are_named_once, listener_so, converter_so, listeners_in, converters_in, registered, stands}
+use Rattle.jpa_functions.specs.Sorts.{are_of_one_sort, share_a_name, are_named_once, listener_so, converter_so, listeners_in, converters_in, in_sorts, registered, stands}
 use Rattle.jpa_functions.specs.Laws.{false_true}
 
 -- ---- small facts
@@ -74,18 +75,18 @@ found_any {S} name (k ∷ ks) = one (has_name name k) ∙ ap (λ b. has_name nam
     one false = refl
 
 -- a name that stands was in the list
-stood : (fs : List Function) (name : List ℕ) (make : Make) → stands (record { listeners = listeners_in fs; converters = converters_in fs }) name make ≡ true
+stood : (l : Language) (fs : List Function) (name : List ℕ) (make : Make) → stands (in_sorts l fs) name make ≡ true
     → list_any (λ g. are_of_one_sort g.make make && same_name g.name name) fs ≡ true
-stood fs name (Make.Listener l) h =
-    sym (any_in listener_so (λ m. are_of_one_sort m (Make.Listener l)) (listener_first (λ m. are_of_one_sort m (Make.Listener l)) (λ k. refl) (λ c. refl)) (λ n. same_name n name) fs)
+stood l fs name (Make.Listener k) h =
+    sym (any_in listener_so (λ m. are_of_one_sort m (Make.Listener k)) (listener_first (λ m. are_of_one_sort m (Make.Listener k)) (λ k. refl) (λ c. refl)) (λ n. same_name n name) fs)
     ∙ sym (found_any name (listeners_in fs)) ∙ h
-stood fs name (Make.Converter c) h =
+stood l fs name (Make.Converter c) h =
     sym (any_in converter_so (λ m. are_of_one_sort m (Make.Converter c)) (converter_first (λ m. are_of_one_sort m (Make.Converter c)) (λ k. refl) (λ d. refl)) (λ n. same_name n name) fs)
     ∙ sym (found_any name (converters_in fs)) ∙ h
 
-pub second_name : (fs : List Function) (f : Function) (rest : List Function) → stands (record { listeners = listeners_in fs; converters = converters_in fs }) f.name f.make ≡ true
+pub second_name : (l : Language) (fs : List Function) (f : Function) (rest : List Function) → stands (in_sorts l fs) f.name f.make ≡ true
     → are_named_once (fs ++ f ∷ rest) ≡ false
-second_name fs f rest h = met share_a_name f fs rest (stood fs f.name f.make h)
+second_name l fs f rest h = met share_a_name f fs rest (stood l fs f.name f.make h)
 
 -- ---- names of which no sort has one twice
 
@@ -110,14 +111,14 @@ once (f ∷ fs) h k = once_more fs f.name f.make h k (once fs)
 
 -- ---- what is registered at the end
 
-pub all_registered : (fs : List Function) → are_distinct_by (λ k. k.name) (listeners_in fs) ≡ true → are_distinct_by (λ k. k.name) (converters_in fs) ≡ true
-    → Ok (record { listeners = listeners_in fs; converters = converters_in fs }) ≡ registered fs
-all_registered fs h k =
-    sym (ap (λ b. if b then Ok (record { listeners = listeners_in fs; converters = converters_in fs }) else Err (Cause.IllegalArgument Argument.Second)) (once fs h k))
+pub all_registered : (l : Language) (fs : List Function) → are_distinct_by (λ k. k.name) (listeners_in fs) ≡ true → are_distinct_by (λ k. k.name) (converters_in fs) ≡ true
+    → Ok (in_sorts l fs) ≡ registered l fs
+all_registered l fs h k =
+    sym (ap (λ b. if b then Ok (in_sorts l fs) else Err (Cause.IllegalArgument Argument.Second)) (once fs h k))
 
-pub not_registered : (fs : List Function) → are_named_once fs ≡ false → Err (Cause.IllegalArgument Argument.Second) ≡ registered fs
-not_registered fs h =
-    sym (ap (λ b. if b then Ok (record { listeners = listeners_in fs; converters = converters_in fs }) else Err (Cause.IllegalArgument Argument.Second)) h)
+pub not_registered : (l : Language) (fs : List Function) → are_named_once fs ≡ false → Err (Cause.IllegalArgument Argument.Second) ≡ registered l fs
+not_registered l fs h =
+    sym (ap (λ b. if b then Ok (in_sorts l fs) else Err (Cause.IllegalArgument Argument.Second)) h)
 
 -- one function more
 cons_two : {S : Type 0} (o : Option S) (ks : List S) → cons_option o ks ≡ option_to_list o ++ ks
@@ -143,22 +144,22 @@ converter_more fs f = one_more (λ g. converter_so g.name g.make) fs f
 
 -- ---- the registry of a list
 
-abbrev pub Holds : Registered Listener Converter → List Function → Type 0
-Holds r fs = (r.listeners ≡ listeners_in fs) × (r.converters ≡ converters_in fs)
+abbrev pub Holds : Language → Registered Listener Converter → List Function → Type 0
+Holds l r fs = (r.listeners ≡ listeners_in fs) × (r.converters ≡ converters_in fs) × (r.language ≡ l)
 
-as_held : (r : Registered Listener Converter) (fs : List Function) → Holds r fs → r ≡ record { listeners = listeners_in fs; converters = converters_in fs }
-as_held r fs h = λ i. record { listeners = h.0 i; converters = h.1 i }
+as_held : (l : Language) (r : Registered Listener Converter) (fs : List Function) → Holds l r fs → r ≡ in_sorts l fs
+as_held l r fs (h, k, m) = λ i. record { listeners = h i; converters = k i; language = m i }
 
 -- the next function is refused
-pub refused_so : (fs : List Function) (f : Function) (rest all : List Function) (r : Registered Listener Converter) (cause : Cause) → Holds r fs → all ≡ fs ++ f ∷ rest
-    → (cause ≡ Cause.OutOfMemory) ⊎ ((cause ≡ Cause.IllegalArgument Argument.Second) × (stands r f.name f.make ≡ true)) → IsUnlessMemory {A = Registered Listener Converter} (Err cause) (registered all)
-refused_so fs f rest all r cause h whole (inl memory) = inl memory
-refused_so fs f rest all r cause h whole (inr second) =
-    inr (ap Err second.0 ∙ not_registered all (ap are_named_once whole ∙ second_name fs f rest (ap (λ s. stands s f.name f.make) (sym (as_held r fs h)) ∙ second.1)))
+pub refused_so : (l : Language) (fs : List Function) (f : Function) (rest all : List Function) (r : Registered Listener Converter) (cause : Cause) → Holds l r fs → all ≡ fs ++ f ∷ rest
+    → (cause ≡ Cause.OutOfMemory) ⊎ ((cause ≡ Cause.IllegalArgument Argument.Second) × (stands r f.name f.make ≡ true)) → IsUnlessMemory {A = Registered Listener Converter} (Err cause) (registered l all)
+refused_so l fs f rest all r cause h whole (inl memory) = inl memory
+refused_so l fs f rest all r cause h whole (inr second) =
+    inr (ap Err second.0 ∙ not_registered l all (ap are_named_once whole ∙ second_name l fs f rest (ap (λ s. stands s f.name f.make) (sym (as_held l r fs h)) ∙ second.1)))
 
 -- none is left
-pub all_held : (fs all : List Function) (r : Registered Listener Converter) → Holds r fs → all ≡ fs → AreNamedOnce r → Ok r ≡ registered all
-all_held fs all r h whole names =
-    ap Ok (as_held r fs h)
-    ∙ all_registered fs (ap (are_distinct_by (λ k. k.name)) (sym h.0) ∙ names.0) (ap (are_distinct_by (λ k. k.name)) (sym h.1) ∙ names.1)
-    ∙ ap registered (sym whole)
+pub all_held : (l : Language) (fs all : List Function) (r : Registered Listener Converter) → Holds l r fs → all ≡ fs → AreNamedOnce r → Ok r ≡ registered l all
+all_held l fs all r h whole names =
+    ap Ok (as_held l r fs h)
+    ∙ all_registered l fs (ap (are_distinct_by (λ k. k.name)) (sym h.0) ∙ names.0) (ap (are_distinct_by (λ k. k.name)) (sym h.1) ∙ names.1)
+    ∙ ap (registered l) (sym whole)

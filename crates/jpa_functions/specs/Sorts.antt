@@ -5,6 +5,7 @@ use Rattle.std.specs.List.{filter_map}
 use Rattle.jpa_value.specs.declared.refusal.Argument.{Argument}
 use Rattle.jpa_value.specs.declared.refusal.Cause.{Cause}
 use Rattle.jpa_model.specs.Chains.{same_name}
+use Rattle.jpql_tree.specs.declared.Language.{Language}
 use Rattle.jpa_behaviour.specs.Registered.{Known, Registered, known_as}
 use Rattle.jpa_functions.specs.Distinct.{none_meets}
 use Rattle.jpa_functions.specs.declared.make.Function.{Function}
@@ -46,11 +47,14 @@ listeners_in = filter_map (λ f. listener_so f.name f.make)
 abbrev pub converters_in : List Function → List (Known Converter)
 converters_in = filter_map (λ f. converter_so f.name f.make)
 
--- each function in its sort under its name, in the order of the list; a second name of a sort is
--- refused
-abbrev pub registered : List Function → Result (Registered Listener Converter) Cause
-registered fs =
-    if are_named_once fs then Ok (record { listeners = listeners_in fs; converters = converters_in fs })
+-- each function in its sort under its name, in the order of the list, beside a language of queries
+abbrev pub in_sorts : Language → List Function → Registered Listener Converter
+in_sorts l fs = record { listeners = listeners_in fs; converters = converters_in fs; language = l }
+
+-- a second name of a sort is refused
+abbrev pub registered : Language → List Function → Result (Registered Listener Converter) Cause
+registered l fs =
+    if are_named_once fs then Ok (in_sorts l fs)
     else Err (Cause.IllegalArgument Argument.Second)
 
 -- the name stands in its sort already

@@ -10,18 +10,20 @@ use crate::behaviour::ProgramFunctions;
 use crate::make::{Function, Make};
 use jpa_behaviour::Registry;
 use jpa_value::{Cause, Seq};
+use jpql_tree::Language;
 use std::alloc::Global;
 
-/// The registry of these functions, each in its sort under its name, in the order of the list. A
-/// second name of a sort is `IllegalArgument(second)`; functions that `read_functions` answered
+/// The registry of these functions, each in its sort under its name, in the order of the list, with
+/// a language of queries. A second name of a sort is `IllegalArgument(second)`; functions that `read_functions` answered
 /// have none. `OutOfMemory` where a growth was refused.
 pub fn registry_of(
     alloc: Global,
+    language: Language,
     functions: Seq<Function>,
 ) -> Result<Registry<ProgramFunctions>, Cause>
-    ensures { IsUnlessMemory result (sorts.registered functions) }
+    ensures { IsUnlessMemory result (sorts.registered language functions) }
 {
-    let mut registry = Registry::new(alloc);
+    let mut registry = Registry::new(alloc, language);
     for function in functions.into_vec() {
         register(&mut registry, function)?;
     }
@@ -35,6 +37,7 @@ fn register(registry: &mut Registry<ProgramFunctions>, function: Function) -> Re
         ++ option_to_list (sorts.listener_so function.name function.make)) }
     ensures converters { OnOk result (registry.new.converters ≡ registry.old.converters
         ++ option_to_list (sorts.converter_so function.name function.make)) }
+    ensures language { OnOk result (registry.new.language ≡ registry.old.language) }
     ensures refused { IfErr result (λ cause. (cause ≡ Cause.OutOfMemory)
         ⊎ ((cause ≡ Cause.IllegalArgument Argument.Second)
         × (sorts.stands registry.old function.name function.make ≡ true))) }

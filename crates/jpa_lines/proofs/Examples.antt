@@ -13,12 +13,14 @@ use Rattle.jpa_protocol.specs.declared.call.Given.{Given}
 use Rattle.jpa_protocol.specs.declared.call.FlushMode.{FlushMode}
 use Rattle.jpa_protocol.specs.declared.call.LockMode.{LockMode}
 use Rattle.jpa_protocol.specs.declared.call.Parameter.{Parameter}
+use Rattle.jpa_protocol.specs.declared.call.ParameterValue.{ParameterValue}
+use Rattle.jpql_tree.specs.declared.Language.{Language}
 use Rattle.jpa_value.specs.declared.event.LifecycleEvent.{LifecycleEvent}
 use Rattle.jpa_protocol.specs.declared.reply.Answer.{Answer}
 use Rattle.jpa_protocol.specs.declared.reply.Item.{Item}
 use Rattle.jpa_protocol.specs.declared.reply.Reached.{Reached}
 use Rattle.jpa_json.specs.JsonOf.{text_data}
-use Rattle.jpa_lines.specs.CallOf.{meaning, text_call, call_of, create_of, new_of, set_of, get_of, by_member_of, em_of, em_and_object_of, lock_of, set_flush_mode_of, by_key_of, query_members_of, execute_update_of, values_of, restart_of, index_of, given_of, marked_of, hex_of}
+use Rattle.jpa_lines.specs.CallOf.{meaning, text_call, call_of, create_of, new_of, set_of, get_of, by_member_of, em_of, em_and_object_of, lock_of, set_flush_mode_of, by_key_of, parameter_value, query_members_of, execute_update_of, values_of, restart_of, index_of, given_of, marked_of, hex_of}
 use Rattle.jpa_lines.specs.ReplyText.{reply_text}
 use Rattle.jpa_lines.specs.Run.{lines_of}
 
@@ -33,252 +35,283 @@ no_lines = refl
 
 -- ---- what they mean
 
-creates : meaning (codes "{\"call\":\"createEntityManager\"}") ≡ Ok Call.CreateEntityManager
+creates : meaning Language.Profile (codes "{\"call\":\"createEntityManager\"}") ≡ Ok Call.CreateEntityManager
 unfolding is_utf8 chars meaning text_call text_data call_of create_of serde_json_on_literals
 creates = refl
 
-makes : meaning (codes "{\"call\":\"new\",\"entity\":\"Person\"}") ≡ Ok (Call.NewObject (codes "Person"))
+makes : meaning Language.Profile (codes "{\"call\":\"new\",\"entity\":\"Person\"}") ≡ Ok (Call.NewObject (codes "Person"))
 unfolding is_utf8 chars meaning text_call text_data call_of new_of serde_json_on_literals
 makes = refl
 
-gives_text : meaning (codes "{\"call\":\"set\",\"object\":1,\"name\":\"name\",\"value\":\"Ada\"}") ≡ Ok (Call.SetValue (pos 1) (codes "name") (Given.Plain (Value.Text (codes "Ada"))))
+gives_text : meaning Language.Profile (codes "{\"call\":\"set\",\"object\":1,\"name\":\"name\",\"value\":\"Ada\"}") ≡ Ok (Call.SetValue (pos 1) (codes "name") (Given.Plain (Value.Text (codes "Ada"))))
 unfolding is_utf8 chars meaning text_call text_data call_of set_of given_of serde_json_on_literals
 gives_text = refl
 
-gives_bytes : meaning (codes "{\"call\":\"set\",\"object\":1,\"name\":\"name\",\"value\":{\"hex\":\"0aFF\"}}") ≡ Ok (Call.SetValue (pos 1) (codes "name") (Given.Plain (Value.Bytes (10 ∷ 255 ∷ []))))
+gives_bytes : meaning Language.Profile (codes "{\"call\":\"set\",\"object\":1,\"name\":\"name\",\"value\":{\"hex\":\"0aFF\"}}") ≡ Ok (Call.SetValue (pos 1) (codes "name") (Given.Plain (Value.Bytes (10 ∷ 255 ∷ []))))
 unfolding is_utf8 chars meaning text_call text_data call_of set_of given_of marked_of hex_of decode_pairs serde_json_on_literals
 gives_bytes = refl
 
 -- members in any order
-gives_object : meaning (codes "{\"value\":{\"object\":-2},\"call\":\"set\",\"name\":\"a\",\"object\":1}") ≡ Ok (Call.SetValue (pos 1) (codes "a") (Given.Object (negsuc 1)))
+gives_object : meaning Language.Profile (codes "{\"value\":{\"object\":-2},\"call\":\"set\",\"name\":\"a\",\"object\":1}") ≡ Ok (Call.SetValue (pos 1) (codes "a") (Given.Object (negsuc 1)))
 unfolding is_utf8 chars meaning text_call text_data call_of set_of given_of marked_of serde_json_on_literals
 gives_object = refl
 
-gets : meaning (codes "{\"call\":\"get\",\"object\":1,\"name\":\"x\"}") ≡ Ok (Call.Get (pos 1) (codes "x"))
+gets : meaning Language.Profile (codes "{\"call\":\"get\",\"object\":1,\"name\":\"x\"}") ≡ Ok (Call.Get (pos 1) (codes "x"))
 unfolding is_utf8 chars meaning text_call text_data call_of get_of serde_json_on_literals
 gets = refl
 
-adds : meaning (codes "{\"call\":\"add\",\"object\":1,\"name\":\"orders\",\"member\":2}") ≡ Ok (Call.Add (pos 1) (codes "orders") (pos 2))
+adds : meaning Language.Profile (codes "{\"call\":\"add\",\"object\":1,\"name\":\"orders\",\"member\":2}") ≡ Ok (Call.Add (pos 1) (codes "orders") (pos 2))
 unfolding is_utf8 chars meaning text_call text_data call_of by_member_of serde_json_on_literals
 adds = refl
 
-takes_out : meaning (codes "{\"member\":-1,\"object\":1,\"name\":\"orders\",\"call\":\"takeOut\"}") ≡ Ok (Call.TakeOut (pos 1) (codes "orders") (negsuc 0))
+takes_out : meaning Language.Profile (codes "{\"member\":-1,\"object\":1,\"name\":\"orders\",\"call\":\"takeOut\"}") ≡ Ok (Call.TakeOut (pos 1) (codes "orders") (negsuc 0))
 unfolding is_utf8 chars meaning text_call text_data call_of by_member_of serde_json_on_literals
 takes_out = refl
 
 -- a member is written as its number
-adds_no_value : meaning (codes "{\"call\":\"add\",\"object\":1,\"name\":\"orders\",\"member\":{\"object\":2}}") ≡ Err Cause.BadLine
+adds_no_value : meaning Language.Profile (codes "{\"call\":\"add\",\"object\":1,\"name\":\"orders\",\"member\":{\"object\":2}}") ≡ Err Cause.BadLine
 unfolding is_utf8 chars meaning text_call text_data call_of by_member_of serde_json_on_literals
 adds_no_value = refl
 
-begins : meaning (codes "{\"call\":\"begin\",\"em\":1}") ≡ Ok (Call.Begin (pos 1))
+begins : meaning Language.Profile (codes "{\"call\":\"begin\",\"em\":1}") ≡ Ok (Call.Begin (pos 1))
 unfolding is_utf8 chars meaning text_call text_data call_of em_of serde_json_on_literals
 begins = refl
 
-persists : meaning (codes "{\"call\":\"persist\",\"em\":1,\"object\":1}") ≡ Ok (Call.Persist (pos 1) (pos 1))
+persists : meaning Language.Profile (codes "{\"call\":\"persist\",\"em\":1,\"object\":1}") ≡ Ok (Call.Persist (pos 1) (pos 1))
 unfolding is_utf8 chars meaning text_call text_data call_of em_and_object_of serde_json_on_literals
 persists = refl
 
-removes : meaning (codes "{\"call\":\"remove\",\"em\":1,\"object\":2}") ≡ Ok (Call.Remove (pos 1) (pos 2))
+removes : meaning Language.Profile (codes "{\"call\":\"remove\",\"em\":1,\"object\":2}") ≡ Ok (Call.Remove (pos 1) (pos 2))
 unfolding is_utf8 chars meaning text_call text_data call_of em_and_object_of serde_json_on_literals
 removes = refl
 
-refreshes : meaning (codes "{\"object\":2,\"em\":1,\"call\":\"refresh\"}") ≡ Ok (Call.Refresh (pos 1) (pos 2))
+refreshes : meaning Language.Profile (codes "{\"object\":2,\"em\":1,\"call\":\"refresh\"}") ≡ Ok (Call.Refresh (pos 1) (pos 2))
 unfolding is_utf8 chars meaning text_call text_data call_of em_and_object_of serde_json_on_literals
 refreshes = refl
 
-detaches : meaning (codes "{\"call\":\"detach\",\"em\":2,\"object\":1}") ≡ Ok (Call.Detach (pos 2) (pos 1))
+detaches : meaning Language.Profile (codes "{\"call\":\"detach\",\"em\":2,\"object\":1}") ≡ Ok (Call.Detach (pos 2) (pos 1))
 unfolding is_utf8 chars meaning text_call text_data call_of em_and_object_of serde_json_on_literals
 detaches = refl
 
-merges : meaning (codes "{\"call\":\"merge\",\"em\":2,\"object\":1}") ≡ Ok (Call.Merge (pos 2) (pos 1))
+merges : meaning Language.Profile (codes "{\"call\":\"merge\",\"em\":2,\"object\":1}") ≡ Ok (Call.Merge (pos 2) (pos 1))
 unfolding is_utf8 chars meaning text_call text_data call_of em_and_object_of serde_json_on_literals
 merges = refl
 
-locks : meaning (codes "{\"call\":\"lock\",\"em\":1,\"object\":2,\"mode\":\"READ\"}") ≡ Ok (Call.Lock (pos 1) (pos 2) LockMode.Read)
+locks : meaning Language.Profile (codes "{\"call\":\"lock\",\"em\":1,\"object\":2,\"mode\":\"READ\"}") ≡ Ok (Call.Lock (pos 1) (pos 2) LockMode.Read)
 unfolding is_utf8 chars meaning text_call text_data call_of lock_of serde_json_on_literals
 locks = refl
 
-locks_optimistically : meaning (codes "{\"call\":\"lock\",\"em\":1,\"object\":2,\"mode\":\"OPTIMISTIC\"}") ≡ Ok (Call.Lock (pos 1) (pos 2) LockMode.Read)
+locks_optimistically : meaning Language.Profile (codes "{\"call\":\"lock\",\"em\":1,\"object\":2,\"mode\":\"OPTIMISTIC\"}") ≡ Ok (Call.Lock (pos 1) (pos 2) LockMode.Read)
 unfolding is_utf8 chars meaning text_call text_data call_of lock_of serde_json_on_literals
 locks_optimistically = refl
 
-locks_to_write : meaning (codes "{\"mode\":\"WRITE\",\"call\":\"lock\",\"em\":1,\"object\":2}") ≡ Ok (Call.Lock (pos 1) (pos 2) LockMode.Write)
+locks_to_write : meaning Language.Profile (codes "{\"mode\":\"WRITE\",\"call\":\"lock\",\"em\":1,\"object\":2}") ≡ Ok (Call.Lock (pos 1) (pos 2) LockMode.Write)
 unfolding is_utf8 chars meaning text_call text_data call_of lock_of serde_json_on_literals
 locks_to_write = refl
 
-locks_to_increment : meaning (codes "{\"call\":\"lock\",\"em\":1,\"object\":2,\"mode\":\"OPTIMISTIC_FORCE_INCREMENT\"}") ≡ Ok (Call.Lock (pos 1) (pos 2) LockMode.Write)
+locks_to_increment : meaning Language.Profile (codes "{\"call\":\"lock\",\"em\":1,\"object\":2,\"mode\":\"OPTIMISTIC_FORCE_INCREMENT\"}") ≡ Ok (Call.Lock (pos 1) (pos 2) LockMode.Write)
 unfolding is_utf8 chars meaning text_call text_data call_of lock_of serde_json_on_literals
 locks_to_increment = refl
 
 -- capitals matter
-locks_by_no_word : meaning (codes "{\"call\":\"lock\",\"em\":1,\"object\":2,\"mode\":\"read\"}") ≡ Err Cause.BadLine
+locks_by_no_word : meaning Language.Profile (codes "{\"call\":\"lock\",\"em\":1,\"object\":2,\"mode\":\"read\"}") ≡ Err Cause.BadLine
 unfolding is_utf8 chars meaning text_call text_data call_of lock_of serde_json_on_literals
 locks_by_no_word = refl
 
-asks : meaning (codes "{\"call\":\"contains\",\"em\":1,\"object\":2}") ≡ Ok (Call.Contains (pos 1) (pos 2))
+asks : meaning Language.Profile (codes "{\"call\":\"contains\",\"em\":1,\"object\":2}") ≡ Ok (Call.Contains (pos 1) (pos 2))
 unfolding is_utf8 chars meaning text_call text_data call_of em_and_object_of serde_json_on_literals
 asks = refl
 
-clears : meaning (codes "{\"call\":\"clear\",\"em\":1}") ≡ Ok (Call.Clear (pos 1))
+clears : meaning Language.Profile (codes "{\"call\":\"clear\",\"em\":1}") ≡ Ok (Call.Clear (pos 1))
 unfolding is_utf8 chars meaning text_call text_data call_of em_of serde_json_on_literals
 clears = refl
 
-closes : meaning (codes "{\"call\":\"close\",\"em\":1}") ≡ Ok (Call.Close (pos 1))
+closes : meaning Language.Profile (codes "{\"call\":\"close\",\"em\":1}") ≡ Ok (Call.Close (pos 1))
 unfolding is_utf8 chars meaning text_call text_data call_of em_of serde_json_on_literals
 closes = refl
 
-flushes : meaning (codes "{\"call\":\"flush\",\"em\":1}") ≡ Ok (Call.Flush (pos 1))
+flushes : meaning Language.Profile (codes "{\"call\":\"flush\",\"em\":1}") ≡ Ok (Call.Flush (pos 1))
 unfolding is_utf8 chars meaning text_call text_data call_of em_of serde_json_on_literals
 flushes = refl
 
 -- the object is missing
-of_no_object : meaning (codes "{\"call\":\"remove\",\"em\":1}") ≡ Err Cause.BadLine
+of_no_object : meaning Language.Profile (codes "{\"call\":\"remove\",\"em\":1}") ≡ Err Cause.BadLine
 unfolding is_utf8 chars meaning text_call text_data call_of em_and_object_of serde_json_on_literals
 of_no_object = refl
 
-refers : meaning (codes "{\"call\":\"getReference\",\"em\":1,\"entity\":\"Person\",\"key\":[1]}") ≡ Ok (Call.GetReference (pos 1) (codes "Person") (Given.Plain (Value.Int (pos 1)) ∷ []))
+refers : meaning Language.Profile (codes "{\"call\":\"getReference\",\"em\":1,\"entity\":\"Person\",\"key\":[1]}") ≡ Ok (Call.GetReference (pos 1) (codes "Person") (Given.Plain (Value.Int (pos 1)) ∷ []))
 unfolding is_utf8 chars meaning text_call text_data call_of by_key_of given_of serde_json_on_literals
 refers = refl
 
-commits : meaning (codes " {\"call\":\"commit\",\"em\":1}\t") ≡ Ok (Call.Commit (pos 1))
+commits : meaning Language.Profile (codes " {\"call\":\"commit\",\"em\":1}\t") ≡ Ok (Call.Commit (pos 1))
 unfolding is_utf8 chars meaning text_call text_data call_of em_of serde_json_on_literals
 commits = refl
 
-rolls_back : meaning (codes "{\"call\":\"rollback\",\"em\":1}") ≡ Ok (Call.Rollback (pos 1))
+rolls_back : meaning Language.Profile (codes "{\"call\":\"rollback\",\"em\":1}") ≡ Ok (Call.Rollback (pos 1))
 unfolding is_utf8 chars meaning text_call text_data call_of em_of serde_json_on_literals
 rolls_back = refl
 
-only_rolls_back : meaning (codes "{\"call\":\"setRollbackOnly\",\"em\":1}") ≡ Ok (Call.SetRollbackOnly (pos 1))
+only_rolls_back : meaning Language.Profile (codes "{\"call\":\"setRollbackOnly\",\"em\":1}") ≡ Ok (Call.SetRollbackOnly (pos 1))
 unfolding is_utf8 chars meaning text_call text_data call_of em_of serde_json_on_literals
 only_rolls_back = refl
 
-finds : meaning (codes "{\"call\":\"find\",\"em\":1,\"entity\":\"Person\",\"key\":[1,null]}") ≡ Ok (Call.Find (pos 1) (codes "Person") (Given.Plain (Value.Int (pos 1)) ∷ Given.Plain Value.Null ∷ []))
+finds : meaning Language.Profile (codes "{\"call\":\"find\",\"em\":1,\"entity\":\"Person\",\"key\":[1,null]}") ≡ Ok (Call.Find (pos 1) (codes "Person") (Given.Plain (Value.Int (pos 1)) ∷ Given.Plain Value.Null ∷ []))
 unfolding is_utf8 chars meaning text_call text_data call_of by_key_of given_of serde_json_on_literals
 finds = refl
 
-flushes_before_queries : meaning (codes "{\"call\":\"setFlushMode\",\"em\":1,\"mode\":\"AUTO\"}") ≡ Ok (Call.SetFlushMode (pos 1) FlushMode.Auto)
+flushes_before_queries : meaning Language.Profile (codes "{\"call\":\"setFlushMode\",\"em\":1,\"mode\":\"AUTO\"}") ≡ Ok (Call.SetFlushMode (pos 1) FlushMode.Auto)
 unfolding is_utf8 chars meaning text_call text_data call_of set_flush_mode_of serde_json_on_literals
 flushes_before_queries = refl
 
-flushes_at_commit : meaning (codes "{\"mode\":\"COMMIT\",\"call\":\"setFlushMode\",\"em\":1}") ≡ Ok (Call.SetFlushMode (pos 1) FlushMode.Commit)
+flushes_at_commit : meaning Language.Profile (codes "{\"mode\":\"COMMIT\",\"call\":\"setFlushMode\",\"em\":1}") ≡ Ok (Call.SetFlushMode (pos 1) FlushMode.Commit)
 unfolding is_utf8 chars meaning text_call text_data call_of set_flush_mode_of serde_json_on_literals
 flushes_at_commit = refl
 
-flushes_by_no_word : meaning (codes "{\"call\":\"setFlushMode\",\"em\":1,\"mode\":\"NEVER\"}") ≡ Err Cause.BadLine
+flushes_by_no_word : meaning Language.Profile (codes "{\"call\":\"setFlushMode\",\"em\":1,\"mode\":\"NEVER\"}") ≡ Err Cause.BadLine
 unfolding is_utf8 chars meaning text_call text_data call_of set_flush_mode_of serde_json_on_literals
 flushes_by_no_word = refl
 
-asks_for_rows : meaning (codes "{\"call\":\"query\",\"em\":1,\"text\":\"SELECT p FROM Person p\"}") ≡ Ok (Call.Query (pos 1) (codes "SELECT p FROM Person p") [] None None)
+asks_for_rows : meaning Language.Profile (codes "{\"call\":\"query\",\"em\":1,\"text\":\"SELECT p FROM Person p\"}") ≡ Ok (Call.Query (pos 1) (codes "SELECT p FROM Person p") [] None None)
 unfolding is_utf8 chars meaning text_call text_data call_of query_members_of serde_json_on_literals
 asks_for_rows = refl
 
-asks_for_some_rows : meaning (codes "{\"call\":\"query\",\"em\":1,\"text\":\"SELECT p FROM Person p\",\"max\":2,\"first\":-1}") ≡ Ok (Call.Query (pos 1) (codes "SELECT p FROM Person p") [] (Some (negsuc 0)) (Some (pos 2)))
+asks_for_some_rows : meaning Language.Profile (codes "{\"call\":\"query\",\"em\":1,\"text\":\"SELECT p FROM Person p\",\"max\":2,\"first\":-1}") ≡ Ok (Call.Query (pos 1) (codes "SELECT p FROM Person p") [] (Some (negsuc 0)) (Some (pos 2)))
 unfolding is_utf8 chars meaning text_call text_data call_of query_members_of serde_json_on_literals
 asks_for_some_rows = refl
 
 -- in the order of the names
-asks_with_parameters : meaning (codes "{\"call\":\"query\",\"em\":1,\"text\":\"SELECT p FROM Person p\",\"params\":{\"x\":{\"object\":2},\"1\":null,\"y\":{\"hex\":\"0a\"}},\"max\":0}") ≡ Ok (Call.Query (pos 1) (codes "SELECT p FROM Person p") (record { name = codes "1"; value = Given.Plain Value.Null } ∷ record { name = codes "x"; value = Given.Object (pos 2) } ∷ record { name = codes "y"; value = Given.Plain (Value.Bytes (10 ∷ [])) } ∷ []) None (Some (pos 0)))
-unfolding is_utf8 chars meaning text_call text_data call_of query_members_of given_of marked_of hex_of decode_pairs serde_json_on_literals
+asks_with_parameters : meaning Language.Profile (codes "{\"call\":\"query\",\"em\":1,\"text\":\"SELECT p FROM Person p\",\"params\":{\"x\":{\"object\":2},\"1\":null,\"y\":{\"hex\":\"0a\"}},\"max\":0}") ≡ Ok (Call.Query (pos 1) (codes "SELECT p FROM Person p") (record { name = codes "1"; value = ParameterValue.Single (Given.Plain Value.Null) } ∷ record { name = codes "x"; value = ParameterValue.Single (Given.Object (pos 2)) } ∷ record { name = codes "y"; value = ParameterValue.Single (Given.Plain (Value.Bytes (10 ∷ []))) } ∷ []) None (Some (pos 0)))
+unfolding is_utf8 chars meaning text_call text_data call_of query_members_of given_of marked_of hex_of decode_pairs parameter_value serde_json_on_literals
 asks_with_parameters = refl
 
 -- the last value of a name that is repeated
-asks_with_the_last_value : meaning (codes "{\"call\":\"query\",\"em\":1,\"text\":\"SELECT p FROM Person p\",\"params\":{\"x\":1,\"x\":\"a\"}}") ≡ Ok (Call.Query (pos 1) (codes "SELECT p FROM Person p") (record { name = codes "x"; value = Given.Plain (Value.Text (codes "a")) } ∷ []) None None)
-unfolding is_utf8 chars meaning text_call text_data call_of query_members_of given_of serde_json_on_literals
+asks_with_the_last_value : meaning Language.Profile (codes "{\"call\":\"query\",\"em\":1,\"text\":\"SELECT p FROM Person p\",\"params\":{\"x\":1,\"x\":\"a\"}}") ≡ Ok (Call.Query (pos 1) (codes "SELECT p FROM Person p") (record { name = codes "x"; value = ParameterValue.Single (Given.Plain (Value.Text (codes "a"))) } ∷ []) None None)
+unfolding is_utf8 chars meaning text_call text_data call_of query_members_of given_of parameter_value serde_json_on_literals
 asks_with_the_last_value = refl
 
-asks_for_one_row : meaning (codes "{\"call\":\"querySingle\",\"em\":1,\"text\":\"SELECT p FROM Person p\",\"params\":{}}") ≡ Ok (Call.QuerySingle (pos 1) (codes "SELECT p FROM Person p") [] None None)
-unfolding is_utf8 chars meaning text_call text_data call_of query_members_of serde_json_on_literals
+asks_for_one_row : meaning Language.Profile (codes "{\"call\":\"querySingle\",\"em\":1,\"text\":\"SELECT p FROM Person p\",\"params\":{}}") ≡ Ok (Call.QuerySingle (pos 1) (codes "SELECT p FROM Person p") [] None None)
+unfolding is_utf8 chars meaning text_call text_data call_of query_members_of parameter_value serde_json_on_literals
 asks_for_one_row = refl
 
-executes : meaning (codes "{\"call\":\"executeUpdate\",\"em\":1,\"text\":\"DELETE FROM Person p WHERE p.id = :id\",\"params\":{\"id\":3}}") ≡ Ok (Call.ExecuteUpdate (pos 1) (codes "DELETE FROM Person p WHERE p.id = :id") (record { name = codes "id"; value = Given.Plain (Value.Int (pos 3)) } ∷ []))
-unfolding is_utf8 chars meaning text_call text_data call_of execute_update_of given_of serde_json_on_literals
+executes : meaning Language.Profile (codes "{\"call\":\"executeUpdate\",\"em\":1,\"text\":\"DELETE FROM Person p WHERE p.id = :id\",\"params\":{\"id\":3}}") ≡ Ok (Call.ExecuteUpdate (pos 1) (codes "DELETE FROM Person p WHERE p.id = :id") (record { name = codes "id"; value = ParameterValue.Single (Given.Plain (Value.Int (pos 3))) } ∷ []))
+unfolding is_utf8 chars meaning text_call text_data call_of execute_update_of given_of parameter_value serde_json_on_literals
 executes = refl
 
-shows : meaning (codes "{\"call\":\"values\",\"objects\":[2,1,2]}") ≡ Ok (Call.Values (pos 2 ∷ pos 1 ∷ pos 2 ∷ []))
+shows : meaning Language.Profile (codes "{\"call\":\"values\",\"objects\":[2,1,2]}") ≡ Ok (Call.Values (pos 2 ∷ pos 1 ∷ pos 2 ∷ []))
 unfolding is_utf8 chars meaning text_call text_data call_of values_of serde_json_on_literals
 shows = refl
 
 -- objects are named by their numbers
-shows_no_value : meaning (codes "{\"call\":\"values\",\"objects\":[{\"object\":2}]}") ≡ Err Cause.BadLine
+shows_no_value : meaning Language.Profile (codes "{\"call\":\"values\",\"objects\":[{\"object\":2}]}") ≡ Err Cause.BadLine
 unfolding is_utf8 chars meaning text_call text_data call_of values_of serde_json_on_literals
 shows_no_value = refl
 
-waits : meaning (codes "{\"call\":\"pending\",\"em\":1}") ≡ Ok (Call.Pending (pos 1))
+waits : meaning Language.Profile (codes "{\"call\":\"pending\",\"em\":1}") ≡ Ok (Call.Pending (pos 1))
 unfolding is_utf8 chars meaning text_call text_data call_of em_of serde_json_on_literals
 waits = refl
 
-restarts : meaning (codes "{\"call\":\"restart\"}") ≡ Ok Call.Restart
+restarts : meaning Language.Profile (codes "{\"call\":\"restart\"}") ≡ Ok Call.Restart
 unfolding is_utf8 chars meaning text_call text_data call_of restart_of serde_json_on_literals
 restarts = refl
 
-indexes : meaning (codes "{\"call\":\"index\",\"entity\":\"Title\",\"name\":\"name\"}") ≡ Ok (Call.Index (codes "Title") (codes "name"))
+indexes : meaning Language.Profile (codes "{\"call\":\"index\",\"entity\":\"Title\",\"name\":\"name\"}") ≡ Ok (Call.Index (codes "Title") (codes "name"))
 unfolding is_utf8 chars meaning text_call text_data call_of index_of serde_json_on_literals
 indexes = refl
 
 -- a restart is of no manager
-restarts_none : meaning (codes "{\"call\":\"restart\",\"em\":1}") ≡ Err Cause.BadLine
+restarts_none : meaning Language.Profile (codes "{\"call\":\"restart\",\"em\":1}") ≡ Err Cause.BadLine
 unfolding is_utf8 chars meaning text_call text_data call_of restart_of serde_json_on_literals
 restarts_none = refl
 
 -- a bulk statement has no cut
-executes_uncut : meaning (codes "{\"call\":\"executeUpdate\",\"em\":1,\"text\":\"DELETE FROM Person\",\"max\":3}") ≡ Err Cause.BadLine
+executes_uncut : meaning Language.Profile (codes "{\"call\":\"executeUpdate\",\"em\":1,\"text\":\"DELETE FROM Person\",\"max\":3}") ≡ Err Cause.BadLine
 unfolding is_utf8 chars meaning text_call text_data call_of execute_update_of serde_json_on_literals
 executes_uncut = refl
 
 -- null is no integer
-null_max : meaning (codes "{\"call\":\"query\",\"em\":1,\"text\":\"SELECT p FROM Person p\",\"max\":null}") ≡ Err Cause.BadLine
+null_max : meaning Language.Profile (codes "{\"call\":\"query\",\"em\":1,\"text\":\"SELECT p FROM Person p\",\"max\":null}") ≡ Err Cause.BadLine
 unfolding is_utf8 chars meaning text_call text_data call_of query_members_of serde_json_on_literals
 null_max = refl
 
 -- and no object
-null_params : meaning (codes "{\"call\":\"query\",\"em\":1,\"text\":\"SELECT p FROM Person p\",\"params\":null}") ≡ Err Cause.BadLine
-unfolding is_utf8 chars meaning text_call text_data call_of query_members_of serde_json_on_literals
+null_params : meaning Language.Profile (codes "{\"call\":\"query\",\"em\":1,\"text\":\"SELECT p FROM Person p\",\"params\":null}") ≡ Err Cause.BadLine
+unfolding is_utf8 chars meaning text_call text_data call_of query_members_of parameter_value serde_json_on_literals
 null_params = refl
 
-listed_params : meaning (codes "{\"call\":\"executeUpdate\",\"em\":1,\"text\":\"DELETE FROM Person\",\"params\":[1]}") ≡ Err Cause.BadLine
-unfolding is_utf8 chars meaning text_call text_data call_of execute_update_of serde_json_on_literals
+listed_params : meaning Language.Profile (codes "{\"call\":\"executeUpdate\",\"em\":1,\"text\":\"DELETE FROM Person\",\"params\":[1]}") ≡ Err Cause.BadLine
+unfolding is_utf8 chars meaning text_call text_data call_of execute_update_of parameter_value serde_json_on_literals
 listed_params = refl
 
-truth_param : meaning (codes "{\"call\":\"executeUpdate\",\"em\":1,\"text\":\"DELETE FROM Person\",\"params\":{\"x\":true}}") ≡ Err Cause.BadLine
-unfolding is_utf8 chars meaning text_call text_data call_of execute_update_of given_of serde_json_on_literals
+truth_param : meaning Language.Profile (codes "{\"call\":\"executeUpdate\",\"em\":1,\"text\":\"DELETE FROM Person\",\"params\":{\"x\":true}}") ≡ Err Cause.BadLine
+unfolding is_utf8 chars meaning text_call text_data call_of execute_update_of given_of parameter_value serde_json_on_literals
 truth_param = refl
 
-surplus_of_query : meaning (codes "{\"call\":\"query\",\"em\":1,\"text\":\"SELECT p FROM Person p\",\"first\":1,\"x\":1}") ≡ Err Cause.BadLine
+surplus_of_query : meaning Language.Profile (codes "{\"call\":\"query\",\"em\":1,\"text\":\"SELECT p FROM Person p\",\"first\":1,\"x\":1}") ≡ Err Cause.BadLine
 unfolding is_utf8 chars meaning text_call text_data call_of query_members_of serde_json_on_literals
 surplus_of_query = refl
 
-cut_short : meaning (codes "{\"call\":\"find\"") ≡ Err Cause.BadLine
+cut_short : meaning Language.Profile (codes "{\"call\":\"find\"") ≡ Err Cause.BadLine
 unfolding is_utf8 chars meaning text_call text_data call_of serde_json_on_literals
 cut_short = refl
 
-no_text : meaning (255 ∷ []) ≡ Err Cause.BadLine
+no_text : meaning Language.Profile (255 ∷ []) ≡ Err Cause.BadLine
 unfolding is_utf8 chars meaning text_call text_data call_of serde_json_on_literals
 no_text = refl
 
-no_call : meaning (codes "{\"call\":\"x\"}") ≡ Err Cause.BadLine
+no_call : meaning Language.Profile (codes "{\"call\":\"x\"}") ≡ Err Cause.BadLine
 unfolding is_utf8 chars meaning text_call text_data call_of serde_json_on_literals
 no_call = refl
 
-empty : meaning [] ≡ Err Cause.BadLine
+empty : meaning Language.Profile [] ≡ Err Cause.BadLine
 unfolding is_utf8 chars meaning text_call text_data call_of serde_json_on_literals
 empty = refl
 
-surplus : meaning (codes "{\"call\":\"begin\",\"em\":1,\"x\":1}") ≡ Err Cause.BadLine
+surplus : meaning Language.Profile (codes "{\"call\":\"begin\",\"em\":1,\"x\":1}") ≡ Err Cause.BadLine
 unfolding is_utf8 chars meaning text_call text_data call_of em_of serde_json_on_literals
 surplus = refl
 
-nameless : meaning (codes "{\"call\":\"get\",\"object\":1}") ≡ Err Cause.BadLine
+nameless : meaning Language.Profile (codes "{\"call\":\"get\",\"object\":1}") ≡ Err Cause.BadLine
 unfolding is_utf8 chars meaning text_call text_data call_of get_of serde_json_on_literals
 nameless = refl
 
-fraction : meaning (codes "{\"call\":\"begin\",\"em\":1.5}") ≡ Err Cause.BadLine
+fraction : meaning Language.Profile (codes "{\"call\":\"begin\",\"em\":1.5}") ≡ Err Cause.BadLine
 unfolding is_utf8 chars meaning text_call text_data call_of em_of serde_json_on_literals
 fraction = refl
 
-beyond : meaning (codes "{\"call\":\"begin\",\"em\":9223372036854775808}") ≡ Err Cause.BadLine
+beyond : meaning Language.Profile (codes "{\"call\":\"begin\",\"em\":9223372036854775808}") ≡ Err Cause.BadLine
 unfolding is_utf8 chars meaning text_call text_data call_of em_of serde_json_on_literals
 beyond = refl
+
+-- ---- collections of values as parameters
+
+-- the wider language reads an array as the values in it
+asks_with_a_collection : meaning Language.Wide (codes "{\"call\":\"query\",\"em\":1,\"text\":\"q\",\"params\":{\"p\":[1,\"a\",{\"object\":3}]}}")
+    ≡ Ok (Call.Query (pos 1) (codes "q")
+    (record { name = codes "p"; value = ParameterValue.Collection (Given.Plain (Value.Int (pos 1)) ∷ Given.Plain (Value.Text (codes "a")) ∷ Given.Object (pos 3) ∷ []) } ∷ []) None None)
+unfolding is_utf8 chars meaning text_call text_data call_of query_members_of parameter_value given_of marked_of serde_json_on_literals
+asks_with_a_collection = refl
+
+-- a collection may have nothing, and stand beside single values
+executes_with_none : meaning Language.Wide (codes "{\"call\":\"executeUpdate\",\"em\":1,\"text\":\"u\",\"params\":{\"p\":[],\"q\":2}}")
+    ≡ Ok (Call.ExecuteUpdate (pos 1) (codes "u")
+    (record { name = codes "p"; value = ParameterValue.Collection [] } ∷ record { name = codes "q"; value = ParameterValue.Single (Given.Plain (Value.Int (pos 2))) } ∷ []))
+unfolding is_utf8 chars meaning text_call text_data call_of execute_update_of parameter_value given_of serde_json_on_literals
+executes_with_none = refl
+
+-- the profile has no collections
+asks_with_no_collection : meaning Language.Profile (codes "{\"call\":\"query\",\"em\":1,\"text\":\"q\",\"params\":{\"p\":[1]}}") ≡ Err Cause.BadLine
+unfolding is_utf8 chars meaning text_call text_data call_of query_members_of parameter_value given_of serde_json_on_literals
+asks_with_no_collection = refl
+
+-- a collection has no collections
+asks_with_nested_collections : meaning Language.Wide (codes "{\"call\":\"query\",\"em\":1,\"text\":\"q\",\"params\":{\"p\":[[1]]}}") ≡ Err Cause.BadLine
+unfolding is_utf8 chars meaning text_call text_data call_of query_members_of parameter_value given_of serde_json_on_literals
+asks_with_nested_collections = refl
+
+-- elsewhere an array is no value in either language
+sets_no_collection : meaning Language.Wide (codes "{\"call\":\"set\",\"object\":1,\"name\":\"a\",\"value\":[1]}") ≡ Err Cause.BadLine
+unfolding is_utf8 chars meaning text_call text_data call_of set_of given_of serde_json_on_literals
+sets_no_collection = refl
 
 -- ---- replies
 

@@ -5,6 +5,7 @@ use Rattle.std.proofs.lemmas.List.{take_all, take_more, take-append-drop}
 use Rattle.std.proofs.Math.Seq.{take-add}
 use Rattle.memchr.specs.Find.{Nowhere, NoneBefore, Passes, is_byte}
 use Rattle.jpa_protocol.specs.declared.call.Call.{Call}
+use Rattle.jpql_tree.specs.declared.Language.{Language}
 use Rattle.jpa_protocol.specs.declared.reply.Reply.{Reply}
 use Rattle.jpa_lines.specs.declared.run.RunFault.{RunFault}
 use Rattle.jpa_lines.specs.Run.{IsUnbroken, GoesOn, BreaksOff, kept_len}
@@ -70,28 +71,28 @@ front_more piece done len h =
     ∙ ap (λ xs. take done piece ++ xs) (take_more (drop done piece) len 0 (feed_below piece done len h) ∙ ap (λ x. take len (drop done piece) ++ x ∷ []) (is_feed (get_or (drop done piece) len 0) _ refl (feed_in piece done len h).1))
     ∙ ap (λ n. take done piece ++ (take n (drop done piece) ++ 10 ∷ [])) (sym (slice_len done len))
 
-module _ {M : Type 0} (steps : M → Call → Reply → M → Type 0) (old mid new : M) (held kept left piece : List ℕ) (done : ℕ) (before between after : Option (List ℕ)) (gone : GoesOn steps old mid held kept (take done piece) before between) where
+module _ {M : Type 0} (language : Language) (steps : M → Call → Reply → M → Type 0) (old mid new : M) (held kept left piece : List ℕ) (done : ℕ) (before between after : Option (List ℕ)) (gone : GoesOn language steps old mid held kept (take done piece) before between) where
   -- a line more
-  pub line_more : (len : ℕ) → IsFeed piece done len → GoesOn steps mid new kept left (end_at piece done len ++ 10 ∷ []) between after → GoesOn steps old new held left (take (done + (len + 1)) piece) before after
+  pub line_more : (len : ℕ) → IsFeed piece done len → GoesOn language steps mid new kept left (end_at piece done len ++ 10 ∷ []) between after → GoesOn language steps old new held left (take (done + (len + 1)) piece) before after
   line_more len feed h =
-      subst (λ xs. GoesOn steps old new held left xs before after) (sym (front_more piece done len feed))
-      (goes_both steps old mid new held kept left (take done piece) (end_at piece done len ++ 10 ∷ []) before between after gone h)
+      subst (λ xs. GoesOn language steps old new held left xs before after) (sym (front_more piece done len feed))
+      (goes_both language steps old mid new held kept left (take done piece) (end_at piece done len ++ 10 ∷ []) before between after gone h)
 
-  pub line_breaks : (fault : RunFault) (len : ℕ) → IsFeed piece done len → BreaksOff steps mid new fault kept (end_at piece done len ++ 10 ∷ []) between after → BreaksOff steps old new fault held piece before after
+  pub line_breaks : (fault : RunFault) (len : ℕ) → IsFeed piece done len → BreaksOff language steps mid new fault kept (end_at piece done len ++ 10 ∷ []) between after → BreaksOff language steps old new fault held piece before after
   line_breaks fault len feed h =
       let line = end_at piece done len ++ 10 ∷ [] in
       let rest = drop (done + (len + 1)) piece in
       let whole : take done piece ++ (line ++ rest) ≡ piece =
       sym (append_assoc (take done piece) line rest) ∙ ap (λ xs. xs ++ rest) (sym (front_more piece done len feed)) ∙ take-append-drop (done + (len + 1)) piece in
-      subst (λ xs. BreaksOff steps old new fault held xs before after) whole (goes_off steps old mid new fault held kept (take done piece) line rest before between after gone h)
+      subst (λ xs. BreaksOff language steps old new fault held xs before after) whole (goes_off language steps old mid new fault held kept (take done piece) line rest before between after gone h)
 
   -- the rest has no line feed, and is held
-  pub rest_held : Nowhere (Passes (is_byte 10) (rest_at piece done)) 0 (length (rest_at piece done)) → (length kept ≤ kept_len → left ≡ take kept_len (kept ++ rest_at piece done)) → GoesOn steps old mid held left piece before between
+  pub rest_held : Nowhere (Passes (is_byte 10) (rest_at piece done)) 0 (length (rest_at piece done)) → (length kept ≤ kept_len → left ≡ take kept_len (kept ++ rest_at piece done)) → GoesOn language steps old mid held left piece before between
   rest_held none grows =
-      subst (λ xs. GoesOn steps old mid held left xs before between) (take-append-drop done piece)
-      (goes_both steps old mid mid held kept left (take done piece) (drop done piece) before between between gone (subst (λ xs. GoesOn steps mid mid kept left xs between between) (rest_is piece done) (bytes_kept steps mid kept left (rest_at piece done) between (all_unbroken (rest_at piece done) none) grows)))
+      subst (λ xs. GoesOn language steps old mid held left xs before between) (take-append-drop done piece)
+      (goes_both language steps old mid mid held kept left (take done piece) (drop done piece) before between between gone (subst (λ xs. GoesOn language steps mid mid kept left xs between between) (rest_is piece done) (bytes_kept language steps mid kept left (rest_at piece done) between (all_unbroken (rest_at piece done) none) grows)))
 
-  pub rest_breaks : (fault : RunFault) → BreaksOff steps old mid fault held piece before between
+  pub rest_breaks : (fault : RunFault) → BreaksOff language steps old mid fault held piece before between
   rest_breaks fault =
-      subst (λ xs. BreaksOff steps old mid fault held xs before between) (ap (λ xs. take done piece ++ xs) (append-nil (drop done piece)) ∙ take-append-drop done piece)
-      (goes_off steps old mid mid fault held kept (take done piece) (drop done piece) [] before between between gone (breaks_off steps mid fault kept (drop done piece) between))
+      subst (λ xs. BreaksOff language steps old mid fault held xs before between) (ap (λ xs. take done piece ++ xs) (append-nil (drop done piece)) ∙ take-append-drop done piece)
+      (goes_off language steps old mid mid fault held kept (take done piece) (drop done piece) [] before between between gone (breaks_off language steps mid fault kept (drop done piece) between))

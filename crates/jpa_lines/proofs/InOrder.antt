@@ -15,9 +15,9 @@ use Rattle.serde_json.specs.Find.{get, get_member, as_object}
 use Rattle.serde_json.specs.Read.{read, of_json, of_items, of_members, number_of, max_depth}
 use Rattle.jpa_json.specs.JsonOf.{text_data}
 use Rattle.jpa_json.specs.Outcome.{◌>>=◌, guard}
-use Rattle.jpa_protocol.specs.declared.call.Given.{Given}
+use Rattle.jpa_protocol.specs.declared.call.ParameterValue.{ParameterValue}
 use Rattle.jpa_protocol.specs.declared.call.Parameter.{Parameter}
-use Rattle.jpa_lines.specs.CallOf.{given_of, parameters, parameters_if_there, parameters_at}
+use Rattle.jpa_lines.specs.CallOf.{parameter_value, parameters, parameters_if_there, parameters_at}
 
 abbrev name_cmp : List ℕ → List ℕ → Ordering
 name_cmp = slice_cmp nat_cmp
@@ -157,7 +157,7 @@ got name (object ms) h = got_member name ms h.1
 abbrev Named : List (List ℕ) → List Parameter → Type 0
 Named names ps = map (λ p. p.name) ps ≡ names
 
-named_both : (name : List ℕ) (names : List (List ℕ)) (value : Option Given) (others : Option (List Parameter)) → IfSome others (Named names)
+named_both : (name : List ℕ) (names : List (List ℕ)) (value : Option ParameterValue) (others : Option (List Parameter)) → IfSome others (Named names)
     → IfSome (value >>= λ v. others >>= λ ps. Some (record { name = name; value = v } ∷ ps)) (Named (name ∷ names))
 named_both name names None others h = tt
 named_both name names (Some v) None h = tt
@@ -165,7 +165,7 @@ named_both name names (Some v) (Some ps) h = ap (λ xs. name ∷ xs) h
 
 named : (ms : Members) → IfSome (parameters ms) (Named (names_of ms))
 named no_members = refl
-named (member name d ms) = named_both name (names_of ms) (given_of d) (parameters ms) (named ms)
+named (member name d ms) = named_both name (names_of ms) (parameter_value d) (parameters ms) (named ms)
 
 abbrev RiseByName : List Parameter → Type 0
 RiseByName ps = IsStrictlySortedBy name_cmp (map (λ p. p.name) ps)

@@ -2,6 +2,7 @@
 use Rattle.std.proofs.Common.{◌≡◌, List, [], ◌++◌, ℕ, Option, Some, None, refl, sym, ap, ◌∙◌, append-nil, append_assoc, subst, take}
 use Rattle.std.specs.Io.KnownBytes.{Consumes, Keeps, IsAtEnd}
 use Rattle.jpa_protocol.specs.declared.call.Call.{Call}
+use Rattle.jpql_tree.specs.declared.Language.{Language}
 use Rattle.jpa_protocol.specs.declared.reply.Reply.{Reply}
 use Rattle.jpa_lines.specs.declared.run.RunFault.{RunFault}
 use Rattle.jpa_lines.specs.Run.{IsInput, rest_of, GoesOn, BreaksOff, Finishes, FailsToFinish, Underway, Served, Broken, AnswersRead, IsNoRead}
@@ -28,26 +29,26 @@ consumes_kept (Some xs) None c taken h k = absurd h
 consumes_kept (Some xs) (Some ys) None taken h k = k
 consumes_kept (Some xs) (Some ys) (Some zs) taken h k = h ∙ ap (λ v. taken ++ v) (sym k)
 
-pub begins : {M : Type 0} (steps : M → Call → Reply → M → Type 0) (m : M) (known before : Option (List ℕ)) → Underway steps m m known known [] before before
-begins steps m known before = record { taken = []; consumed = consumes_nothing known; so_far = starts steps m before }
+pub begins : {M : Type 0} (language : Language) (steps : M → Call → Reply → M → Type 0) (m : M) (known before : Option (List ℕ)) → Underway language steps m m known known [] before before
+begins language steps m known before = record { taken = []; consumed = consumes_nothing known; so_far = starts language steps m before }
 
 -- a fault before anything more is done
-pub broken_here : {M : Type 0} (steps : M → Call → Reply → M → Type 0) (old new : M) (fault : RunFault) (known left : Option (List ℕ)) (held : List ℕ) (before between after : Option (List ℕ))
-    → Underway steps old new known left held before between → Keeps between after → Broken steps old new fault known before after
-broken_here steps old new fault known left held before between after u keeps =
-    (u.taken ++ rest_of left, is_input known left u.taken u.consumed, stays_broken steps new fault held between after old u.taken (rest_of left) before keeps u.so_far)
+pub broken_here : {M : Type 0} (language : Language) (steps : M → Call → Reply → M → Type 0) (old new : M) (fault : RunFault) (known left : Option (List ℕ)) (held : List ℕ) (before between after : Option (List ℕ))
+    → Underway language steps old new known left held before between → Keeps between after → Broken language steps old new fault known before after
+broken_here language steps old new fault known left held before between after u keeps =
+    (u.taken ++ rest_of left, is_input known left u.taken u.consumed, stays_broken language steps new fault held between after old u.taken (rest_of left) before keeps u.so_far)
 
-pub broken_within : {M : Type 0} (steps : M → Call → Reply → M → Type 0) (old mid new : M) (fault : RunFault) (known left last : Option (List ℕ)) (held bytes : List ℕ) (before between after : Option (List ℕ))
-    → Underway steps old mid known left held before between → Consumes left last bytes → BreaksOff steps mid new fault held bytes between after → Broken steps old new fault known before after
-broken_within steps old mid new fault known left last held bytes before between after u consumed off = (
+pub broken_within : {M : Type 0} (language : Language) (steps : M → Call → Reply → M → Type 0) (old mid new : M) (fault : RunFault) (known left last : Option (List ℕ)) (held bytes : List ℕ) (before between after : Option (List ℕ))
+    → Underway language steps old mid known left held before between → Consumes left last bytes → BreaksOff language steps mid new fault held bytes between after → Broken language steps old new fault known before after
+broken_within language steps old mid new fault known left last held bytes before between after u consumed off = (
   u.taken ++ (bytes ++ rest_of last),
   subst (λ xs. IsInput known xs) (append_assoc u.taken bytes (rest_of last)) (is_input known last (u.taken ++ bytes) (consumes_both known left last u.taken bytes u.consumed consumed)),
   off old u.taken (rest_of last) before u.so_far,
 )
 
-pub goes_further : {M : Type 0} (steps : M → Call → Reply → M → Type 0) (old mid new : M) (known left last : Option (List ℕ)) (held kept bytes : List ℕ) (before between after : Option (List ℕ))
-    → Underway steps old mid known left held before between → Consumes left last bytes → GoesOn steps mid new held kept bytes between after → Underway steps old new known last kept before after
-goes_further steps old mid new known left last held kept bytes before between after u consumed on = record {
+pub goes_further : {M : Type 0} (language : Language) (steps : M → Call → Reply → M → Type 0) (old mid new : M) (known left last : Option (List ℕ)) (held kept bytes : List ℕ) (before between after : Option (List ℕ))
+    → Underway language steps old mid known left held before between → Consumes left last bytes → GoesOn language steps mid new held kept bytes between after → Underway language steps old new known last kept before after
+goes_further language steps old mid new known left last held kept bytes before between after u consumed on = record {
   taken = u.taken ++ bytes;
   consumed = consumes_both known left last u.taken bytes u.consumed consumed;
   so_far = on old u.taken before u.so_far;
@@ -56,17 +57,17 @@ goes_further steps old mid new known left last held kept bytes before between af
 at_end : (known left last : Option (List ℕ)) (taken : List ℕ) → Consumes known left taken → Consumes left last [] → IsAtEnd last → IsInput known taken
 at_end known left last taken c d end = subst (λ xs. IsInput known xs) (append-nil taken) (is_all known last (taken ++ []) (consumes_both known left last taken [] c d) end)
 
-pub served_all : {M : Type 0} (steps : M → Call → Reply → M → Type 0) (old mid new : M) (known left last : Option (List ℕ)) (held : List ℕ) (before between after : Option (List ℕ))
-    → Underway steps old mid known left held before between → Consumes left last [] → IsAtEnd last → Finishes steps mid new held between after → Served steps old new known before after
-served_all steps old mid new known left last held before between after u none end f = (u.taken, at_end known left last u.taken u.consumed none end, f old u.taken before u.so_far)
+pub served_all : {M : Type 0} (language : Language) (steps : M → Call → Reply → M → Type 0) (old mid new : M) (known left last : Option (List ℕ)) (held : List ℕ) (before between after : Option (List ℕ))
+    → Underway language steps old mid known left held before between → Consumes left last [] → IsAtEnd last → Finishes language steps mid new held between after → Served language steps old new known before after
+served_all language steps old mid new known left last held before between after u none end f = (u.taken, at_end known left last u.taken u.consumed none end, f old u.taken before u.so_far)
 
-pub broken_at_end : {M : Type 0} (steps : M → Call → Reply → M → Type 0) (old mid new : M) (fault : RunFault) (known left last : Option (List ℕ)) (held : List ℕ) (before between after : Option (List ℕ))
-    → Underway steps old mid known left held before between → Consumes left last [] → IsAtEnd last → FailsToFinish steps mid new fault held between after → Broken steps old new fault known before after
-broken_at_end steps old mid new fault known left last held before between after u none end f = (u.taken, at_end known left last u.taken u.consumed none end, f old u.taken before u.so_far)
+pub broken_at_end : {M : Type 0} (language : Language) (steps : M → Call → Reply → M → Type 0) (old mid new : M) (fault : RunFault) (known left last : Option (List ℕ)) (held : List ℕ) (before between after : Option (List ℕ))
+    → Underway language steps old mid known left held before between → Consumes left last [] → IsAtEnd last → FailsToFinish language steps mid new fault held between after → Broken language steps old new fault known before after
+broken_at_end language steps old mid new fault known left last held before between after u none end f = (u.taken, at_end known left last u.taken u.consumed none end, f old u.taken before u.so_far)
 
-pub stays_underway : {M : Type 0} (steps : M → Call → Reply → M → Type 0) (old new : M) (known left : Option (List ℕ)) (held : List ℕ) (before between after : Option (List ℕ))
-    → Underway steps old new known left held before between → Keeps between after → Underway steps old new known left held before after
-stays_underway steps old new known left held before between after u keeps = record {
+pub stays_underway : {M : Type 0} (language : Language) (steps : M → Call → Reply → M → Type 0) (old new : M) (known left : Option (List ℕ)) (held : List ℕ) (before between after : Option (List ℕ))
+    → Underway language steps old new known left held before between → Keeps between after → Underway language steps old new known left held before after
+stays_underway language steps old new known left held before between after u keeps = record {
   taken = u.taken;
   consumed = u.consumed;
   so_far = record {
@@ -86,18 +87,18 @@ pub keeps_here : (a : Option (List ℕ)) → Keeps a a
 keeps_here None = tt
 keeps_here (Some xs) = refl
 
-pub broken_now : {M : Type 0} (steps : M → Call → Reply → M → Type 0) (old new : M) (fault : RunFault) (known left : Option (List ℕ)) (held : List ℕ) (before after : Option (List ℕ))
-    → Underway steps old new known left held before after → Broken steps old new fault known before after
-broken_now steps old new fault known left held before after u = broken_here steps old new fault known left held before after after u (keeps_here after)
+pub broken_now : {M : Type 0} (language : Language) (steps : M → Call → Reply → M → Type 0) (old new : M) (fault : RunFault) (known left : Option (List ℕ)) (held : List ℕ) (before after : Option (List ℕ))
+    → Underway language steps old new known left held before after → Broken language steps old new fault known before after
+broken_now language steps old new fault known left held before after u = broken_here language steps old new fault known left held before after after u (keeps_here after)
 
 -- a read of no bytes
 pub none_taken : (a b : Option (List ℕ)) (n : ℕ) (bytes : List ℕ) → n ≡ 0 → Consumes a b (take n bytes) → Consumes a b []
 none_taken a b n bytes none h = subst (λ m. Consumes a b (take m bytes)) none h
 
 -- all whole lines that were taken are answered
-pub answers_read : {M : Type 0} (steps : M → Call → Reply → M → Type 0) (old new : M) (known left last : Option (List ℕ)) (held : List ℕ) (before after : Option (List ℕ))
-    → Underway steps old new known left held before after → Keeps left last → AnswersRead steps old new RunFault.Read known last before after
-answers_read steps old new known left last held before after u keeps = (
+pub answers_read : {M : Type 0} (language : Language) (steps : M → Call → Reply → M → Type 0) (old new : M) (known left last : Option (List ℕ)) (held : List ℕ) (before after : Option (List ℕ))
+    → Underway language steps old new known left held before after → Keeps left last → AnswersRead language steps old new RunFault.Read known last before after
+answers_read language steps old new known left last held before after u keeps = (
   u.taken,
   consumes_kept known left last u.taken u.consumed keeps,
   record {
@@ -111,7 +112,7 @@ answers_read steps old new known left last held before after u keeps = (
   },
 )
 
-pub no_read : {M : Type 0} (steps : M → Call → Reply → M → Type 0) (old new : M) (known left before after : Option (List ℕ)) (fault : RunFault) → IsNoRead fault → AnswersRead steps old new fault known left before after
-no_read steps old new known left before after RunFault.Read h = absurd h
-no_read steps old new known left before after RunFault.Write h = tt
-no_read steps old new known left before after RunFault.Memory h = tt
+pub no_read : {M : Type 0} (language : Language) (steps : M → Call → Reply → M → Type 0) (old new : M) (known left before after : Option (List ℕ)) (fault : RunFault) → IsNoRead fault → AnswersRead language steps old new fault known left before after
+no_read language steps old new known left before after RunFault.Read h = absurd h
+no_read language steps old new known left before after RunFault.Write h = tt
+no_read language steps old new known left before after RunFault.Memory h = tt

@@ -1,7 +1,8 @@
 -- Which call a line means.
 use Rattle.jpa_value.specs.Limits.{most_line_bytes}
-use Rattle.std.specs.Prelude.{◌==◌, ◌+◌, ℕ, ℤ, nat_lt, List, [], ◌∷◌, length, codes, if◌then◌else◌, Option, Some, None}
-use Rattle.std.specs.Prelude.{is_some, Result, Ok, Err, bytes_eq}
+use Rattle.std.specs.Prelude.{◌==◌, ◌+◌, ℕ, ℤ, Bool, true, false, nat_lt, List, [], ◌∷◌, length, codes, if◌then◌else◌}
+use Rattle.std.specs.Prelude.{Option, Some, None, is_some, Result, Ok, Err, bytes_eq}
+use Rattle.std.specs.List.{list_all}
 use Rattle.std.specs.Option.{ok_or}
 use Rattle.hex.specs.Hex.{decode_of}
 use Rattle.hex.specs.declared.error.FromHexError.{FromHexError}
@@ -22,11 +23,14 @@ use Rattle.jpa_protocol.specs.declared.call.FlushMode.TheVariants as flush
 use Rattle.jpa_protocol.specs.declared.call.LockMode.{LockMode}
 use Rattle.jpa_protocol.specs.declared.call.LockMode.TheVariants as mode
 use Rattle.jpa_protocol.specs.declared.call.Parameter.{Parameter}
+use Rattle.jpa_protocol.specs.declared.call.ParameterValue.{ParameterValue}
+use Rattle.jpa_protocol.specs.declared.call.ParameterValue.TheVariants.{Single, Collection}
+use Rattle.jpql_tree.specs.declared.Language.{Language}
 use Rattle.serde_json.specs.Data.{Data, null, boolean, number, string, array, object, Members}
 use Rattle.serde_json.specs.Data as json
 use Rattle.serde_json.specs.Find.{get, as_str, as_object, as_i64}
 use Rattle.jpa_json.specs.JsonOf.{text_data}
-use Rattle.jpa_json.specs.Members.{count_of, integer_of, list_of, text_at}
+use Rattle.jpa_json.specs.Members.{count_of, each, integer_of, list_of, text_at}
 use Rattle.jpa_json.specs.Outcome.{◌>>=◌, guard}
 use Rattle.jpa_lines.specs.declared.reading.QueryMembers.{QueryMembers}
 use Rattle.jpa_lines.specs.declared.reading.Word.{Word}
@@ -206,11 +210,20 @@ integer_if_there (Some d) = do
 abbrev pub optional_integer_at : List ℕ → Data → Option (Option ℤ)
 optional_integer_at name d = integer_if_there (get name d)
 
+-- what is handed in for a parameter: a value, or a collection of values in an array (chapter 4.6.9)
+unfoldable pub parameter_value : Data → Option ParameterValue
+parameter_value (array ds) = do
+  all ← each given_of ds
+  Some (Collection all)
+parameter_value d = do
+  value ← given_of d
+  Some (Single value)
+
 -- a parameter for each member; an object has each name once, in the order of the names
 abbrev pub parameters : Members → Option (List Parameter)
 parameters json.no_members = Some []
 parameters (json.member name d ms) = do
-  value ← given_of d
+  value ← parameter_value d
   others ← parameters ms
   Some (record { name = name; value = value } ∷ others)
 
@@ -343,21 +356,41 @@ worded_call word.Pending d = of_em Pending d
 worded_call word.Restart d = restart_of d
 worded_call word.Index d = index_of d
 
--- the call that JSON means, by its word and its members
-unfoldable pub call_of : Data → Option Call
-call_of d = do
+-- whether one value or object is handed in for a parameter
+abbrev pub is_single : ParameterValue → Bool
+is_single (Single value) = true
+is_single (Collection all) = false
+
+-- the parameters of a call; none of one that has no query text
+abbrev pub parameters_of : Call → List Parameter
+parameters_of (Query em text values first most) = values
+parameters_of (QuerySingle em text values first most) = values
+parameters_of (ExecuteUpdate em text values) = values
+parameters_of _ = []
+
+-- whether a call is one of the language: a collection as a parameter is the wider one's alone
+abbrev pub speaks : Language → Call → Bool
+speaks Language.Wide call = true
+speaks Language.Profile call = list_all (λ (p : Parameter). is_single p.value) (parameters_of call)
+
+-- the call that JSON means in a language, by its word and its members
+unfoldable pub call_of : Language → Data → Option Call
+call_of language d = do
   name ← text_at (codes "call") d
   w ← word_of name
-  worded_call w d
+  call ← worded_call w d
+  spoken ← guard (speaks language call)
+  Some call
 
--- the call that a text means, where it is one
-unfoldable pub text_call : List ℕ → Option Call
-text_call text = do
+-- the call that a text means in a language, where it is one
+unfoldable pub text_call : Language → List ℕ → Option Call
+text_call language text = do
   d ← text_data text
-  call_of d
+  call_of language d
 
 -- ---- lines
 
--- what a line means: a call, or the refusal that answers it
-unfoldable pub meaning : List ℕ → Result Call Cause
-meaning line = if nat_lt most_line_bytes (length line) then Err Limit else ok_or (text_call line) BadLine
+-- what a line means in a language: a call, or the refusal that answers it
+unfoldable pub meaning : Language → List ℕ → Result Call Cause
+meaning language line =
+    if nat_lt most_line_bytes (length line) then Err Limit else ok_or (text_call language line) BadLine

@@ -13,5 +13,5 @@ pub mod run;
 pub mod writing;
 
 pub use reading::read_call;
-pub use run::RunFault;
+pub use run::{RunFault, write_text};
 pub use writing::{tell_value, write_reply};

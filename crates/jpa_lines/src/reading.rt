@@ -1,15 +1,17 @@
 //! The call that a line means.
 ghost use Rattle.std.specs.Prelude.{◌≡◌, ◌≤◌, ◌⊎◌, IfOk, IfErr, Ok, Err};
+ghost use Rattle.std.specs.List.{list_all};
 ghost use Rattle.serde_json.specs.View.{view, members_view};
 ghost use Rattle.jpa_protocol.specs.declared.call.Call.{Call};
 ghost use Rattle.jpa_value.specs.declared.refusal.Cause.TheVariants.{OutOfMemory};
 ghost use Rattle.jpa_json.specs.Members.{integer_of};
 ghost use Rattle.jpa_json.specs.Outcome.{Gives, same};
-ghost use Rattle.jpa_lines.specs.CallOf.{integer_at, hex_of, marked_of, given_of, em_of, create_of, new_of, set_of, get_of, by_member_of, em_and_object_of, of_em_and_object, lock_mode_of, lock_of, flush_mode_of, set_flush_mode_of, by_key_of, parameters, parameters_at, optional_integer_at, count_at, query_members_of, of_query_members, execute_update_of, values_of, restart_of, index_of, word_of, worded_call, call_of, text_call, meaning};
+ghost use Rattle.jpa_lines.specs.CallOf.{integer_at, hex_of, marked_of, given_of, em_of, create_of, new_of, set_of, get_of, by_member_of, em_and_object_of, of_em_and_object, lock_mode_of, lock_of, flush_mode_of, set_flush_mode_of, by_key_of, parameter_value, parameters, parameters_at, optional_integer_at, count_at, query_members_of, of_query_members, execute_update_of, values_of, restart_of, index_of, word_of, worded_call, is_single, parameters_of, speaks, call_of, text_call, meaning};
 
 use jpa_json::{Described, Unread, json_of, member, only, or_refuse, str_at, text_at};
-use jpa_protocol::{Call, FlushMode, Given, LockMode, Parameter};
+use jpa_protocol::{Call, FlushMode, Given, LockMode, Parameter, ParameterValue};
 use jpa_value::{ByteString, Cause, MOST_LINE_BYTES, Seq, Text, Value};
+use jpql_tree::Language;
 use serde_json::{Map, Value as Json};
 use std::alloc::Global;
 
@@ -51,35 +53,79 @@ enum Word {
     Index,
 }
 
-/// The call that a line means. A line that is longer than `MOST_LINE_BYTES` is refused as `Limit`,
-/// whatever it says, and another one that is no call as `BadLine`. Whether its numbers and names
-/// name anything is not asked here.
-pub fn read_call(alloc: Global, line: &[u8]) -> Result<Call, Cause>
-    ensures ok { IfOk result (λ call. meaning line.now ≡ Ok call) }
+/// The call that a line means in a language: a collection as a parameter is the wider one's alone.
+/// A line that is longer than `MOST_LINE_BYTES` is refused as `Limit`, whatever it says, and another
+/// one that is no call of the language as `BadLine`. Whether its numbers and names name anything is
+/// not asked here.
+pub fn read_call(alloc: Global, language: Language, line: &[u8]) -> Result<Call, Cause>
+    ensures ok { IfOk result (λ call. meaning language line.now ≡ Ok call) }
     ensures err { IfErr result (λ cause. (cause ≡ OutOfMemory)
-        ⊎ (meaning line.now ≡ Err cause)) }
+        ⊎ (meaning language line.now ≡ Err cause)) }
 {
     if line.len() > MOST_LINE_BYTES {
         return Err(Cause::Limit);
     }
-    or_refuse(call_of_text(alloc, line), Cause::BadLine)
+    or_refuse(call_of_text(alloc, language, line), Cause::BadLine)
 }
 
 #[tactic(auto, unfolding(crate::specs::CallOf::text_call))]
-fn call_of_text(alloc: Global, line: &[u8]) -> Result<Call, Unread>
-    ensures { Gives same result (text_call line.now) }
+fn call_of_text(alloc: Global, language: Language, line: &[u8]) -> Result<Call, Unread>
+    ensures { Gives same result (text_call language line.now) }
 {
     let json = json_of(alloc, line)?;
-    call_of(alloc, &json)
+    call_of(alloc, language, &json)
 }
 
 #[tactic(auto, unfolding(crate::specs::CallOf::call_of))]
-fn call_of(alloc: Global, json: &Json) -> Result<Call, Unread>
-    ensures { Gives same result (call_of (view json.now)) }
+fn call_of(alloc: Global, language: Language, json: &Json) -> Result<Call, Unread>
+    ensures { Gives same result (call_of language (view json.now)) }
 {
     let name = str_at(json, "call")?;
     let word = word_of(name)?;
-    worded_call(alloc, word, json)
+    let call = worded_call(alloc, word, json)?;
+    if speaks(language, &call) {
+        Ok(call)
+    } else {
+        Err(Unread::Form)
+    }
+}
+
+/// Whether a call is one of the language.
+fn speaks(language: Language, call: &Call) -> bool
+    ensures { result ≡ speaks language call.now }
+{
+    match language {
+        Language::Wide => true,
+        Language::Profile => are_single(parameters_of(call)),
+    }
+}
+
+/// The parameters of a call, of which there are none where it has no query text.
+fn parameters_of(call: &Call) -> &[Parameter]
+    ensures { result.now ≡ parameters_of call.now }
+{
+    match call {
+        Call::Query { parameters, .. } => parameters.as_slice(),
+        Call::QuerySingle { parameters, .. } => parameters.as_slice(),
+        Call::ExecuteUpdate { parameters, .. } => parameters.as_slice(),
+        _ => &[],
+    }
+}
+
+/// Whether one value or object is handed in for each parameter.
+fn are_single(parameters: &[Parameter]) -> bool
+    ensures { result ≡ list_all (λ p. is_single p.value) parameters.now }
+{
+    parameters
+        .iter()
+        .all(|parameter| is_single(&parameter.value))
+}
+
+/// Whether one value or object is handed in, and no collection.
+fn is_single(value: &ParameterValue) -> bool
+    ensures { result ≡ is_single value.now }
+{
+    matches!(value, ParameterValue::Single(_))
 }
 
 fn word_of(name: &str) -> Result<Word, Unread>
@@ -494,21 +540,38 @@ fn parameters_at(alloc: Global, json: &Json) -> Result<Seq<Parameter>, Unread>
     ensures { Gives same result (parameters_at (view json.now)) }
 {
     match json.get("params") {
-        Some(member) => parameters_of(alloc, member.as_object().ok_or(Unread::Form)?),
+        Some(member) => read_parameters(alloc, member.as_object().ok_or(Unread::Form)?),
         None => Ok(Seq::new(alloc)),
     }
 }
 
-fn parameters_of(alloc: Global, members: &Map<String, Json>) -> Result<Seq<Parameter>, Unread>
+fn read_parameters(alloc: Global, members: &Map<String, Json>) -> Result<Seq<Parameter>, Unread>
     ensures { Gives same result (parameters (members_view members.now.entries)) }
 {
     let mut list = Vec::new(alloc);
     for (key, member) in members.iter() {
         let name = Text::of(alloc, key.as_str())?;
-        let value = given_of(alloc, member)?;
+        let value = parameter_value(alloc, member)?;
         list.push(Parameter { name, value })?;
     }
     Ok(Seq::of(list))
+}
+
+/// What is handed in for a parameter: a value, or a collection of values in an array.
+#[tactic(auto, unfolding(crate::specs::CallOf::parameter_value))]
+fn parameter_value(alloc: Global, json: &Json) -> Result<ParameterValue, Unread>
+    ensures { Gives same result (parameter_value (view json.now)) }
+{
+    match json {
+        Json::Array(_) => {
+            let all = <Seq<Given> as Described<Calls>>::read(alloc, json)?;
+            Ok(ParameterValue::Collection(all))
+        }
+        _ => {
+            let value = given_of(alloc, json)?;
+            Ok(ParameterValue::Single(value))
+        }
+    }
 }
 
 impl Described<Calls> for Given {

@@ -9,6 +9,7 @@ use crate::reading::read_call;
 use crate::writing::write_reply;
 use jpa_protocol::{PersistenceProvider, Reply};
 use jpa_value::{Cause, Refusal, Seq};
+use jpql_tree::Language;
 use memchr::memchr;
 use std::alloc::Global;
 use std::io::{Read, Write};
@@ -33,7 +34,8 @@ pub enum RunFault {
     Memory,
 }
 
-/// Answers each line of the input by a reply, until the input ends. Of a line at most
+/// Answers each line of the input by a reply, until the input ends, as what it means in the language.
+/// Of a line at most
 /// `MOST_LINE_BYTES` + 1 bytes are kept; what is past them is skipped to its line feed. The output
 /// is flushed whenever the lines that were read are answered.
 ///
@@ -45,34 +47,36 @@ pub enum RunFault {
 /// What stands between calls stands at the end, whatever the input, also where the run breaks off.
 pub fn run<R: Read, W: Write, P: PersistenceProvider>(
     alloc: Global,
+    language: Language,
     reader: &mut R,
     writer: &mut W,
     provider: &mut P,
 ) -> Result<(), RunFault>
-    ensures ok { OnOk result (Served P.steps provider.old provider.new
+    ensures ok { OnOk result (Served language P.steps provider.old provider.new
         (R.remaining reader.old) (W.contents writer.old) (W.contents writer.new)) }
-    ensures err { IfErr result (λ fault. Broken P.steps provider.old provider.new fault
+    ensures err { IfErr result (λ fault. Broken language P.steps provider.old provider.new fault
         (R.remaining reader.old) (W.contents writer.old) (W.contents writer.new)) }
-    ensures read { IfErr result (λ fault. AnswersRead P.steps provider.old provider.new fault
-        (R.remaining reader.old) (R.remaining reader.new) (W.contents writer.old)
+    ensures read { IfErr result (λ fault. AnswersRead language P.steps provider.old
+        provider.new fault (R.remaining reader.old) (R.remaining reader.new) (W.contents writer.old)
         (W.contents writer.new)) }
     ensures stands { P.stands provider.old → P.stands provider.new }
 {
-    answer_lines(alloc, reader, writer, provider)
+    answer_lines(alloc, language, reader, writer, provider)
 }
 
 fn answer_lines<R: Read, W: Write, P: PersistenceProvider>(
     alloc: Global,
+    language: Language,
     reader: &mut R,
     writer: &mut W,
     provider: &mut P,
 ) -> Result<(), RunFault>
-    ensures ok { OnOk result (Served P.steps provider.old provider.new
+    ensures ok { OnOk result (Served language P.steps provider.old provider.new
         (R.remaining reader.old) (W.contents writer.old) (W.contents writer.new)) }
-    ensures err { IfErr result (λ fault. Broken P.steps provider.old provider.new fault
+    ensures err { IfErr result (λ fault. Broken language P.steps provider.old provider.new fault
         (R.remaining reader.old) (W.contents writer.old) (W.contents writer.new)) }
-    ensures read { IfErr result (λ fault. AnswersRead P.steps provider.old provider.new fault
-        (R.remaining reader.old) (R.remaining reader.new) (W.contents writer.old)
+    ensures read { IfErr result (λ fault. AnswersRead language P.steps provider.old
+        provider.new fault (R.remaining reader.old) (R.remaining reader.new) (W.contents writer.old)
         (W.contents writer.new)) }
 {
     let mut held = Vec::new(alloc);
@@ -82,9 +86,16 @@ fn answer_lines<R: Read, W: Write, P: PersistenceProvider>(
             return Err(RunFault::Read);
         };
         if count == 0 {
-            return finish(alloc, held.as_slice(), writer, provider);
+            return finish(alloc, language, held.as_slice(), writer, provider);
         }
-        take_piece(alloc, &piece[..count], &mut held, writer, provider)?;
+        take_piece(
+            alloc,
+            language,
+            &piece[..count],
+            &mut held,
+            writer,
+            provider,
+        )?;
         if writer.flush().is_err() {
             return Err(RunFault::Write);
         }
@@ -94,37 +105,39 @@ fn answer_lines<R: Read, W: Write, P: PersistenceProvider>(
 
 fn finish<W: Write, P: PersistenceProvider>(
     alloc: Global,
+    language: Language,
     held: &[u8],
     writer: &mut W,
     provider: &mut P,
 ) -> Result<(), RunFault>
-    ensures ok { OnOk result (Finishes P.steps provider.old provider.new held.now
+    ensures ok { OnOk result (Finishes language P.steps provider.old provider.new held.now
         (W.contents writer.old) (W.contents writer.new)) }
-    ensures err { IfErr result (λ fault. FailsToFinish P.steps provider.old provider.new fault
-        held.now (W.contents writer.old) (W.contents writer.new)) }
+    ensures err { IfErr result (λ fault. FailsToFinish language P.steps provider.old provider.new
+        fault held.now (W.contents writer.old) (W.contents writer.new)) }
     ensures no_read { IfErr result IsNoRead }
 {
     if held.is_empty() {
         Ok(())
     } else {
-        serve_last(alloc, held, writer, provider)
+        serve_last(alloc, language, held, writer, provider)
     }
 }
 
 /// Serves the line that ends the input, and flushes its reply.
 fn serve_last<W: Write, P: PersistenceProvider>(
     alloc: Global,
+    language: Language,
     line: &[u8],
     writer: &mut W,
     provider: &mut P,
 ) -> Result<(), RunFault>
-    ensures ok { OnOk result (ServesLine P.steps provider.old provider.new line.now
+    ensures ok { OnOk result (ServesLine language P.steps provider.old provider.new line.now
         (W.contents writer.old) (W.contents writer.new)) }
-    ensures err { IfErr result (λ fault. BreaksLine P.steps provider.old provider.new fault
+    ensures err { IfErr result (λ fault. BreaksLine language P.steps provider.old provider.new fault
         line.now (W.contents writer.old) (W.contents writer.new)) }
     ensures no_read { IfErr result IsNoRead }
 {
-    serve(alloc, line, writer, provider)?;
+    serve(alloc, language, line, writer, provider)?;
     if writer.flush().is_err() {
         return Err(RunFault::Write);
     }
@@ -133,20 +146,28 @@ fn serve_last<W: Write, P: PersistenceProvider>(
 
 fn take_piece<W: Write, P: PersistenceProvider>(
     alloc: Global,
+    language: Language,
     piece: &[u8],
     held: &mut Vec<u8>,
     writer: &mut W,
     provider: &mut P,
 ) -> Result<(), RunFault>
-    ensures ok { OnOk result (GoesOn P.steps provider.old provider.new held.old.items held.new.items
-        piece.now (W.contents writer.old) (W.contents writer.new)) }
-    ensures err { IfErr result (λ fault. BreaksOff P.steps provider.old provider.new fault
+    ensures ok { OnOk result (GoesOn language P.steps provider.old provider.new held.old.items
+        held.new.items piece.now (W.contents writer.old) (W.contents writer.new)) }
+    ensures err { IfErr result (λ fault. BreaksOff language P.steps provider.old provider.new fault
         held.old.items piece.now (W.contents writer.old) (W.contents writer.new)) }
     ensures no_read { IfErr result IsNoRead }
 {
     let mut done = 0;
     'lines: while let Some(len) = memchr(b'\n', &piece[done..]) {
-        take_end(alloc, &piece[done..done + len], held, writer, provider)?;
+        take_end(
+            alloc,
+            language,
+            &piece[done..done + len],
+            held,
+            writer,
+            provider,
+        )?;
         done += len + 1;
     }
     hold(held, &piece[done..])
@@ -155,20 +176,21 @@ fn take_piece<W: Write, P: PersistenceProvider>(
 /// Takes the end of a line, of which the front is held.
 fn take_end<W: Write, P: PersistenceProvider>(
     alloc: Global,
+    language: Language,
     end: &[u8],
     held: &mut Vec<u8>,
     writer: &mut W,
     provider: &mut P,
 ) -> Result<(), RunFault>
     requires { IsUnbroken end.now }
-    ensures ok { OnOk result (GoesOn P.steps provider.old provider.new held.old.items held.new.items
-        (end.now ++ 10 ∷ []) (W.contents writer.old) (W.contents writer.new)) }
-    ensures err { IfErr result (λ fault. BreaksOff P.steps provider.old provider.new fault
+    ensures ok { OnOk result (GoesOn language P.steps provider.old provider.new held.old.items
+        held.new.items (end.now ++ 10 ∷ []) (W.contents writer.old) (W.contents writer.new)) }
+    ensures err { IfErr result (λ fault. BreaksOff language P.steps provider.old provider.new fault
         held.old.items (end.now ++ 10 ∷ []) (W.contents writer.old) (W.contents writer.new)) }
     ensures no_read { IfErr result IsNoRead }
 {
     hold(held, end)?;
-    serve(alloc, held.as_slice(), writer, provider)?;
+    serve(alloc, language, held.as_slice(), writer, provider)?;
     held.clear();
     Ok(())
 }
@@ -189,17 +211,18 @@ fn hold(held: &mut Vec<u8>, bytes: &[u8]) -> Result<(), RunFault>
 
 fn serve<W: Write, P: PersistenceProvider>(
     alloc: Global,
+    language: Language,
     line: &[u8],
     writer: &mut W,
     provider: &mut P,
 ) -> Result<(), RunFault>
-    ensures ok { OnOk result (ServesLine P.steps provider.old provider.new line.now
+    ensures ok { OnOk result (ServesLine language P.steps provider.old provider.new line.now
         (W.contents writer.old) (W.contents writer.new)) }
-    ensures err { IfErr result (λ fault. BreaksLine P.steps provider.old provider.new fault
+    ensures err { IfErr result (λ fault. BreaksLine language P.steps provider.old provider.new fault
         line.now (W.contents writer.old) (W.contents writer.new)) }
     ensures no_read { IfErr result IsNoRead }
 {
-    let reply = answer(alloc, line, provider)?;
+    let reply = answer(alloc, language, line, provider)?;
     let Ok(text) = write_reply(alloc, &reply) else {
         return Err(RunFault::Memory);
     };
@@ -208,14 +231,16 @@ fn serve<W: Write, P: PersistenceProvider>(
 
 fn answer<P: PersistenceProvider>(
     alloc: Global,
+    language: Language,
     line: &[u8],
     provider: &mut P,
 ) -> Result<Reply, RunFault>
-    ensures ok { IfOk result (λ reply. Answers P.steps provider.old line.now reply provider.new) }
+    ensures ok { IfOk result (λ reply. Answers language P.steps provider.old line.now
+        reply provider.new) }
     ensures err { IfErr result (λ fault. (fault ≡ memory_fault)
         × (provider.new ≡ provider.old)) }
 {
-    match read_call(alloc, line) {
+    match read_call(alloc, language, line) {
         Ok(call) => Ok(provider.call(call)),
         Err(Cause::OutOfMemory) => Err(RunFault::Memory),
         Err(cause) => Ok(Reply {
@@ -225,7 +250,9 @@ fn answer<P: PersistenceProvider>(
     }
 }
 
-fn write_text<W: Write>(writer: &mut W, text: &[u8]) -> Result<(), RunFault>
+/// Writes a text. Fails with `Write` alone, where the output fails, of which a front of the text is
+/// written then.
+pub fn write_text<W: Write>(writer: &mut W, text: &[u8]) -> Result<(), RunFault>
     ensures ok { OnOk result (Appends (W.contents writer.old) (W.contents writer.new) text.now) }
     ensures err { IfErr result (λ fault. (fault ≡ write_fault)
         × ((part : List ℕ) × StartsWith text.now part

@@ -15,8 +15,8 @@ use Rattle.jpa_fetch.specs.Load.{reach}
 use Rattle.jpa_fetch.specs.Members.{collect}
 use Rattle.jpa_flush.specs.Flush.{flush}
 use Rattle.jpql_tree.specs.declared.Language.{Language}
-use Rattle.jpql_tree.specs.declared.Query.{Query}
-use Rattle.jpql_tree.specs.Grammar.{Text}
+use Rattle.jpql_grammar.specs.declared.lists.GivenList.{GivenList}
+use Rattle.jpql_tree.specs.Names.{Text}
 use Rattle.jpql_types.specs.Statements.{checked}
 use Rattle.jpql_types.specs.declared.typed.TypedSelect.{TypedSelect}
 use Rattle.jpql_eval.specs.declared.datum.Datum.{Datum}
@@ -24,12 +24,14 @@ use Rattle.jpql_eval.specs.Answers as answers
 use Rattle.jpql_plan.specs.Selection.{selected}
 use Rattle.jpa_asked.specs.declared.asked.Asked.{Asked}
 use Rattle.jpa_asked.specs.declared.asked.Binding.{Binding}
-use Rattle.jpa_asked.specs.Asking.{give_or, given, read_of, statement_of, sorts_of, arguments_of, select_in}
+use Rattle.jpa_asked.specs.declared.asked.Reading.{Reading}
+use Rattle.jpa_asked.specs.declared.asked.Statement.{Statement}
+use Rattle.jpa_asked.specs.Asking.{give_or, given, read_of, are_apart, statement_of, sorts_of, arguments_of, select_in}
 use Rattle.jpa_asked.specs.Reading.{query_of, is_within, declares_few}
 use Rattle.jpa_flush.specs.Flush.{flush_if}
 use Rattle.jpa_queries.specs.Queries.{answer, judged, table_of, rows_found, rows_asked, item_of, row_of, query, the_one, query_single, is_count}
 use Rattle.jpa_machine.specs.Calls as calls
-use Rattle.jpa_machine.specs.Querying.{are_short, asked_of, bindings_in, bound, query_call, query_single_call}
+use Rattle.jpa_machine.specs.Querying.{are_short, asked_of, bindings_in, bound, query_call, query_single_call, values_of}
 use Rattle.jpa_machine.specs.Going.{HoldsAfter}
 use Rattle.jpa_machine.proofs.Going.{More, after_holds, require_holds}
 use Rattle.jpa_machine.proofs.Members.{Leads}
@@ -52,25 +54,27 @@ pub given_reads : {A : Type 0} (o : Result A Cause) → IsRead (given o)
 given_reads (Ok a) w = refl
 given_reads (Err r) w = tt
 
-pub read_of_reads : (l : Language) (text : Text) → IsRead (read_of l text)
-read_of_reads l text w =
-    let K : Option Query → Work → Type 0 = λ a v. v ≡ w in
-    require_holds K (is_within text) Cause.Limit w _ (λ within. require_holds K (declares_few (query_of l text)) Cause.Limit w _ (λ few. refl))
+pub read_of_reads : (l : Language) (lists : List GivenList) (text : Text) → IsRead (read_of l lists text)
+read_of_reads l lists text w =
+    let K : Reading → Work → Type 0 = λ a v. v ≡ w in
+    require_holds K (is_within l lists text) Cause.Limit w _ (λ within. require_holds K (declares_few (query_of l lists text)) Cause.Limit w _ (λ few. refl))
 
-pub statement_of_reads : (m : PersistenceUnit) (tree : Option Query) (bindings : List Binding) → IsRead (statement_of m tree bindings)
-statement_of_reads m tree bindings w =
-    then_read _ (give_or (Cause.IllegalArgument Argument.Syntax) tree) _ w (given_or_reads (Cause.IllegalArgument Argument.Syntax) tree) (λ q.
+pub statement_of_reads : (m : PersistenceUnit) (said : Reading) (lists : List GivenList) (bindings : List Binding) → IsRead (statement_of m said lists bindings)
+statement_of_reads m said lists bindings w =
+    let K : Statement → Work → Type 0 = λ s v. v ≡ w in
+    then_read K (give_or (Cause.IllegalArgument Argument.Syntax) said.tree) _ w (given_or_reads (Cause.IllegalArgument Argument.Syntax) said.tree) (λ q.
     let o = checked m q (sorts_of m bindings w) in
-    then_read _ (given o) _ w (given_reads o) (λ typed.
+    then_read K (given o) _ w (given_reads o) (λ typed.
+    require_holds K (said.uses_lists && are_apart lists bindings) (Cause.IllegalArgument Argument.Parameter) w _ (λ apart.
     let found = arguments_of m bindings w in
-    then_read _ (give_or (Cause.IllegalArgument Argument.Parameter) found) _ w (given_or_reads (Cause.IllegalArgument Argument.Parameter) found) (λ arguments. refl)))
+    then_read K (give_or (Cause.IllegalArgument Argument.Parameter) found) _ w (given_or_reads (Cause.IllegalArgument Argument.Parameter) found) (λ arguments. refl))))
 
 judged_reads : (m : PersistenceUnit) (call : Asked) → IsRead (judged m call)
 judged_reads m call w =
     let K : TypedSelect × List Datum → Work → Type 0 = λ q v. v ≡ w in
-    then_read K (read_of call.language call.text) _ w (read_of_reads call.language call.text) (λ tree.
+    then_read K (read_of call.language call.lists call.text) _ w (read_of_reads call.language call.lists call.text) (λ said.
     require_holds K (is_count call.first && is_count call.max) (Cause.IllegalArgument Argument.Range) w _ (λ counts.
-    then_read K (statement_of m tree call.bindings) _ w (statement_of_reads m tree call.bindings) (λ statement.
+    then_read K (statement_of m said call.lists call.bindings) _ w (statement_of_reads m said call.lists call.bindings) (λ statement.
     then_read K (give_or (Cause.IllegalState State.Statement) (select_in statement.typed)) _ w (given_or_reads (Cause.IllegalState State.Statement) (select_in statement.typed)) (λ select. refl))))
 
 answer_reads : {A : Type 0} (a : answers.Answer A) → IsRead (answer a)
@@ -94,11 +98,11 @@ bindings_read r (Some bs) w = refl
 pub bound_reads : (ps : List Parameter) → IsRead (bound ps)
 bound_reads ps w =
     let K : List Binding → Work → Type 0 = λ a v. v ≡ w in
-    let found = bindings_in (length w.objects) ps in
+    let found = bindings_in (length w.objects) (values_of ps) in
     then_read K (calls.give_or Cause.NoSuchObject found) _ w (bindings_read Cause.NoSuchObject found) (λ bs. require_holds K (are_short ps) Cause.Limit w _ (λ short. refl))
 
-asked_of_reads : (text : Text) (ps : List Parameter) (first max : Option ℤ) → IsRead (asked_of text ps first max)
-asked_of_reads text ps first max w = then_read (λ a v. v ≡ w) (bound ps) _ w (bound_reads ps) (λ bs. refl)
+asked_of_reads : (l : Language) (text : Text) (ps : List Parameter) (first max : Option ℤ) → IsRead (asked_of l text ps first max)
+asked_of_reads l text ps first max w = then_read (λ a v. v ≡ w) (bound ps) _ w (bound_reads ps) (λ bs. refl)
 
 -- ---- with what the steps and a flush keep
 
@@ -151,8 +155,8 @@ module _ {world : World} {P : Work → Type 0} (steps : Steps world P) (flushed 
 
   pub query_call_goes : (text : Text) (ps : List Parameter) (first max : Option ℤ) (flushes : Bool) (w : Work) → P w → HoldsAfter (λ a v. P v) (query_call text ps first max flushes world w)
   query_call_goes text ps first max flushes w p =
-      then_read (λ a v. P v) (asked_of text ps first max) _ w (asked_of_reads text ps first max) (λ call. told_holds P Answer.Rows (query world flushes call w) (query_goes flushes call w p))
+      then_read (λ a v. P v) (asked_of world.language text ps first max) _ w (asked_of_reads world.language text ps first max) (λ call. told_holds P Answer.Rows (query world flushes call w) (query_goes flushes call w p))
 
   pub query_single_call_goes : (text : Text) (ps : List Parameter) (first max : Option ℤ) (flushes : Bool) (w : Work) → P w → HoldsAfter (λ a v. P v) (query_single_call text ps first max flushes world w)
   query_single_call_goes text ps first max flushes w p =
-      then_read (λ a v. P v) (asked_of text ps first max) _ w (asked_of_reads text ps first max) (λ call. told_holds P Answer.Row (query_single world flushes call w) (query_single_goes flushes call w p))
+      then_read (λ a v. P v) (asked_of world.language text ps first max) _ w (asked_of_reads world.language text ps first max) (λ call. told_holds P Answer.Row (query_single world flushes call w) (query_single_goes flushes call w p))

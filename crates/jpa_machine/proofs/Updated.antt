@@ -20,20 +20,21 @@ use Rattle.jpa_context.specs.Work.{Work}
 use Rattle.jpa_context.specs.Steps.{Outcome, Done, Refused, Meets, after, require}
 use Rattle.jpa_flush.specs.Flush.{flush}
 use Rattle.jpql_tree.specs.declared.Language.{Language}
-use Rattle.jpql_tree.specs.Grammar.{Text}
+use Rattle.jpql_tree.specs.Names.{Text}
 use Rattle.jpql_kept.specs.Fits.{AreInherited}
 use Rattle.jpa_asked.specs.declared.asked.Binding.{Binding}
 use Rattle.jpa_asked.specs.Asking.{read_of, statement_of}
 use Rattle.jpa_asked.specs.Premises.{AreInHeap}
 use Rattle.jpa_flush.specs.Flush.{flush_if}
 use Rattle.jpa_updates.specs.Held.{HaveKeys}
+use Rattle.jpql_grammar.specs.declared.lists.GivenList.{GivenList}
 use Rattle.jpa_updates.specs.Updates.{is_bulk, judged_bulk, with_view, run_bulk, execute_update}
 use Rattle.jpa_updates.proofs.Executed.{executed}
 use Rattle.jpa_machine.specs.Going.{HoldsAfter}
 use Rattle.jpa_machine.proofs.Going.{after_holds, require_holds}
 use Rattle.jpa_machine.proofs.Laws.{Steps}
 use Rattle.jpa_machine.specs.Calls as calls
-use Rattle.jpa_machine.specs.Querying.{are_short, before, bindings_in, bound, handed_in, object_handed, update_call}
+use Rattle.jpa_machine.specs.Querying.{are_short, before, bindings_in, bound, handed_in, lists_of, object_handed, update_call, values_of}
 use Rattle.jpa_machine.proofs.Handed.{place_within, told_holds}
 use Rattle.jpa_machine.proofs.Queried.{IsRead, then_read, read_of_reads, statement_of_reads, bound_reads}
 
@@ -51,7 +52,7 @@ handed_within : (os : List LiveObject) (g : Given) → AreBound os (handed_in (l
 handed_within os (Given.Plain v) = tt
 handed_within os (Given.Object z) = object_within os z (place_of (length os) z) refl
 
-abbrev AllBound : List LiveObject → Option (List Binding) → Type 0
+abbrev pub AllBound : List LiveObject → Option (List Binding) → Type 0
 AllBound os None = Unit {0}
 AllBound os (Some bs) = AreInHeap os bs
 
@@ -60,15 +61,15 @@ before_within os name None rest h t = tt
 before_within os name (Some v) None h t = tt
 before_within os name (Some v) (Some bs) h t = All-cons (λ (b : Binding). IsInHeap os b.value) (record { name = name; value = v }) bs h t
 
-bindings_within : (os : List LiveObject) (ps : List Parameter) → AllBound os (bindings_in (length os) ps)
+pub bindings_within : (os : List LiveObject) (vs : List (List ℕ × Given)) → AllBound os (bindings_in (length os) vs)
 bindings_within os [] = All-nil (λ (b : Binding). IsInHeap os b.value)
-bindings_within os (p ∷ ps) = before_within os p.name (handed_in (length os) p.value) (bindings_in (length os) ps) (handed_within os p.value) (bindings_within os ps)
+bindings_within os (v ∷ vs) = before_within os v.0 (handed_in (length os) v.1) (bindings_in (length os) vs) (handed_within os v.1) (bindings_within os vs)
 
 abbrev IsBound : Work → List Binding → Work → Type 0
 IsBound w bs v = AreInHeap w.objects bs × (v ≡ w)
 
 bound_holds : (ps : List Parameter) (w : Work) → HoldsAfter (IsBound w) (bound ps w)
-bound_holds ps w = by_found (bindings_in (length w.objects) ps) (bindings_within w.objects ps)
+bound_holds ps w = by_found (bindings_in (length w.objects) (values_of ps)) (bindings_within w.objects (values_of ps))
   where
     by_found : (o : Option (List Binding)) → AllBound w.objects o →
         HoldsAfter (IsBound w) (after (calls.give_or Cause.NoSuchObject o w) (λ bs v. after (require (are_short ps) Cause.Limit v) (λ _ u. Done bs u)))
@@ -87,14 +88,14 @@ module _ {world : World} {P : Work → Type 0} (steps : Steps world P) (converti
   flush_if_goes true w p = flushed w p
   flush_if_goes false w p = p
 
-  update_holds : (is_active flushes : Bool) (text : Text) (bs : List Binding) (w : Work) → P w → AreInHeap w.objects bs →
-      HoldsAfter (λ (n : ℕ) v. all_representable v.view ≡ true → P v) (execute_update world is_active flushes Language.Profile text bs w)
-  update_holds is_active flushes text bs w p within = by_outcome (execute_update world is_active flushes Language.Profile text bs w) refl
+  update_holds : (is_active flushes : Bool) (ls : List GivenList) (text : Text) (bs : List Binding) (w : Work) → P w → AreInHeap w.objects bs →
+      HoldsAfter (λ (n : ℕ) v. all_representable v.view ≡ true → P v) (execute_update world is_active flushes world.language ls text bs w)
+  update_holds is_active flushes ls text bs w p within = by_outcome (execute_update world is_active flushes world.language ls text bs w) refl
     where
-      by_outcome : (o : Outcome ℕ) → execute_update world is_active flushes Language.Profile text bs w ≡ o → HoldsAfter (λ (n : ℕ) v. all_representable v.view ≡ true → P v) o
+      by_outcome : (o : Outcome ℕ) → execute_update world is_active flushes world.language ls text bs w ≡ o → HoldsAfter (λ (n : ℕ) v. all_representable v.view ≡ true → P v) o
       by_outcome (Refused r events) e = tt
       by_outcome (Done k v) e = λ values.
-          let x = executed world is_active flushes Language.Profile text bs w v k convertible inherited (keys w p) within e in
+          let x = executed world is_active flushes world.language ls text bs w v k convertible inherited (keys w p) within e in
           let q : P x.flushed = subst (HoldsAfter (λ u t. P t)) x.flush (flush_if_goes flushes w p) in
           let held = x.kept (steps.stands x.flushed q).view values in
           subst P (sym held.others) (viewed x.flushed v.view q (subst (λ (u : Work). CanBeHeld world v.view u.numbers) held.others held.set))
@@ -103,8 +104,8 @@ module _ {world : World} {P : Work → Type 0} (steps : Steps world P) (converti
   update_call_holds text ps is_active flushes w p =
       let K : Answer → Work → Type 0 = λ a v. all_representable v.view ≡ true → P v in
       after_holds K (IsBound w) (bound ps w) _ (bound_holds ps w) (λ bs v f.
-      subst (λ v'. HoldsAfter K (after (execute_update world is_active flushes Language.Profile text bs v') (λ n u. Done (Answer.Number n) u))) (sym f.1)
-      (told_holds (λ v'. all_representable v'.view ≡ true → P v') Answer.Number (execute_update world is_active flushes Language.Profile text bs w) (update_holds is_active flushes text bs w p f.0)))
+      subst (λ v'. HoldsAfter K (after (execute_update world is_active flushes world.language (lists_of ps) text bs v') (λ n u. Done (Answer.Number n) u))) (sym f.1)
+      (told_holds (λ v'. all_representable v'.view ≡ true → P v') Answer.Number (execute_update world is_active flushes world.language (lists_of ps) text bs w) (update_holds is_active flushes (lists_of ps) text bs w p f.0)))
 
   -- where what it puts are values of the program
   pub update_call_goes : (text : List ℕ) (ps : List Parameter) (is_active flushes : Bool) (w : Work) → P w →
@@ -133,15 +134,15 @@ flushed_first : (world : World) (text : List ℕ) (ps : List Parameter) (is_acti
 flushed_first world text ps is_active flushes w =
     let X = IsFlushed world flushes w in
     then_read (λ a v. X) (bound ps) _ w (bound_reads ps) (λ bs.
-    told_holds (λ v. X) Answer.Number (execute_update world is_active flushes Language.Profile text bs w)
-    (then_read (λ n v. X) (judged_bulk world.model is_active Language.Profile text bs) _ w (judged_reads world.model is_active text bs) (λ s.
+    told_holds (λ v. X) Answer.Number (execute_update world is_active flushes world.language (lists_of ps) text bs w)
+    (then_read (λ n v. X) (judged_bulk world.model is_active world.language (lists_of ps) text bs) _ w (judged_reads world.model world.language (lists_of ps) is_active text bs) (λ s.
     after_holds (λ n v. X) (λ u v. flush_if flushes world w ≡ Done u v) (flush_if flushes world w) _ (self_holds (flush_if flushes world w)) (λ u v e. anyway (run_bulk world s v) (v, e)))))
   where
-    judged_reads : (m : PersistenceUnit) (is_active : Bool) (text : Text) (bs : List Binding) → IsRead (judged_bulk m is_active Language.Profile text bs)
-    judged_reads m is_active text bs v =
-        then_read (λ s u. u ≡ v) (read_of Language.Profile text) _ v (read_of_reads Language.Profile text) (λ tree.
+    judged_reads : (m : PersistenceUnit) (l : Language) (ls : List GivenList) (is_active : Bool) (text : Text) (bs : List Binding) → IsRead (judged_bulk m is_active l ls text bs)
+    judged_reads m l ls is_active text bs v =
+        then_read (λ s u. u ≡ v) (read_of l ls text) _ v (read_of_reads l ls text) (λ said.
         require_holds (λ s u. u ≡ v) is_active Cause.TransactionRequired v _ (λ active.
-        then_read (λ s u. u ≡ v) (statement_of m tree bs) _ v (statement_of_reads m tree bs) (λ s.
+        then_read (λ s u. u ≡ v) (statement_of m said ls bs) _ v (statement_of_reads m said ls bs) (λ s.
         require_holds (λ t u. u ≡ v) (is_bulk s.typed) (Cause.IllegalState State.Statement) v _ (λ bulk. refl))))
 
 -- what was put are values of the program, where they were so after the flush

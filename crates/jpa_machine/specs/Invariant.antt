@@ -15,6 +15,7 @@ use Rattle.jpa_machine.specs.Consistent.{IsLive, IsEntry, are_one, stands_in}
 use Rattle.jpa_protocol.specs.declared.call.Call.{Call}
 use Rattle.jpa_protocol.specs.declared.call.Given.{Given}
 use Rattle.jpa_protocol.specs.declared.call.Parameter.{Parameter}
+use Rattle.jpa_protocol.specs.declared.call.ParameterValue.{ParameterValue}
 use Rattle.jpa_machine.specs.Machine.{Machine, Manager, Transaction, manager_at}
 
 -- ---- managers
@@ -63,6 +64,11 @@ abbrev pub given_representable : Given → Bool
 given_representable (Given.Plain v) = is_representable v
 given_representable (Given.Object n) = true
 
+-- whether what is handed in for a parameter are values of the program
+abbrev pub value_representable : ParameterValue → Bool
+value_representable (ParameterValue.Single g) = given_representable g
+value_representable (ParameterValue.Collection gs) = list_all given_representable gs
+
 -- what a call hands in are values of the program
 abbrev pub hands_representable : Call → Bool
 hands_representable Call.CreateEntityManager = true
@@ -93,8 +99,8 @@ hands_representable (Call.Pending em) = true
 hands_representable Call.Restart = true
 hands_representable (Call.Index entity name) = true
 hands_representable (Call.Query em text parameters first max) =
-    list_all (λ (p : Parameter). given_representable p.value) parameters
+    list_all (λ (p : Parameter). value_representable p.value) parameters
 hands_representable (Call.ExecuteUpdate em text parameters) =
-    list_all (λ (p : Parameter). given_representable p.value) parameters
+    list_all (λ (p : Parameter). value_representable p.value) parameters
 hands_representable (Call.QuerySingle em text parameters first max) =
-    list_all (λ (p : Parameter). given_representable p.value) parameters
+    list_all (λ (p : Parameter). value_representable p.value) parameters

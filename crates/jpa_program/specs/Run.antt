@@ -12,6 +12,7 @@ use Rattle.jpa_rowspace.specs.Enduring.{EnduresRows, rows_then, rows_wider}
 use Rattle.jpa_rowspace.specs.Space.{Space, HoldsRows}
 use Rattle.jpa_protocol.specs.declared.call.Call.{Call}
 use Rattle.jpa_protocol.specs.declared.reply.Reply.{Reply}
+use Rattle.jpql_tree.specs.declared.Language.{Language}
 use Rattle.jpa_lines.specs.declared.run.RunFault.{RunFault}
 use Rattle.jpa_lines.specs.Run.{Served, Broken, AnswersRead}
 use Rattle.jpa_machine.specs.Machine.{opened}
@@ -35,13 +36,13 @@ rows_over g =
           third.store.conn P Q a (subst (λ schema. EnduresRows g schema second.store.conn third.store.conn Q) same b);
     }
 
--- How a run over lines ends: all of them are answered. Where a fault ends it a front of them is, and
+-- How a run over lines of a language ends: all of them are answered. Where a fault ends it a front of them is, and
 -- after a failed read all whole lines that were read
-pub record EndsAs {M : Type 0} (steps : M → Call → Reply → M → Type 0) (old new : M)
+pub record EndsAs {M : Type 0} (language : Language) (steps : M → Call → Reply → M → Type 0) (old new : M)
     (result : Result (Unit {0}) RunFault) (known left before after : Option (List ℕ)) : Type 0 where
-  pub ok : OnOk result (Served steps old new known before after)
-  pub err : IfErr result (λ fault. Broken steps old new fault known before after)
-  pub read : IfErr result (λ fault. AnswersRead steps old new fault known left before after)
+  pub ok : OnOk result (Served language steps old new known before after)
+  pub err : IfErr result (λ fault. Broken language steps old new fault known before after)
+  pub read : IfErr result (λ fault. AnswersRead language steps old new fault known left before after)
 
 -- it serves the same unit as at first
 pub record ServesSame {R L C : Type 0} (first p : Provided R L C) : Type 0 where

@@ -13,8 +13,9 @@ use sqlite::Alter;
 use std::alloc::Global;
 use std::io::{Read, Write};
 
-/// Answers each line of the input by a reply, until the input ends. The replies are those of steps
-/// of the machine, and the machine at the end is the one that the steps lead to.
+/// Answers each line of the input by a reply, until the input ends, as what it means in the
+/// provider's language. The replies are those of steps of the machine, and the machine at the end is
+/// the one that the steps lead to.
 ///
 /// Where a fault ends the run, the lines before it are answered and their replies written, but for
 /// at most the last one, whose call is done: of its reply a front is written after `Write` and
@@ -38,17 +39,18 @@ pub fn run<S: Alter, B: Behaviour, R: Read, W: Write>(
     writer: &mut W,
     provider: &mut Provider<RowSpace<S>, B>,
 ) -> Result<(), RunFault>
-    ensures machine { EndsAs (Step (world_in B.meaning provider.old)) provider.old.machine
-        provider.new.machine result (R.remaining reader.old) (R.remaining reader.new)
+    ensures machine { EndsAs provider.old.registry.language
+        (Step (world_in B.meaning provider.old)) provider.old.machine provider.new.machine result
+        (R.remaining reader.old) (R.remaining reader.new)
         (W.contents writer.old) (W.contents writer.new) }
-    ensures calls { EndsAs (Steps B.meaning (rows_over S.Store)) provider.old provider.new result
-        (R.remaining reader.old) (R.remaining reader.new) (W.contents writer.old)
-        (W.contents writer.new) }
+    ensures calls { EndsAs provider.old.registry.language (Steps B.meaning (rows_over S.Store))
+        provider.old provider.new result (R.remaining reader.old) (R.remaining reader.new)
+        (W.contents writer.old) (W.contents writer.new) }
     ensures isolated { IsolatesRuns B.meaning (rows_over S.Store) provider.old }
     ensures unit { ServesSame provider.old provider.new }
     ensures cells { HoldsCommitted S.Store B.meaning provider.new }
 {
-    let ran = run_lines(alloc, reader, writer, provider);
+    let ran = run_lines(alloc, provider.language(), reader, writer, provider);
     provider.stands();
     ran
 }

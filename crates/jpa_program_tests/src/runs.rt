@@ -12,6 +12,7 @@ use jpa_program::{first_unit, open, run};
 use jpa_provider::Provider;
 use jpa_rowspace::RowSpace;
 use jpa_value::{Cause, Seq};
+use jpql_tree::Language;
 use sqlite::{Alter, Connection, MemStore};
 use std::alloc::{AllocError, Global};
 use std::io::{Read, Write};
@@ -68,7 +69,7 @@ fn opened_over<S: Alter + Drop>(
     };
     let unit = ServedUnit {
         metamodel,
-        registry: Registry::new(alloc),
+        registry: Registry::new(alloc, Language::Profile),
     };
     let history = History {
         classes: Seq::new(alloc),

@@ -29,12 +29,20 @@ pub enum FlushMode {
     Commit,
 }
 
+/// What is handed in for a parameter: one value or object, or a collection of such, which stands
+/// behind IN (chapters 4.6.4 and 4.6.9).
+#[derive(Drop)]
+pub enum ParameterValue {
+    Single(Given),
+    Collection(Seq<Given>),
+}
+
 /// A parameter of a statement, named as its text does: `x` for `:x`, and `1` for `?1` (Jakarta
 /// Persistence 3.1, chapter 4.6.4).
 #[derive(Drop)]
 pub struct Parameter {
     pub name: Text,
-    pub value: Given,
+    pub value: ParameterValue,
 }
 
 /// A call. Managers and objects go by their numbers, from 1; a number that names none is refused

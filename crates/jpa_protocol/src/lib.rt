@@ -12,7 +12,7 @@ mod event;
 mod provider;
 mod reply;
 
-pub use call::{Call, FlushMode, Given, LockMode, Parameter};
+pub use call::{Call, FlushMode, Given, LockMode, Parameter, ParameterValue};
 pub use event::Told;
 pub use provider::PersistenceProvider;
 pub use reply::{Answer, Due, Item, Reached, Reply, Shown};

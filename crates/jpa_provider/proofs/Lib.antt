@@ -22,3 +22,4 @@ pub mod Walks
 pub mod Freed
 pub mod Ended
 pub mod Own
+pub mod Bound

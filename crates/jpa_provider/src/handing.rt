@@ -11,7 +11,7 @@ ghost use Rattle.jpa_machine.specs.Invariant as invariant;
 
 use jpa_heap::Handed;
 use jpa_model::Part;
-use jpa_protocol::{Call, Given, Parameter};
+use jpa_protocol::{Call, Given, Parameter, ParameterValue};
 use jpa_rows::{is_short, value_is_representable};
 use jpa_value::{Cause, Key, TryCopy, Value, fits};
 use std::alloc::Global;
@@ -38,7 +38,7 @@ pub(crate) fn is_short_given(given: &Given) -> bool
     }
 }
 
-/// Whether all parts of a key that are handed in are short enough.
+/// Whether all parts of a key, or values of a collection, that are handed in are short enough.
 pub(crate) fn are_short(given: &[Given]) -> bool
     ensures { result ≡ list_all calls.is_short_given given.now }
 {
@@ -126,8 +126,8 @@ pub(crate) fn given_representable(given: &Given)
     }
 }
 
-/// What is handed in as a key are values of the program.
-fn key_representable(given: &[Given])
+/// What is handed in as a key, or as a collection, are values of the program.
+fn each_representable(given: &[Given])
     ensures { list_all invariant.given_representable given.now ≡ true }
 {
     for part in given {
@@ -135,12 +135,22 @@ fn key_representable(given: &[Given])
     }
 }
 
+/// What is handed in for a parameter are values of the program.
+fn value_representable(value: &ParameterValue)
+    ensures { invariant.value_representable value.now ≡ true }
+{
+    match value {
+        ParameterValue::Single(given) => given_representable(given),
+        ParameterValue::Collection(values) => each_representable(values.as_slice()),
+    }
+}
+
 /// What is bound to parameters are values of the program.
 fn parameters_representable(parameters: &[Parameter])
-    ensures { list_all (λ p. invariant.given_representable p.value) parameters.now ≡ true }
+    ensures { list_all (λ p. invariant.value_representable p.value) parameters.now ≡ true }
 {
     for parameter in parameters {
-        given_representable(&parameter.value);
+        value_representable(&parameter.value);
     }
 }
 
@@ -150,8 +160,8 @@ pub(crate) fn hands_representable(call: &Call)
 {
     match call {
         Call::SetValue { value, .. } => given_representable(value),
-        Call::Find { key, .. } => key_representable(key.as_slice()),
-        Call::GetReference { key, .. } => key_representable(key.as_slice()),
+        Call::Find { key, .. } => each_representable(key.as_slice()),
+        Call::GetReference { key, .. } => each_representable(key.as_slice()),
         Call::Query { parameters, .. } => parameters_representable(parameters.as_slice()),
         Call::QuerySingle { parameters, .. } => parameters_representable(parameters.as_slice()),
         Call::ExecuteUpdate { parameters, .. } => parameters_representable(parameters.as_slice()),

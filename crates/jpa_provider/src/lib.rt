@@ -19,6 +19,7 @@ mod indexing;
 mod moding;
 mod opening;
 mod operating;
+mod parameters;
 mod pending;
 mod provider;
 mod querying;

@@ -46,6 +46,7 @@ use jpa_rows::RowSource;
 use jpa_stored::StoredSet;
 use jpa_undo::UndoList;
 use jpa_value::{Cause, Seq};
+use jpql_tree::Language;
 use std::alloc::{AllocError, Global};
 use std::marker::Model;
 
@@ -132,6 +133,14 @@ impl<R: RowSource + Drop, B: Behaviour> Provider<R, B> {
 }
 
 impl<R: RowSource, B: Behaviour> Provider<R, B> {
+    /// The language of its queries and of what is handed in for their parameters (Jakarta Persistence
+    /// 3.1, chapter 4). Takes no memory.
+    pub fn language(&self) -> Language
+        ensures { result ≡ self.now.registry.language }
+    {
+        self.unit.registry.language()
+    }
+
     /// How many SELECTs its store has run since it was opened, up to the greatest u64. No call runs
     /// one. Takes no memory.
     pub fn selects(&self) -> u64

@@ -9,7 +9,6 @@ ghost use Rattle.jpa_flush.specs.Flush.{flush_if};
 ghost use Rattle.jpa_updates.specs.Updates.{StaysSound};
 ghost use Rattle.jpa_machine.specs.Updating.{MakesRepresentable};
 ghost use Rattle.jpa_context.specs.Undo.{now, since};
-ghost use Rattle.jpa_heap.specs.Shape.{IsInHeap};
 ghost use Rattle.jpa_protocol.specs.declared.call.Call.{Call};
 ghost use Rattle.jpa_machine.specs.Faults.{tells_fault};
 ghost use Rattle.jpa_machine.specs.Machine as machine;
@@ -23,104 +22,38 @@ ghost use Rattle.jpa_queries.specs.Premises.{StaysReady};
 ghost use Rattle.jpa_value.specs.declared.refusal.Cause.{Cause};
 
 use crate::at_work::{conclude, manager_named, take_work};
-use crate::handing::{is_short_given, place_of};
+use crate::parameters::{bound, lists_of};
 use crate::replies::{Rule, because};
 use crate::session::{Session, Status, mode_of, status_of};
-use jpa_asked::{Asked, Binding};
+use jpa_asked::Asked;
 use jpa_behaviour::{Behaviour, ServedUnit};
 use jpa_context::UnitOfWork;
-use jpa_heap::Handed;
-use jpa_protocol::{Answer, Call, FlushMode, Given, Parameter, Reply};
+use jpa_protocol::{Answer, Call, FlushMode, Parameter, Reply};
 use jpa_queries::{query, query_single};
 use jpa_updates::execute_update;
-use jpa_value::{Cause, Seq, Text, TryCopy};
+use jpa_value::{Cause, Seq, Text};
 use jpql_tree::Language;
 use std::alloc::Global;
-
-/// What is handed in for a parameter; none where a number names no object.
-fn handed_in(work: &UnitOfWork, given: &Given) -> Result<Option<Handed>, Cause>
-    ensures ok { IfOk result
-        (λ handed. handed ≡ querying.handed_in (length work.now.objects.now) given.now) }
-    ensures within { IfOk result (λ handed. IfSome handed (IsInHeap work.now.objects.now)) }
-    ensures err { IfErr result (λ cause. cause ≡ Cause.OutOfMemory) }
-{
-    match given {
-        Given::Plain(value) => Ok(Some(Handed::Plain(value.try_copy()?))),
-        Given::Object(number) => match place_of(work.objects.len(), *number) {
-            Some(place) => Ok(Some(Handed::Object(place))),
-            None => Ok(None),
-        },
-    }
-}
-
-/// What is bound to parameters; none where a number names no object.
-fn bindings_in(
-    alloc: Global,
-    work: &UnitOfWork,
-    parameters: &[Parameter],
-) -> Result<Option<Seq<Binding>>, Cause>
-    ensures ok { IfOk result (λ bindings. bindings
-        ≡ querying.bindings_in (length work.now.objects.now) parameters.now) }
-    ensures within { IfOk result
-        (λ bindings. IfSome bindings (AreInHeap work.now.objects.now)) }
-    ensures err { IfErr result (λ cause. cause ≡ Cause.OutOfMemory) }
-{
-    let mut bindings = Seq::new(alloc);
-    for parameter in parameters {
-        match handed_in(work, &parameter.value)? {
-            Some(value) => bindings.push(Binding {
-                name: parameter.name.try_copy()?,
-                value,
-            })?,
-            None => return Ok(None),
-        }
-    }
-    Ok(Some(bindings))
-}
-
-/// Whether all values that are bound are short enough.
-fn are_short(parameters: &[Parameter]) -> bool
-    ensures { result ≡ querying.are_short parameters.now }
-{
-    for parameter in parameters {
-        if !is_short_given(&parameter.value) {
-            return false;
-        }
-    }
-    true
-}
-
-/// What is bound to a call's parameters: `NoSuchObject` where a number names no object, then
-/// `Limit` where a value is too long; `OutOfMemory`.
-fn bound(alloc: Global, work: &UnitOfWork, parameters: &[Parameter]) -> Result<Seq<Binding>, Cause>
-    ensures meets { Meets result (now work.now) (querying.bound parameters.now (now work.now)) }
-    ensures within { IfOk result (AreInHeap work.now.objects.now) }
-{
-    let Some(bindings) = bindings_in(alloc, work, parameters)? else {
-        return Err(Cause::NoSuchObject);
-    };
-    if !are_short(parameters) {
-        return Err(Cause::Limit);
-    }
-    Ok(bindings)
-}
 
 /// What a call asks, with what is bound to its parameters. Refused as `bound` is.
 fn asked_of(
     alloc: Global,
     work: &UnitOfWork,
+    language: Language,
     text: Text,
     parameters: Seq<Parameter>,
     first: Option<i64>,
     max: Option<i64>,
 ) -> Result<Asked, Cause>
     ensures meets { Meets result (now work.now)
-        (querying.asked_of text parameters first max (now work.now)) }
+        (querying.asked_of language text parameters first max (now work.now)) }
     ensures bound { IfOk result (λ asked. AreInHeap work.now.objects.now asked.bindings) }
 {
     let bindings = bound(alloc, work, parameters.as_slice())?;
+    let lists = lists_of(alloc, parameters.as_slice())?;
     Ok(Asked {
-        language: Language::Profile,
+        language,
+        lists,
         text,
         bindings,
         first,
@@ -143,6 +76,7 @@ fn query_work<B: Behaviour>(
         Meets result (now work.new) (by_query call flushes world (now work.old)) }
     ensures since { since work.new ≡ since work.old }
 {
+    let language = unit.registry.language();
     match call {
         Call::Query {
             text,
@@ -151,7 +85,7 @@ fn query_work<B: Behaviour>(
             max,
             ..
         } => {
-            let asked = asked_of(alloc, work, text, parameters, first, max)?;
+            let asked = asked_of(alloc, work, language, text, parameters, first, max)?;
             let rows = query(alloc, unit, work, flushes, &asked)?;
             Ok(Answer::Rows(rows))
         }
@@ -162,7 +96,7 @@ fn query_work<B: Behaviour>(
             max,
             ..
         } => {
-            let asked = asked_of(alloc, work, text, parameters, first, max)?;
+            let asked = asked_of(alloc, work, language, text, parameters, first, max)?;
             let row = query_single(alloc, unit, work, flushes, &asked)?;
             Ok(Answer::Row(row))
         }
@@ -240,17 +174,17 @@ fn update_work<B: Behaviour>(
     ensures since { since work.new ≡ since work.old }
 {
     let bindings = bound(alloc, work, parameters.as_slice())?;
-    let bindings = bindings.as_slice();
-    let text = text.as_str();
+    let lists = lists_of(alloc, parameters.as_slice())?;
     let count = execute_update(
         alloc,
         unit,
         work,
         is_active,
         flushes,
-        Language::Profile,
-        text,
-        bindings,
+        unit.registry.language(),
+        lists.as_slice(),
+        text.as_str(),
+        bindings.as_slice(),
     )?;
     Ok(Answer::Number(count as u64))
 }

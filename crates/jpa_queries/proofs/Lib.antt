@@ -1,3 +1,5 @@
 mod Examples
 mod Rows
 mod Viewed
+mod Enough
+mod Judging

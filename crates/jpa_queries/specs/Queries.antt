@@ -17,6 +17,7 @@ use Rattle.jpql_eval.specs.declared.datum.Datum.{Datum}
 use Rattle.jpql_eval.specs.Answers.{Answer, gives, overflows}
 use Rattle.jpql_plan.specs.Selection.{selected}
 use Rattle.jpa_asked.specs.declared.asked.Asked.{Asked}
+use Rattle.jpa_asked.specs.declared.asked.Statement.{Statement}
 use Rattle.jpa_asked.specs.Asking.{give_or, read_of, statement_of, select_in}
 
 -- ---- the cut
@@ -50,14 +51,19 @@ abbrev pub answer : {A : Type 0} → Answer A → Op A
 answer (gives x) = give x
 answer overflows = refuse Cause.Overflow
 
+-- the SELECT that a statement is, with what stands for its parameters
+abbrev pub select_asked : Statement → Op (TypedSelect × List Datum)
+select_asked statement = do
+  select ← give_or (Cause.IllegalState State.Statement) (select_in statement.typed)
+  give (select, statement.arguments)
+
 -- a SELECT, with what stands for its parameters
 abbrev pub judged : PersistenceUnit → Asked → Op (TypedSelect × List Datum)
 judged m call = do
-  tree ← read_of call.language call.text
+  said ← read_of call.language call.lists call.text
   require (is_count call.first && is_count call.max) (Cause.IllegalArgument Argument.Range)
-  statement ← statement_of m tree call.bindings
-  select ← give_or (Cause.IllegalState State.Statement) (select_in statement.typed)
-  give (select, statement.arguments)
+  statement ← statement_of m said call.lists call.bindings
+  select_asked statement
 
 -- what a SELECT gives over the set that the manager sees
 abbrev pub table_of : PersistenceUnit → TypedSelect → List Datum → Op (List (List Datum))

@@ -1,7 +1,9 @@
 //! The rows of a SELECT that are asked, kept.
-ghost use Rattle.std.specs.Prelude.{◌≡◌, drop, IfOk, IfErr};
+ghost use Rattle.std.specs.Prelude.{◌≡◌, ◌<◌, ◌^◌, drop, take, IfOk, IfErr, IfSome, List};
 ghost use Rattle.jpa_value.specs.declared.refusal.Cause.{Cause};
 ghost use Rattle.jpa_queries.specs.Queries as queries;
+ghost use Rattle.jpql_eval.specs.declared.datum.Datum.{Datum};
+ghost use Rattle.jpql_first.specs.First.{first_of};
 ghost use Rattle.jpql_select.specs.Tables.{rows_in};
 
 use jpa_value::{Cause, Seq, TryCopy};
@@ -16,6 +18,40 @@ pub(crate) fn is_count(number: Option<i64>) -> bool
     match number {
         None => true,
         Some(number) => number >= 0,
+    }
+}
+
+/// How many rows are skipped.
+fn skips(first: Option<i64>) -> usize
+    ensures rows { (rows : List (List Datum)) → queries.skipped first rows ≡ drop result rows }
+    ensures below { result < 2 ^ 63 }
+{
+    match first {
+        Some(first) if first > 0 => first as usize,
+        _ => 0,
+    }
+}
+
+/// How many rows are kept at most, where a number is asked.
+fn keeps(max: Option<i64>) -> Option<usize>
+    ensures rows { IfSome result (λ count.
+        (rows : List (List Datum)) → queries.limited max rows ≡ take count rows) }
+    ensures below { IfSome result (λ count. count < 2 ^ 63) }
+{
+    match max {
+        Some(max) if max >= 0 => Some(max as usize),
+        _ => None,
+    }
+}
+
+/// How many of the first rows are enough for those that are asked; all, where no number is.
+pub(crate) fn wanted(first: Option<i64>, max: Option<i64>) -> Option<usize>
+    ensures { (rows : List (List Datum)) →
+        queries.cut first max (first_of result rows) ≡ queries.cut first max rows }
+{
+    match keeps(max) {
+        Some(kept) => Some(skips(first) + kept),
+        None => None,
     }
 }
 

@@ -3,13 +3,14 @@ ghost use Rattle.std.specs.Prelude.{OnOk};
 ghost use Rattle.jpa_behaviour.specs.Served.{world_of_unit};
 ghost use Rattle.jpa_context.specs.Steps.{Meets};
 ghost use Rattle.jpa_context.specs.Undo.{now};
+ghost use Rattle.jpa_context.specs.Work.{Work};
 ghost use Rattle.jpa_fetch.specs.Grown.{IsReady};
 ghost use Rattle.jpa_flush.specs.Passes.{IsFlushable, Performs};
 ghost use Rattle.jpa_asked.specs.Premises.{AreInHeap};
 ghost use Rattle.jpa_queries.specs.Premises.{IsReadyToAsk, StaysReady};
 ghost use Rattle.jpa_queries.specs.Queries as queries;
 
-use crate::cut::{cut, is_count};
+use crate::cut::{cut, is_count, wanted};
 use crate::results::{row_of, rows_of};
 use jpa_asked::{Asked, Statement, read_of, statement_of};
 use jpa_behaviour::{Behaviour, ServedUnit};
@@ -19,9 +20,21 @@ use jpa_model::Metamodel;
 use jpa_protocol::Item;
 use jpa_value::{Argument, Cause, Seq, State};
 use jpql_eval::{Datum, Failure};
-use jpql_select::select as run_select;
+use jpql_first::select_first;
 use jpql_types::{Typed, TypedSelect};
 use std::alloc::Global;
+
+/// The SELECT that a statement is, with what stands for its parameters; `IllegalState(statement)` for
+/// one that is no SELECT.
+fn select_asked(statement: Statement) -> Result<(TypedSelect, Seq<Datum>), Cause>
+    ensures meets { (w : Work) → Meets result w (queries.select_asked statement w) }
+{
+    let Statement { typed, arguments } = statement;
+    match typed {
+        Typed::Select(select) => Ok((select, arguments)),
+        Typed::Update { .. } | Typed::Delete { .. } => Err(Cause::IllegalState(State::Statement)),
+    }
+}
 
 /// The SELECT that is asked, with what stands for its parameters.
 ///
@@ -39,16 +52,14 @@ fn judged(
     ensures meets { Meets result (now work.now)
         (queries.judged metamodel.now asked.now (now work.now)) }
 {
-    let tree = read_of(alloc, asked.language, asked.text.as_str())?;
+    let lists = asked.lists.as_slice();
+    let said = read_of(alloc, asked.language, lists, asked.text.as_str())?;
     if !is_count(asked.first) || !is_count(asked.max) {
         return Err(Cause::IllegalArgument(Argument::Range));
     }
     let bindings = asked.bindings.as_slice();
-    let Statement { typed, arguments } = statement_of(alloc, metamodel, work, tree, bindings)?;
-    match typed {
-        Typed::Select(select) => Ok((select, arguments)),
-        Typed::Update { .. } | Typed::Delete { .. } => Err(Cause::IllegalState(State::Statement)),
-    }
+    let statement = statement_of(alloc, metamodel, work, said, lists, bindings)?;
+    select_asked(statement)
 }
 
 /// The rows of a SELECT over the set that a manager sees, without the first ones, and at most so
@@ -66,7 +77,8 @@ fn rows_found(
     ensures meets { Meets result (now work.now) (queries.rows_found metamodel.now select.now
         arguments.now first max (now work.now)) }
 {
-    match run_select(alloc, metamodel, &work.view, arguments, select) {
+    let count = wanted(first, max);
+    match select_first(alloc, metamodel, &work.view, arguments, select, count) {
         Ok(table) => cut(alloc, first, max, table),
         Err(Failure::Overflow) => Err(Cause::Overflow),
         Err(Failure::Memory) => Err(Cause::OutOfMemory),

@@ -1,3 +1,4 @@
 mod Revised
 mod Looked
 mod Kept
+mod Selected

@@ -4,3 +4,4 @@ pub mod Plans
 pub mod Parameters
 pub mod Questions
 pub mod Lines
+pub mod Telling

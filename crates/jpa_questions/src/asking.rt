@@ -27,8 +27,8 @@ use std::alloc::Global;
 /// Where the store is clean at the end, and its rows are those of a set that a store can hold,
 /// these are what the SELECT gives over that set: in its order, or the same `Overflow`. A store of
 /// another revision than the unit's is `Damaged`, told by the row of the revision, before any other
-/// row is read; rows of no such set are `Damaged` too, where all are read. `OutOfMemory` where a growth was refused,
-/// and `StoreFault` as the store answers it.
+/// row is read; rows of no such set are `Damaged` too, where all are read. `OutOfMemory` where a
+/// growth was refused, and `StoreFault` as the store answers it.
 ///
 /// The row of the revision is looked at, and then one row for a SELECT that asks one object by its
 /// key, else each table of the metamodel. Nothing is written.

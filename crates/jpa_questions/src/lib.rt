@@ -10,18 +10,21 @@
 #![tactic(auto)]
 
 mod asking;
+mod bound;
 mod line;
 mod parameter;
 mod plan;
 mod question;
 mod revision;
 mod store;
+mod telling;
 mod unit;
 
 pub use asking::ask;
 pub use line::{write_row, write_rows};
-pub use parameter::{Misgiven, Parameter, read_parameters};
+pub use parameter::{Misgiven, Parameter, ParameterValue, read_parameters};
 pub use plan::write_plan;
 pub use question::{Question, read_question};
 pub use store::ask_store;
+pub use telling::{Untold, tell_rows};
 pub use unit::check_unit;

@@ -1,14 +1,15 @@
 //! The question that a text asks.
-ghost use Rattle.std.specs.Prelude.{◌≡◌, ◌⊎◌, IfOk, IfErr, map};
+ghost use Rattle.std.specs.Prelude.{◌≡◌, ◌⊎◌, ◌&&◌, IfOk, IfErr, map};
+ghost use Rattle.std.specs.List.{list_all};
 ghost use Rattle.jpa_value.specs.declared.refusal.Cause.{Cause};
 ghost use Rattle.jpa_questions.specs.Questions as spec;
 
+use crate::bound::{Bound, are_short, bound_of, have_no_comma, lists_of};
 use crate::parameter::Parameter;
 use jpa_model::Metamodel;
-use jpa_rows::is_short;
-use jpa_value::{Cause, Kind, Seq, State, Text, TryCopy, Value};
+use jpa_value::{Argument, Cause, Kind, Seq, State, Text, TryCopy, Value};
 use jpql_eval::Datum;
-use jpql_text::read_query;
+use jpql_text::{read_query, uses_lists};
 use jpql_tree::Language;
 use jpql_types::{ParamType, Sort, Typed, TypedSelect, check_query};
 use std::alloc::Global;
@@ -32,36 +33,26 @@ fn sort_of(value: &Value) -> ParamType
     }
 }
 
-/// Whether each parameter has at most as many bytes as a value may have.
-fn are_short(parameters: &[Parameter]) -> bool
-    ensures { result ≡ spec.are_short parameters.now }
-{
-    parameters
-        .iter()
-        .all(|parameter| is_short(&parameter.value))
-}
-
-/// What the parameters are of, by their names. Fails for want of memory alone, with `OutOfMemory`.
-fn sorts_of(alloc: Global, parameters: &[Parameter]) -> Result<Seq<(Text, ParamType)>, Cause>
-    ensures ok { IfOk result (λ sorts. sorts ≡ map spec.named_sort parameters.now) }
+/// What is bound is of, by its names. Fails for want of memory alone, with `OutOfMemory`.
+fn sorts_of(alloc: Global, bound: &[Bound]) -> Result<Seq<(Text, ParamType)>, Cause>
+    ensures ok { IfOk result (λ sorts. sorts ≡ map spec.named_sort bound.now) }
     ensures err { IfErr result (λ cause. cause ≡ Cause.OutOfMemory) }
 {
     let mut sorts = Seq::new(alloc);
-    for parameter in parameters {
-        let sort = sort_of(&parameter.value);
-        sorts.push((parameter.name.try_copy()?, sort))?;
+    for one in bound {
+        sorts.push((one.name.try_copy()?, sort_of(&one.value)))?;
     }
     Ok(sorts)
 }
 
 /// What stands for the parameters, by place. Fails for want of memory alone, with `OutOfMemory`.
-fn arguments_of(alloc: Global, parameters: &[Parameter]) -> Result<Seq<Datum>, Cause>
-    ensures ok { IfOk result (λ arguments. arguments ≡ map spec.argument_of parameters.now) }
+fn arguments_of(alloc: Global, bound: &[Bound]) -> Result<Seq<Datum>, Cause>
+    ensures ok { IfOk result (λ arguments. arguments ≡ map spec.argument_of bound.now) }
     ensures err { IfErr result (λ cause. cause ≡ Cause.OutOfMemory) }
 {
     let mut arguments = Seq::new(alloc);
-    for parameter in parameters {
-        arguments.push(Datum::Plain(parameter.value.try_copy()?))?;
+    for one in bound {
+        arguments.push(Datum::Plain(one.value.try_copy()?))?;
     }
     Ok(arguments)
 }
@@ -76,32 +67,52 @@ fn select_in(typed: Typed) -> Result<TypedSelect, Cause>
     }
 }
 
-/// The SELECT that a text asks with these parameters; refused as `read_question` refuses a text.
+/// The same, where each collection stands behind IN, and no parameter has a name that its values
+/// have; `IllegalArgument(parameter)` else.
+fn select_if(uses_lists: bool, parameters: &[Parameter], typed: Typed) -> Result<TypedSelect, Cause>
+    ensures { result
+        ≡ spec.select_if (uses_lists && list_all spec.has_no_comma parameters.now) typed }
+{
+    if uses_lists && have_no_comma(parameters) {
+        select_in(typed)
+    } else {
+        drop(typed);
+        Err(Cause::IllegalArgument(Argument::Parameter))
+    }
+}
+
+/// The SELECT that a text asks with these parameters, of which this is bound; refused as
+/// `read_question` refuses a text.
 fn read_select(
     alloc: Global,
     metamodel: &Metamodel,
     language: Language,
     text: &str,
     parameters: &[Parameter],
+    bound: &[Bound],
 ) -> Result<TypedSelect, Cause>
+    requires { bound.now ≡ spec.bound_of parameters.now }
     ensures asked { IfOk result (spec.Selects metamodel.now language text.now parameters.now) }
     ensures refused { IfErr result (λ cause. (cause ≡ Cause.OutOfMemory)
         ⊎ spec.IsTextRefused metamodel.now language text.now parameters.now cause) }
 {
-    let tree = read_query(alloc, language, text)?;
-    let sorts = sorts_of(alloc, parameters)?;
+    let lists = lists_of(alloc, parameters)?;
+    let tree = read_query(alloc, language, lists.as_slice(), text)?;
+    let uses = uses_lists(alloc, language, lists.as_slice(), text)?;
+    let sorts = sorts_of(alloc, bound)?;
     let typed = check_query(alloc, metamodel, tree, sorts.as_slice())?;
-    select_in(typed)
+    select_if(uses, parameters, typed)
 }
 
 /// The question that a text of a language asks with these parameters, judged as a provider's query
 /// is (Jakarta Persistence 3.1, chapters 3.10.1, 3.10.12 and 4).
 ///
-/// In this order: `Limit` for a parameter of more than 65,535 bytes, then for a text that is too
-/// long, nests too deep or declares too many variables; `IllegalArgument` with `Syntax` for a text
-/// outside the grammar, `Typing` for an ill-typed one, `Parameter` where a parameter isn't given,
-/// or one is given that isn't in the text; `IllegalState(statement)` for a statement that is no
-/// SELECT. `OutOfMemory` where a growth was refused.
+/// In this order: `Limit` for a value of more than 65,535 bytes or a collection of more than 4,096
+/// values, then for a text that is too long, nests too deep, in which collections become too many
+/// values, or that declares too many variables; `IllegalArgument` with `Syntax` for a text outside
+/// the grammar, `Typing` for an ill-typed one, `Parameter` where a parameter isn't given, one is
+/// given that isn't in the text, or a collection stands nowhere behind IN; `IllegalState(statement)`
+/// for a statement that is no SELECT. `OutOfMemory` where a growth was refused.
 pub fn read_question(
     alloc: Global,
     metamodel: &Metamodel,
@@ -116,7 +127,15 @@ pub fn read_question(
     if !are_short(parameters) {
         return Err(Cause::Limit);
     }
-    let select = read_select(alloc, metamodel, language, text, parameters)?;
-    let arguments = arguments_of(alloc, parameters)?;
+    let bound = bound_of(alloc, parameters)?;
+    let select = read_select(
+        alloc,
+        metamodel,
+        language,
+        text,
+        parameters,
+        bound.as_slice(),
+    )?;
+    let arguments = arguments_of(alloc, bound.as_slice())?;
     Ok(Question { select, arguments })
 }

@@ -10,7 +10,7 @@ use Rattle.clap.proofs.OnLiterals.{clap_on_literals}
 use Rattle.jpa_value.specs.declared.refusal.Cause.{Cause}
 use Rattle.jpa_value.specs.declared.refusal.Refusal.{Refusal}
 use Rattle.jpa_settings.specs.declared.stop.Stop.{Stop}
-use Rattle.jpa_settings.specs.Words.{Asks, SaysWords, Tells, TellsOf, command, has_flag, is_set, lack_of, lacking, value_of, values_of}
+use Rattle.jpa_settings.specs.Words.{SaysWords, Tells, TellsOf, command, found, is_set, lack_of, lacking, said, value_of, values_of}
 use Rattle.jpa_settings.specs.declared.settings.Settings.{Settings}
 use Rattle.jpa_settings.proofs.OneFault.{one_fault}
 
@@ -22,10 +22,10 @@ free : is_simple_and_free command ≡ true
 unfolding clap_on_literals
 free = refl
 
-pub value_read : (c : App) (words : List Text) (m : ArgMatches) (name : Text) → c ≡ command → HasMatchesOf c words m → first_value (found_of m) name ≡ value_of name words
+value_read : (c : App) (words : List Text) (m : ArgMatches) (name : Text) → c ≡ command → HasMatchesOf c words m → first_value (found_of m) name ≡ value_of name words
 value_read c words m name is h = first_value-rows (found_of m) name ∙ ap (first_of name) ((h (ap is_simple is ∙ simple)).0 ∙ ap (λ a. matches_of a words) is)
 
-pub values_read : (c : App) (words : List Text) (m : ArgMatches) (name : Text) → c ≡ command → HasMatchesOf c words m
+values_read : (c : App) (words : List Text) (m : ArgMatches) (name : Text) → c ≡ command → HasMatchesOf c words m
     → unwrap_or (option_map raw_values (matched_of (found_of m) name)) [] ≡ values_of name words
 values_read c words m name is h =
     ap (λ (o : Option (List Text)). unwrap_or o [])
@@ -48,25 +48,21 @@ told_words c words error stop is kinds memory tells =
 
 -- ---- what is found of all options
 
-module _ (c : App) (words : List Text) (m : ArgMatches) (s : Settings) (is : c ≡ command) (h : HasMatchesOf c words m)
-    (query : s.query ≡ first_value (found_of m) (codes "query")) (params : s.params ≡ unwrap_or (option_map raw_values (matched_of (found_of m) (codes "param"))) [])
-    (explain : s.explain ≡ is_set (first_value (found_of m) (codes "explain"))) (language : s.language ≡ first_value (found_of m) (codes "language")) where
-  pub asked : Asks words s
-  asked = record {
-    query = query ∙ value_read c words m (codes "query") is h;
-    params = params ∙ values_read c words m (codes "param") is h;
-    explain = explain ∙ ap is_set (value_read c words m (codes "explain") is h);
-    language = language ∙ value_read c words m (codes "language") is h;
-  }
+module _ (c : App) (words : List Text) (m : ArgMatches) (s : Settings) (is : c ≡ command) (h : HasMatchesOf c words m) (e : s ≡ found m) where
+  pub as_said : s ≡ said words
+  as_said = e ∙ (λ i. record {
+    mapping = value_read c words m (codes "mapping") is h i;
+    db = value_read c words m (codes "db") is h i;
+    query = value_read c words m (codes "query") is h i;
+    params = values_read c words m (codes "param") is h i;
+    explain = is_set (value_read c words m (codes "explain") is h i);
+    language = value_read c words m (codes "language") is h i;
+    grammar = is_set (value_read c words m (codes "grammar") is h i);
+  })
 
   -- what the settings lack is what the words lack
-  pub lack_read : (db : Option Text) → db ≡ first_value (found_of m) (codes "db") → lacking s.query db s.params s.explain s.language ≡ lack_of words
-  lack_read db of_db =
-      ap (λ q. lacking q db s.params s.explain s.language) asked.query
-      ∙ ap (λ d. lacking (value_of (codes "query") words) d s.params s.explain s.language) (of_db ∙ value_read c words m (codes "db") is h)
-      ∙ ap (λ ps. lacking (value_of (codes "query") words) (value_of (codes "db") words) ps s.explain s.language) asked.params
-      ∙ ap (λ e. lacking (value_of (codes "query") words) (value_of (codes "db") words) (values_of (codes "param") words) e s.language) asked.explain
-      ∙ ap (lacking (value_of (codes "query") words) (value_of (codes "db") words) (values_of (codes "param") words) (has_flag (codes "explain") words)) asked.language
+  pub lack_read : lacking s ≡ lack_of words
+  lack_read = ap lacking as_said
 
 -- words that lack an option are refused in these words, or for want of memory
 pub told_lack : (words : List Text) (said : Text) (stop : Stop) → fault_of command words ≡ [] → lack_of words ≡ Some said

@@ -1,13 +1,14 @@
--- The command line: options with values, and a flag. How words are read is clap's, and so are the
+-- The command line: options with values, and flags. How words are read is clap's, and so are the
 -- faults of words.
 use Rattle.std.specs.Prelude.{◌≡◌, ◌⊎◌, ◌||◌, Bool, List, [], ◌∷◌, ◌++◌, Option, Some, None, true, false, codes}
-use Rattle.std.specs.Prelude.{if◌then◌else◌, is_some, unwrap_or}
+use Rattle.std.specs.Prelude.{if◌then◌else◌, is_none, length, not, option_map, unwrap_or, ◌&&◌, ◌==◌}
 use Rattle.std.specs.Str.{bytes_eq}
 use Rattle.std.specs.String.{string_bytes}
-use Rattle.clap.specs.Words.{App, Kinds, Rule, Text, all_of, fault_of, first_of, matches_of, new_app, new_rule}
-use Rattle.clap.specs.Words.{with_rule}
+use Rattle.clap.specs.Words.{App, Kinds, Rule, Text, all_of, fault_of, first_of, first_value, found_of, matched_of}
+use Rattle.clap.specs.Words.{matches_of, new_app, new_rule, raw_values, with_rule}
 use Rattle.clap.specs.declared.builder.action.ArgAction.TheVariants.{Append, SetTrue}
 use Rattle.clap.specs.declared.error.kind.ErrorKind.{ErrorKind}
+use Rattle.clap.specs.declared.parser.matches.ArgMatches.{ArgMatches}
 use Rattle.clap.specs.declared.error.kind.ErrorKind.TheVariants.{DisplayHelp, DisplayVersion}
 use Rattle.jpa_value.specs.declared.refusal.Cause.{Cause}
 use Rattle.jpa_value.specs.declared.refusal.Refusal.{Refusal}
@@ -34,11 +35,15 @@ plain = let bare = new_app (codes "jpa") in record bare { top = record bare.top 
 abbrev pub with_files : App
 with_files = with_rule (with_rule plain (option_rule (codes "mapping"))) (option_rule (codes "db"))
 
--- the program with its files, and with a question: --query, --param, --explain and --language
-abbrev pub command : App
-command =
+-- the program with its files and with a question: --query, --param and --explain
+abbrev pub with_question : App
+with_question =
     let asked = with_rule (with_rule with_files (option_rule (codes "query"))) (repeated_rule (codes "param")) in
-    with_rule (with_rule asked (flag_rule (codes "explain"))) (option_rule (codes "language"))
+    with_rule asked (flag_rule (codes "explain"))
+
+-- the same with the language of queries and its grammar: --language and --grammar
+abbrev pub command : App
+command = with_rule (with_rule with_question (option_rule (codes "language"))) (flag_rule (codes "grammar"))
 
 -- the value that the words give an option, if they give one; the first word is the program's own
 -- name
@@ -94,9 +99,9 @@ param_needs_query = codes "error: '--param <NAME=VALUE>' needs '--query <TEXT>'"
 abbrev pub explain_needs_query : Text
 explain_needs_query = codes "error: '--explain' needs '--query <TEXT>'" ++ hint
 
--- what is said of a language without a query
-abbrev pub language_needs_query : Text
-language_needs_query = codes "error: '--language <NAME>' needs '--query <TEXT>'" ++ hint
+-- what is said of the grammar beside another option than a language
+abbrev pub grammar_stands_alone : Text
+grammar_stands_alone = codes "error: '--grammar' stands alone, or with '--language <NAME>'" ++ hint
 
 -- what is said of a language that there isn't
 abbrev pub language_is_unknown : Text
@@ -106,36 +111,68 @@ language_is_unknown = codes "error: '--language <NAME>' is 'profile' or 'wide'" 
 abbrev pub is_language : Text → Bool
 is_language name = bytes_eq name (codes "profile") || bytes_eq name (codes "wide")
 
--- what is said of the language of a query
+-- what is said of a language that there isn't, where one is named
 abbrev pub unknown : Option Text → Option Text
 unknown None = None
 unknown (Some name) = if is_language name then None else Some language_is_unknown
 
--- what is said of parameters, of a plan, or of a language, without a query
-abbrev pub stray : List Text → Bool → Option Text → Option Text
-stray (param ∷ params) explain language = Some param_needs_query
-stray [] explain None = if explain then Some explain_needs_query else None
-stray [] explain (Some name) = if explain then Some explain_needs_query else Some language_needs_query
+-- what is said of parameters or of a plan without a query
+abbrev pub stray : List Text → Bool → Option Text
+stray (param ∷ params) explain = Some param_needs_query
+stray [] explain = if explain then Some explain_needs_query else None
 
--- a query asks a store's file, and its language is one; parameters, a plan and a language are those of
--- a query; what is said else
-abbrev pub lacking : Option Text → Option Text → List Text → Bool → Option Text → Option Text
-lacking (Some query) db params explain language = if is_some db then unknown language else Some query_needs_db
-lacking None db params explain language = stray params explain language
+-- a query asks a store's file; parameters and a plan are those of a query; what is said else
+abbrev pub needing : Option Text → Option Text → List Text → Bool → Option Text
+needing (Some query) (Some db) params explain = None
+needing (Some query) None params explain = Some query_needs_db
+needing None db params explain = stray params explain
+
+-- whether nothing is said of what is served or asked
+abbrev pub is_bare : Settings → Bool
+is_bare s = is_none s.mapping && is_none s.db && is_none s.query && (length s.params == 0) && not s.explain
+
+-- the grammar goes with a language alone, and no option stands without the one that it needs; what is
+-- said else
+abbrev pub alone : Settings → Option Text
+alone s = if s.grammar && not (is_bare s) then Some grammar_stands_alone else needing s.query s.db s.params s.explain
+
+-- what is said first, else the other
+abbrev pub said_first : Option Text → Option Text → Option Text
+said_first None other = other
+said_first (Some said) other = Some said
+
+-- each option stands with those that it goes with, and the language of queries is one; what is said
+-- else
+abbrev pub lacking : Settings → Option Text
+lacking s = said_first (alone s) (unknown s.language)
+
+-- what clap found of the options
+abbrev pub found : ArgMatches → Settings
+found matches = record {
+  mapping = first_value (found_of matches) (codes "mapping");
+  db = first_value (found_of matches) (codes "db");
+  query = first_value (found_of matches) (codes "query");
+  params = unwrap_or (option_map raw_values (matched_of (found_of matches) (codes "param"))) [];
+  explain = is_set (first_value (found_of matches) (codes "explain"));
+  language = first_value (found_of matches) (codes "language");
+  grammar = is_set (first_value (found_of matches) (codes "grammar"));
+}
+
+-- what the words say
+abbrev pub said : List Text → Settings
+said words = record {
+  mapping = value_of (codes "mapping") words;
+  db = value_of (codes "db") words;
+  query = value_of (codes "query") words;
+  params = values_of (codes "param") words;
+  explain = has_flag (codes "explain") words;
+  language = value_of (codes "language") words;
+  grammar = has_flag (codes "grammar") words;
+}
 
 -- what the words lack
 abbrev pub lack_of : List Text → Option Text
-lack_of words =
-    lacking (value_of (codes "query") words) (value_of (codes "db") words) (values_of (codes "param") words)
-    (has_flag (codes "explain") words) (value_of (codes "language") words)
-
--- the settings ask what the words say: the query, its parameters, whether its plan is asked, and its
--- language
-pub record Asks (words : List Text) (settings : Settings) : Type 0 where
-  pub query : settings.query ≡ value_of (codes "query") words
-  pub params : settings.params ≡ values_of (codes "param") words
-  pub explain : settings.explain ≡ has_flag (codes "explain") words
-  pub language : settings.language ≡ value_of (codes "language") words
+lack_of words = lacking (said words)
 
 -- clap finds no fault in the words, and they lack no option
 pub record AreTaken (words : List Text) : Type 0 where

@@ -1,12 +1,13 @@
 //! The words of the command line.
-ghost use Rattle.std.specs.Prelude.{◌≡◌, ◌⊎◌, [], ◌∷◌, None, IfOk, IfErr, OnOk, codes, map, option_map, true, false, unwrap_or};
+ghost use Rattle.std.specs.Prelude.{◌≡◌, ◌⊎◌, [], ◌∷◌, None, IfOk, IfErr, OnOk, codes, map};
+ghost use Rattle.std.specs.Prelude.{option_map, true, false, unwrap_or};
 ghost use Rattle.std.specs.String.{string_bytes};
-ghost use Rattle.clap.specs.Words.{app_of, first_value, found_of, kind_of, matched_of, raw_values, rule_of, takes};
+ghost use Rattle.clap.specs.Words.{app_of, kind_of, rule_of, takes};
 ghost use Rattle.clap.specs.declared.error.kind.ErrorKind.{ErrorKind};
 ghost use Rattle.jpa_value.specs.declared.refusal.Cause.{Cause};
 ghost use Rattle.jpa_value.specs.declared.refusal.Refusal.{Refusal};
 ghost use Rattle.jpa_settings.specs.declared.stop.Stop.{Stop};
-ghost use Rattle.jpa_settings.specs.Words.{AreTaken, Asks, Tells, TellsOf, command, lack_of, value_of};
+ghost use Rattle.jpa_settings.specs.Words.{AreTaken, Tells, TellsOf, command, lack_of, said};
 ghost use Rattle.jpa_settings.specs.Words as words;
 
 use crate::stop::Stop;
@@ -28,8 +29,10 @@ pub struct Settings {
     pub params: Seq<Text>,
     /// Whether its plan is asked, in place of its rows.
     pub explain: bool,
-    /// The language of its text, where it is said: `profile` or `wide`.
+    /// The language of queries, where it is said: `profile` or `wide`.
     pub language: Option<Text>,
+    /// Whether its grammar is asked.
+    pub grammar: bool,
 }
 
 /// The program with its files, as clap reads it.
@@ -70,7 +73,7 @@ fn param_option<'a>(alloc: Global) -> Arg<'a>
         .long("param")
         .value_name("NAME=VALUE")
         .action(ArgAction::Append)
-        .help("The value of a parameter of the query, as JSON; once for each")
+        .help("The value of a parameter of the query, or a list of values, as JSON; once for each")
 }
 
 /// The flag that asks for the plan of the SELECT.
@@ -84,7 +87,7 @@ fn explain_flag<'a>(alloc: Global) -> Arg<'a>
         .help("Tells how the query is answered, in place of its rows")
 }
 
-/// The option of the SELECT's language.
+/// The option of the language of queries.
 fn language_option<'a>(alloc: Global) -> Arg<'a>
     ensures rule { rule_of result ≡ words.option_rule (codes "language") }
     ensures local { result.global ≡ false }
@@ -92,21 +95,40 @@ fn language_option<'a>(alloc: Global) -> Arg<'a>
     Arg::new(alloc, "language")
         .long("language")
         .value_name("NAME")
-        .help("The language of the query: profile, or wide with UPPER, LOWER and TRIM")
+        .help("The language of queries: profile, or wide with UPPER, LOWER, TRIM and IN of a list")
+}
+
+/// The flag that asks for the language's grammar.
+fn grammar_flag<'a>(alloc: Global) -> Arg<'a>
+    ensures rule { rule_of result ≡ words.flag_rule (codes "grammar") }
+    ensures local { result.global ≡ false }
+{
+    Arg::new(alloc, "grammar")
+        .long("grammar")
+        .action(ArgAction::SetTrue)
+        .help("Prints the words, functions and limits of the language of queries as JSON, and ends")
+}
+
+/// The program with its files and with a question, as clap reads it.
+fn with_question<'a>(alloc: Global) -> Result<Command<'a>, AllocError>
+    ensures { IfOk result (λ c. app_of c ≡ words.with_question) }
+{
+    let query = query_option(alloc);
+    let param = param_option(alloc);
+    let explain = explain_flag(alloc);
+    let with_query = with_files(alloc)?.arg(query)?;
+    let with_param = with_query.arg(param)?;
+    Ok(with_param.arg(explain)?)
 }
 
 /// The command as clap reads it.
 fn jpa<'a>(alloc: Global) -> Result<Command<'a>, AllocError>
     ensures { IfOk result (λ c. app_of c ≡ command) }
 {
-    let query = query_option(alloc);
-    let param = param_option(alloc);
-    let explain = explain_flag(alloc);
     let language = language_option(alloc);
-    let with_query = with_files(alloc)?.arg(query)?;
-    let with_param = with_query.arg(param)?;
-    let with_explain = with_param.arg(explain)?;
-    Ok(with_explain.arg(language)?)
+    let grammar = grammar_flag(alloc);
+    let with_language = with_question(alloc)?.arg(language)?;
+    Ok(with_language.arg(grammar)?)
 }
 
 /// What clap answers in place of values: a request's text, or what it says of a fault.
@@ -176,17 +198,7 @@ fn is_set(value: Option<&str>) -> bool
 
 /// What clap found of the options.
 fn settings_in(alloc: Global, matches: &ArgMatches<'_>) -> Result<Settings, Stop>
-    ensures mapping { IfOk result (λ s. s.mapping
-        ≡ first_value (found_of matches.now) (codes "mapping")) }
-    ensures db { IfOk result (λ s. s.db ≡ first_value (found_of matches.now) (codes "db")) }
-    ensures query { IfOk result (λ s. s.query
-        ≡ first_value (found_of matches.now) (codes "query")) }
-    ensures params { IfOk result (λ s. s.params
-        ≡ unwrap_or (option_map raw_values (matched_of (found_of matches.now) (codes "param"))) []) }
-    ensures explain { IfOk result (λ s. s.explain
-        ≡ words.is_set (first_value (found_of matches.now) (codes "explain"))) }
-    ensures language { IfOk result (λ s. s.language
-        ≡ first_value (found_of matches.now) (codes "language")) }
+    ensures found { IfOk result (λ s. s ≡ words.found matches.now) }
     ensures err { IfErr result (λ stop. stop ≡ Stop.Refused
         (Refusal.Because Cause.OutOfMemory)) }
 {
@@ -197,6 +209,7 @@ fn settings_in(alloc: Global, matches: &ArgMatches<'_>) -> Result<Settings, Stop
         params: copies(alloc, matches.get_strs("param"))?,
         explain: is_set(matches.get_str("explain")),
         language: copied(alloc, matches.get_str("language"))?,
+        grammar: is_set(matches.get_str("grammar")),
     })
 }
 
@@ -209,8 +222,8 @@ const PARAM_NEEDS_QUERY: &str =
 const EXPLAIN_NEEDS_QUERY: &str =
     "error: '--explain' needs '--query <TEXT>'\n\nFor more information, try '--help'.\n";
 
-const LANGUAGE_NEEDS_QUERY: &str =
-    "error: '--language <NAME>' needs '--query <TEXT>'\n\nFor more information, try '--help'.\n";
+const GRAMMAR_STANDS_ALONE: &str =
+    "error: '--grammar' stands alone, or with '--language <NAME>'\n\nFor more information, try '--help'.\n";
 
 const LANGUAGE_IS_UNKNOWN: &str =
     "error: '--language <NAME>' is 'profile' or 'wide'\n\nFor more information, try '--help'.\n";
@@ -222,7 +235,7 @@ fn is_language(name: &str) -> bool
     name == "profile" || name == "wide"
 }
 
-/// What is said of the language of a query.
+/// What is said of a language that there isn't.
 fn unknown(language: &Option<Text>) -> Option<&'static str>
     ensures { option_map (λ v. v.now) result ≡ words.unknown language.now }
 {
@@ -232,32 +245,51 @@ fn unknown(language: &Option<Text>) -> Option<&'static str>
     }
 }
 
-/// What is said of parameters, of a plan, or of a language, without a query.
+/// What is said of parameters or of a plan without a query.
 fn stray(settings: &Settings) -> Option<&'static str>
     ensures { option_map (λ v. v.now) result
-        ≡ words.stray settings.now.params settings.now.explain settings.now.language }
+        ≡ words.stray settings.now.params settings.now.explain }
 {
-    match (settings.params.as_slice(), &settings.language) {
-        ([_, ..], _) => Some(PARAM_NEEDS_QUERY),
-        ([], _) if settings.explain => Some(EXPLAIN_NEEDS_QUERY),
-        ([], Some(_)) => Some(LANGUAGE_NEEDS_QUERY),
-        ([], None) => None,
+    match settings.params.as_slice() {
+        [_, ..] => Some(PARAM_NEEDS_QUERY),
+        [] if settings.explain => Some(EXPLAIN_NEEDS_QUERY),
+        [] => None,
     }
 }
 
-/// What is said of an option that stands without the one that it needs, or of a language that there
-/// isn't.
-fn lacking(settings: &Settings) -> Option<&'static str>
-    ensures { option_map (λ v. v.now) result
-        ≡ words.lacking settings.now.query settings.now.db settings.now.params
-        settings.now.explain settings.now.language }
+/// Whether nothing is said of what is served or asked.
+fn is_bare(settings: &Settings) -> bool
+    ensures { result ≡ words.is_bare settings.now }
 {
-    if settings.query.is_none() {
-        return stray(settings);
+    settings.mapping.is_none()
+        && settings.db.is_none()
+        && settings.query.is_none()
+        && settings.params.as_slice().is_empty()
+        && !settings.explain
+}
+
+/// What is said of an option that stands without the one that it needs, or of the grammar beside one
+/// that it doesn't go with.
+fn alone(settings: &Settings) -> Option<&'static str>
+    ensures { option_map (λ v. v.now) result ≡ words.alone settings.now }
+{
+    if settings.grammar && !is_bare(settings) {
+        return Some(GRAMMAR_STANDS_ALONE);
     }
-    match &settings.db {
-        Some(_) => unknown(&settings.language),
-        None => Some(QUERY_NEEDS_DB),
+    match (&settings.query, &settings.db) {
+        (None, _) => stray(settings),
+        (Some(_), Some(_)) => None,
+        (Some(_), None) => Some(QUERY_NEEDS_DB),
+    }
+}
+
+/// What is said of options that don't go together, or of a language that there isn't.
+fn lacking(settings: &Settings) -> Option<&'static str>
+    ensures { option_map (λ v. v.now) result ≡ words.lacking settings.now }
+{
+    match alone(settings) {
+        Some(said) => Some(said),
+        None => unknown(&settings.language),
     }
 }
 
@@ -273,21 +305,18 @@ fn refused(alloc: Global, said: &str) -> Stop
 }
 
 /// What the words of a command line say, of which the first is the program's own name: `--mapping
-/// FILE`, `--db FILE`, `--query TEXT`, `--explain` and `--language NAME`, each at most once, and
-/// `--param NAME=VALUE` as often as it stands there, in any order, as clap reads them.
+/// FILE`, `--db FILE`, `--query TEXT`, `--explain`, `--language NAME` and `--grammar`, each at most
+/// once, and `--param NAME=VALUE` as often as it stands there, in any order, as clap reads them.
 ///
 /// `Ok` only where clap finds no fault in the words, and they lack no option: a query needs a
-/// store's file, parameters, a plan and a language need a query, and the language is one. Where clap finds a fault, that is the only
-/// one: `Shown` with the text that was asked for, where the fault is a request for the help or the
-/// version, and `Words` with what clap says of any other. `Words` also where an option lacks the
-/// one that it needs, and for a language that there isn't. For want of memory it is `Refused` with `OutOfMemory`, and so is each `Err`
-/// of words that clap takes and that lack no option.
-#[tactic(auto, using(crate::proofs::Found::value_read, crate::proofs::Found::values_read))]
+/// store's file, parameters and a plan need a query, the grammar goes with a language alone, and the
+/// language is one. Where clap finds a fault, that is the only one: `Shown` with the text that was
+/// asked for, where the fault is a request for the help or the version, and `Words` with what clap
+/// says of any other. `Words` also where an option lacks the one that it needs, for the grammar
+/// beside another option, and for a language that there isn't. For want of memory it is `Refused`
+/// with `OutOfMemory`, and so is each `Err` of words that clap takes and that lack no option.
 pub fn read_settings(alloc: Global, words: &[String]) -> Result<Settings, Stop>
-    ensures mapping { IfOk result (λ s. s.mapping ≡ value_of (codes "mapping")
-        (map string_bytes words.now)) }
-    ensures db { IfOk result (λ s. s.db ≡ value_of (codes "db") (map string_bytes words.now)) }
-    ensures question { IfOk result (Asks (map string_bytes words.now)) }
+    ensures said { IfOk result (λ s. s ≡ said (map string_bytes words.now)) }
     ensures accepted { OnOk result (AreTaken (map string_bytes words.now)) }
     ensures told { IfErr result (TellsOf (map string_bytes words.now)) }
     ensures taken { takes command (map string_bytes words.now) ≡ true →

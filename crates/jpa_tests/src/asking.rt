@@ -69,7 +69,7 @@ const PAIRED: &[Changed] = &[
 
 /// The SELECT that a text is.
 fn select_of(alloc: Global, metamodel: &Metamodel, text: &str) -> Result<TypedSelect, Fail> {
-    let tree = read_query(alloc, Language::Profile, text)?;
+    let tree = read_query(alloc, Language::Profile, &[], text)?;
     match check_query(alloc, metamodel, tree, &[])? {
         Typed::Select(select) => Ok(select),
         _ => Err(Fail::from("the text is no SELECT")),
@@ -83,7 +83,7 @@ fn found<R: RowReader>(
     source: &mut R,
     select: &TypedSelect,
 ) -> Result<Seq<Seq<Datum>>, Cause> {
-    let registry: Registry<ProgramFunctions> = Registry::new(alloc);
+    let registry: Registry<ProgramFunctions> = Registry::new(alloc, Language::Profile);
     run(
         alloc,
         metamodel,

@@ -2,6 +2,7 @@
 use jpa_behaviour::{Heard, Image, Named, Registry};
 use jpa_functions::{ProgramFunctions, read_functions, registry_of};
 use jpa_value::{Cause, LifecycleEvent, Seq, Text, Value};
+use jpql_tree::Language;
 use std::alloc::Global;
 use std::test::Fail;
 
@@ -9,7 +10,7 @@ const NICK: &[u8] =
     b"{\"functions\":[{\"name\":\"nick\",\"make\":\"copy\",\"from\":\"name\",\"to\":\"nick\"}]}";
 
 fn registry(alloc: Global) -> Result<Registry<ProgramFunctions>, Cause> {
-    registry_of(alloc, read_functions(alloc, NICK)?)
+    registry_of(alloc, Language::Profile, read_functions(alloc, NICK)?)
 }
 
 /// A person of this name.

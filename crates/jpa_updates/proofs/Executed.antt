@@ -1,5 +1,5 @@
 -- What executeUpdate leaves, by its steps.
-use Rattle.std.proofs.Common.{◌≡◌, ◌∙◌, refl, ap, sym, subst, ℕ, Bool, true, false, List}
+use Rattle.std.proofs.Common.{◌≡◌, ◌∙◌, refl, ap, sym, subst, ℕ, Bool, true, false, ◌&&◌, List}
 use Rattle.std.specs.Prelude.{Option, Some, None, Result, Ok, Err}
 use Rattle.jpa_value.specs.declared.refusal.Cause.{Cause}
 use Rattle.jpa_value.specs.declared.refusal.Argument.{Argument}
@@ -8,17 +8,19 @@ use Rattle.jpa_model.specs.declared.unit.PersistenceUnit.{PersistenceUnit}
 use Rattle.jpa_behaviour.specs.Behaviour.{World, AnswersConvertible}
 use Rattle.jpa_context.specs.Work.{Work}
 use Rattle.jpa_context.specs.Steps.{Outcome, Done, Refused, Op, after, give, require}
+use Rattle.jpql_grammar.specs.declared.lists.GivenList.{GivenList}
 use Rattle.jpql_tree.specs.declared.Language.{Language}
 use Rattle.jpql_tree.specs.declared.Query.{Query}
-use Rattle.jpql_tree.specs.Grammar.{Text}
+use Rattle.jpql_tree.specs.Names.{Text}
 use Rattle.jpql_types.specs.Statements.{checked}
 use Rattle.jpql_kept.specs.Fits.{AreInherited}
 use Rattle.jpa_asked.specs.declared.asked.Binding.{Binding}
+use Rattle.jpa_asked.specs.declared.asked.Reading.{Reading}
 use Rattle.jpa_asked.specs.declared.asked.Statement.{Statement}
-use Rattle.jpa_asked.specs.Asking.{give_or, given, read_of, sorts_of, arguments_of, statement_of}
+use Rattle.jpa_asked.specs.Asking.{give_or, given, read_of, sorts_of, arguments_of, are_apart, statement_of}
 use Rattle.jpa_asked.specs.Premises.{AreInHeap}
 use Rattle.jpa_flush.specs.Flush.{flush_if}
-use Rattle.jpa_asked.specs.Reading.{query_of, is_within, declares_few}
+use Rattle.jpa_asked.specs.Reading.{tokens_in, query_of, are_used_in, is_within, declares_few}
 use Rattle.jpa_updates.specs.Held.{HaveKeys, IsExecuted}
 use Rattle.jpa_updates.specs.Updates.{is_bulk, judged_bulk, execute_update}
 use Rattle.jpa_updates.proofs.Arguments.{arguments_are}
@@ -53,55 +55,59 @@ given_ok (Err r) a w v h = absurd cc
 
 -- ---- what is judged
 
-by_limits : (a b : Bool) (found tree : Option Query) (w v : Work) → after (require a Cause.Limit w) (λ _ u. after (require b Cause.Limit u) (λ _. give found)) ≡ Done tree v → w ≡ v
-by_limits true true found tree w v h = (same_done found tree w v h).1
-by_limits true false found tree w v h = absurd cc
-by_limits false b found tree w v h = absurd cc
+by_limits : (a b : Bool) (found said : Reading) (w v : Work) → after (require a Cause.Limit w) (λ _ u. after (require b Cause.Limit u) (λ _. give found)) ≡ Done said v → w ≡ v
+by_limits true true found said w v h = (same_done found said w v h).1
+by_limits true false found said w v h = absurd cc
+by_limits false b found said w v h = absurd cc
 
 record IsStatement (m : PersistenceUnit) (bindings : List Binding) (w : Work) (q : Statement) : Type 0 where
   query : Query
   typed : checked m query (sorts_of m bindings w) ≡ Ok q.typed
   arguments : arguments_of m bindings w ≡ Some q.arguments
 
-module _ (m : PersistenceUnit) (bindings : List Binding) where
-  stated : (tree : Option Query) (q : Statement) (w v : Work) → statement_of m tree bindings w ≡ Done q v → IsStatement m bindings w q × (w ≡ v)
-  stated None q w v h = absurd cc
-  stated (Some query) q w v h =
+module _ (m : PersistenceUnit) (lists : List GivenList) (bindings : List Binding) where
+  stated : (tree : Option Query) (uses : Bool) (q : Statement) (w v : Work) → statement_of m (record { tree = tree; uses_lists = uses }) lists bindings w ≡ Done q v
+      → IsStatement m bindings w q × (w ≡ v)
+  stated None uses q w v h = absurd cc
+  stated (Some query) uses q w v h =
       let a = steps_of (given (checked m query (sorts_of m bindings w)) w) _ q v h in
       let typed = given_ok (checked m query (sorts_of m bindings w)) a.answer w a.between a.first in
-      let b = steps_of (give_or (Cause.IllegalArgument Argument.Parameter) (arguments_of m bindings a.between) a.between) _ q v a.second in
-      let found = given_or (Cause.IllegalArgument Argument.Parameter) (arguments_of m bindings a.between) b.answer a.between b.between b.first in
+      let r = steps_of (require (uses && are_apart lists bindings) (Cause.IllegalArgument Argument.Parameter) a.between) _ q v a.second in
+      let apart = required (uses && are_apart lists bindings) (Cause.IllegalArgument Argument.Parameter) a.between r.between r.first in
+      let b = steps_of (give_or (Cause.IllegalArgument Argument.Parameter) (arguments_of m bindings r.between) r.between) _ q v r.second in
+      let found = given_or (Cause.IllegalArgument Argument.Parameter) (arguments_of m bindings r.between) b.answer r.between b.between b.first in
       let last = same_done (record { typed = a.answer; arguments = b.answer }) q b.between v b.second in (
         record {
           query = query;
           typed = typed.0 ∙ ap (λ (s : Statement). Ok s.typed) last.0;
-          arguments = ap (arguments_of m bindings) typed.1 ∙ found.0 ∙ ap (λ (s : Statement). Some s.arguments) last.0;
+          arguments = ap (arguments_of m bindings) (typed.1 ∙ apart) ∙ found.0 ∙ ap (λ (s : Statement). Some s.arguments) last.0;
         },
-        typed.1 ∙ found.1 ∙ last.1,
+        typed.1 ∙ apart ∙ found.1 ∙ last.1,
       )
 
-  read_only : (l : Language) (text : Text) (tree : Option Query) (w v : Work) → read_of l text w ≡ Done tree v → w ≡ v
-  read_only l text tree w v h = by_limits (is_within text) (declares_few (query_of l text)) (query_of l text) tree w v h
+  read_only : (l : Language) (text : Text) (said : Reading) (w v : Work) → read_of l lists text w ≡ Done said v → w ≡ v
+  read_only l text said w v h =
+      by_limits (is_within l lists text) (declares_few (query_of l lists text)) (record { tree = query_of l lists text; uses_lists = are_used_in lists (tokens_in l text) }) said w v h
 
-  judged : (is_active : Bool) (l : Language) (text : Text) (q : Statement) (w v : Work) → judged_bulk m is_active l text bindings w ≡ Done q v → IsStatement m bindings w q × (w ≡ v)
+  judged : (is_active : Bool) (l : Language) (text : Text) (q : Statement) (w v : Work) → judged_bulk m is_active l lists text bindings w ≡ Done q v → IsStatement m bindings w q × (w ≡ v)
   judged is_active l text q w v h =
-      let a = steps_of (read_of l text w) _ q v h in
+      let a = steps_of (read_of l lists text w) _ q v h in
       let b = steps_of (require is_active Cause.TransactionRequired a.between) _ q v a.second in
-      let c = steps_of (statement_of m a.answer bindings b.between) _ q v b.second in
+      let c = steps_of (statement_of m a.answer lists bindings b.between) _ q v b.second in
       let d = steps_of (require (is_bulk c.answer.typed) (Cause.IllegalState State.Statement) c.between) _ q v c.second in
       let so_far = read_only l text a.answer w a.between a.first ∙ required is_active Cause.TransactionRequired a.between b.between b.first in
-      let s = stated a.answer c.answer b.between c.between c.first in
+      let s = stated a.answer.tree a.answer.uses_lists c.answer b.between c.between c.first in
       let last = same_done c.answer q d.between v d.second in (
         subst (λ (u : Work). IsStatement m bindings u q) (sym so_far) (subst (IsStatement m bindings b.between) last.0 s.0),
         so_far ∙ s.1 ∙ required (is_bulk c.answer.typed) (Cause.IllegalState State.Statement) c.between d.between d.first ∙ last.1,
       )
 
-pub executed : (world : World) (is_active flushes : Bool) (language : Language) (text : Text) (bindings : List Binding) (w v : Work) (k : ℕ) → AnswersConvertible world → AreInherited world.model
-    → HaveKeys world.model w → AreInHeap w.objects bindings → execute_update world is_active flushes language text bindings w ≡ Done k v → IsExecuted world flushes w v
-executed world is_active flushes language text bindings w v k convertible inherited keys bound h =
+pub executed : (world : World) (is_active flushes : Bool) (language : Language) (lists : List GivenList) (text : Text) (bindings : List Binding) (w v : Work) (k : ℕ) → AnswersConvertible world → AreInherited world.model
+    → HaveKeys world.model w → AreInHeap w.objects bindings → execute_update world is_active flushes language lists text bindings w ≡ Done k v → IsExecuted world flushes w v
+executed world is_active flushes language lists text bindings w v k convertible inherited keys bound h =
     let m = world.model in
-    let a = steps_of (judged_bulk m is_active language text bindings w) _ k v h in
-    let s = judged m bindings is_active language text a.answer w a.between a.first in
+    let a = steps_of (judged_bulk m is_active language lists text bindings w) _ k v h in
+    let s = judged m lists bindings is_active language text a.answer w a.between a.first in
     let b = steps_of (flush_if flushes world a.between) _ k v a.second in
     let statement = s.0 in
     record {

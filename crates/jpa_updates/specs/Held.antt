@@ -10,9 +10,10 @@ use Rattle.jpa_stored.specs.Sets.{each_fits}
 use Rattle.jpa_rows.specs.Cells.{CanBeHeld, all_representable}
 use Rattle.jpa_context.specs.Work.{Work, object}
 use Rattle.jpa_context.specs.Steps.{Done}
+use Rattle.jpql_grammar.specs.declared.lists.GivenList.{GivenList}
 use Rattle.jpql_tree.specs.declared.Language.{Language}
 use Rattle.jpql_tree.specs.declared.Query.{Query}
-use Rattle.jpql_tree.specs.Grammar.{Text}
+use Rattle.jpql_tree.specs.Names.{Text}
 use Rattle.jpql_types.specs.declared.sort.Sort.{Sort}
 use Rattle.jpql_types.specs.declared.typed.Typed.{Typed}
 use Rattle.jpql_types.specs.Statements.{checked}
@@ -63,7 +64,7 @@ pub record UpdateLaws (world : World) : Type 0 where
       IsAsked world query sorts q.typed q.arguments w
       → run_bulk world q w ≡ Done k v → all_representable v.view ≡ true → IsHeld world w v
   -- what was bound is what was checked, so that of the flush alone something is asked
-  pub executed : (is_active flushes : Bool) (language : Language) (text : Text) (bindings : List Binding)
-      (w v : Work) (k : ℕ) → AnswersConvertible world → AreInherited world.model
+  pub executed : (is_active flushes : Bool) (language : Language) (lists : List GivenList) (text : Text)
+      (bindings : List Binding) (w v : Work) (k : ℕ) → AnswersConvertible world → AreInherited world.model
       → HaveKeys world.model w → AreInHeap w.objects bindings
-      → execute_update world is_active flushes language text bindings w ≡ Done k v → IsExecuted world flushes w v
+      → execute_update world is_active flushes language lists text bindings w ≡ Done k v → IsExecuted world flushes w v

@@ -11,8 +11,9 @@ use Rattle.jpa_stored.specs.Sets.{StoredSet, fault_of, all_shaped, IsSound}
 use Rattle.jpa_context.specs.Work.{Work}
 use Rattle.jpa_context.specs.Steps.{◌>>=◌, ◌>>◌, Op, Done, give, require, read, change}
 use Rattle.jpa_flush.specs.Flush.{sound_or}
+use Rattle.jpql_grammar.specs.declared.lists.GivenList.{GivenList}
 use Rattle.jpql_tree.specs.declared.Language.{Language}
-use Rattle.jpql_tree.specs.Grammar.{Text}
+use Rattle.jpql_tree.specs.Names.{Text}
 use Rattle.jpql_types.specs.declared.typed.Typed.{Typed}
 use Rattle.jpql_eval.specs.declared.datum.Datum.{Datum}
 use Rattle.jpql_plan.specs.Bulk.{Changed, updated, deleted}
@@ -31,11 +32,11 @@ is_bulk (Typed.Update class assignments filter) = true
 is_bulk (Typed.Delete class is_named filter) = true
 
 -- a statement that changes objects, in a transaction, with what stands for its parameters
-abbrev pub judged_bulk : PersistenceUnit → Bool → Language → Text → List Binding → Op Statement
-judged_bulk m is_active language text bindings = do
-  tree ← read_of language text
+abbrev pub judged_bulk : PersistenceUnit → Bool → Language → List GivenList → Text → List Binding → Op Statement
+judged_bulk m is_active language lists text bindings = do
+  said ← read_of language lists text
   require is_active Cause.TransactionRequired
-  statement ← statement_of m tree bindings
+  statement ← statement_of m said lists bindings
   require (is_bulk statement.typed) (Cause.IllegalState State.Statement)
   give statement
 
@@ -70,9 +71,9 @@ abbrev pub run_bulk : World → Statement → Op ℕ
 run_bulk world q = read (λ w. changed_by world q.typed q.arguments w.view) >>= settled world.model
 
 -- in a transaction, under flush mode AUTO after a flush
-abbrev pub execute_update : World → Bool → Bool → Language → Text → List Binding → Op ℕ
-execute_update world is_active flushes language text bindings = do
-  statement ← judged_bulk world.model is_active language text bindings
+abbrev pub execute_update : World → Bool → Bool → Language → List GivenList → Text → List Binding → Op ℕ
+execute_update world is_active flushes language lists text bindings = do
+  statement ← judged_bulk world.model is_active language lists text bindings
   flush_if flushes world
   run_bulk world statement
 

@@ -21,6 +21,7 @@ use jpa_flush::flush_if;
 use jpa_model::Metamodel;
 use jpa_value::{Boxed, Cause, State};
 use jpql_eval::Datum;
+use jpql_grammar::GivenList;
 use jpql_tree::Language;
 use jpql_types::{Typed, TypedAssignment, TypedCondition};
 use std::alloc::Global;
@@ -45,20 +46,21 @@ fn judged(
     work: &UnitOfWork,
     is_active: bool,
     language: Language,
+    lists: &[GivenList],
     text: &str,
     bindings: &[Binding],
 ) -> Result<Statement, Cause>
     requires ready { IsReady metamodel.now (now work.now) }
     requires bound { AreInHeap work.now.objects.now bindings.now }
     ensures meets { Meets result (now work.now)
-        (updates.judged_bulk metamodel.now is_active language text.now bindings.now
+        (updates.judged_bulk metamodel.now is_active language lists.now text.now bindings.now
         (now work.now)) }
 {
-    let tree = read_of(alloc, language, text)?;
+    let said = read_of(alloc, language, lists, text)?;
     if !is_active {
         return Err(Cause::TransactionRequired);
     }
-    let statement = statement_of(alloc, metamodel, work, tree, bindings)?;
+    let statement = statement_of(alloc, metamodel, work, said, lists, bindings)?;
     if !is_bulk(&statement.typed) {
         return Err(Cause::IllegalState(State::Statement));
     }
@@ -173,13 +175,13 @@ fn run<B: Behaviour>(
 /// In this order: `Limit` for a text that is too long, nests too deep or declares too many
 /// variables; `TransactionRequired` where no transaction `is_active`; `IllegalArgument` with
 /// `Syntax` for a text outside the grammar, `Typing` for an ill-typed one, `Parameter` where a
-/// parameter isn't bound, one is bound that isn't in the text, or an object is bound whose key
-/// isn't whole; `IllegalState(statement)` for a SELECT; what `flush` refuses; `Overflow` for an
-/// integer outside 64 bits; of an UPDATE, by object and assignment, `Limit` for a value that is too
-/// long, `Persistence(converter)` where a converter throws, `Persistence(null)` where a version is
-/// set to null; `Persistence` with `Null`, `Reference` or `Unique` where the new set would not be
-/// sound. `OutOfMemory` where a growth was refused. What a refused call changed is undone by
-/// `UnitOfWork::undo`.
+/// parameter isn't bound, one is bound that isn't in the text, a collection stands nowhere behind
+/// IN, or an object is bound whose key isn't whole; `IllegalState(statement)` for a SELECT; what
+/// `flush` refuses; `Overflow` for an integer outside 64 bits; of an UPDATE, by object and
+/// assignment, `Limit` for a value that is too long, `Persistence(converter)` where a converter
+/// throws, `Persistence(null)` where a version is set to null; `Persistence` with `Null`,
+/// `Reference` or `Unique` where the new set would not be sound. `OutOfMemory` where a growth was
+/// refused. What a refused call changed is undone by `UnitOfWork::undo`.
 pub fn execute_update<B: Behaviour>(
     alloc: Global,
     unit: &ServedUnit<B>,
@@ -187,6 +189,7 @@ pub fn execute_update<B: Behaviour>(
     is_active: bool,
     flushes: bool,
     language: Language,
+    lists: &[GivenList],
     text: &str,
     bindings: &[Binding],
 ) -> Result<usize, Cause>
@@ -196,8 +199,8 @@ pub fn execute_update<B: Behaviour>(
         (world_of_unit B.meaning unit.now) (now work.old) }
     requires bound { AreInHeap work.old.objects.now bindings.now }
     ensures executes { let world = world_of_unit B.meaning unit.now in
-        Performs (updates.execute_update world is_active flushes language text.now bindings.now)
-        result work.old work.new }
+        Performs (updates.execute_update world is_active flushes language lists.now text.now
+        bindings.now) result work.old work.new }
     ensures representable { OnOk result ((v : Work)
         → flush_if flushes (world_of_unit B.meaning unit.now) (now work.old)
         ≡ Done tt v → all_representable v.view ≡ true
@@ -209,6 +212,7 @@ pub fn execute_update<B: Behaviour>(
         work,
         is_active,
         language,
+        lists,
         text,
         bindings,
     )?;

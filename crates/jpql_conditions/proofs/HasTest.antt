@@ -1,10 +1,10 @@
 -- One token of the look ahead.
 use Rattle.std.proofs.Common.{◌≡◌, ℕ, zero, suc, ◌+◌, ◌-◌, ◌<◌, ◌≢◌, Bool, true, false, List, [], ◌∷◌, ap, sym, ◌∙◌, arith, refl, length, drop, get_or, ◌≤◌, add-one}
 use Rattle.std.proofs.Math.Seq.{drop-cons}
-use Rattle.jpql_tree.specs.declared.token.Mark.TheVariants as m
-use Rattle.jpql_tree.specs.declared.token.Token.{Token}
-use Rattle.jpql_tree.specs.Values.{is_mark}
-use Rattle.jpql_tree.specs.Conditions.{has_test, tells}
+use Rattle.jpql_grammar.specs.declared.token.Mark.TheVariants as m
+use Rattle.jpql_grammar.specs.declared.token.Token.{Token}
+use Rattle.jpql_grammar.specs.Values.{is_mark}
+use Rattle.jpql_grammar.specs.Conditions.{has_test, tells}
 
 pub told : (d : ℕ) (dotted : Bool) (x : Token) (rest : List Token) → tells dotted x ≡ true → has_test d dotted (x ∷ rest) ≡ true
 unfolding has_test

@@ -1,17 +1,18 @@
 //! Conditions, and the SELECTs nested in them.
 ghost use Rattle.std.specs.Prelude.{◌≡◌, ◌∷◌, [], length, IfOk};
 ghost use Rattle.jpql_lexer.specs.Gives.{Gives};
-ghost use Rattle.jpql_tree.specs.Values.{list_at, closed};
-ghost use Rattle.jpql_tree.specs.Conditions as spec;
-ghost use Rattle.jpql_tree.specs.Conditions.{cond_at};
+ghost use Rattle.jpql_grammar.specs.Values.{list_at, closed};
+ghost use Rattle.jpql_grammar.specs.Conditions as spec;
+ghost use Rattle.jpql_grammar.specs.Conditions.{cond_at};
 
 use crate::lookahead::opens_condition;
 use crate::predicates::{begins_variable, opposite, simple};
 use crate::steps::{after, after_word, is_word, name, optional_word, sees, variable};
 use crate::values::value;
 use jpa_value::{Boxed, Seq, Text};
+use jpql_grammar::{Keyword, Mark, Token};
 use jpql_lexer::ReadError;
-use jpql_tree::{Block, Condition, Item, Join, Keyword, Mark, Origin, Source, Token};
+use jpql_tree::{Block, Condition, Item, Join, Origin, Source};
 use std::alloc::{AllocError, Global};
 
 /// Two boxes, of what a condition joins.
@@ -38,7 +39,7 @@ fn either(alloc: Global, left: Condition, right: Condition) -> Result<Condition,
 }
 
 /// A variable or an item's name, before which AS may stand.
-#[tactic(auto, unfolding(jpql_tree::specs::Conditions::named_at))]
+#[tactic(auto, unfolding(jpql_grammar::specs::Conditions::named_at))]
 pub fn named(alloc: Global, tokens: &[Token]) -> Result<(Text, &[Token]), ReadError>
     ensures { Gives (λ r. (r.0, r.1.now)) result (spec.named_at tokens.now) }
 {
@@ -47,7 +48,7 @@ pub fn named(alloc: Global, tokens: &[Token]) -> Result<(Text, &[Token]), ReadEr
 }
 
 /// Such a name, where there is one.
-#[tactic(auto, unfolding(jpql_tree::specs::Conditions::optional_name_at))]
+#[tactic(auto, unfolding(jpql_grammar::specs::Conditions::optional_name_at))]
 pub fn optional_name(alloc: Global, tokens: &[Token]) -> Result<(Option<Text>, &[Token]), ReadError>
     ensures { Gives (λ r. (r.0, r.1.now)) result (spec.optional_name_at tokens.now) }
 {
@@ -60,7 +61,7 @@ pub fn optional_name(alloc: Global, tokens: &[Token]) -> Result<(Option<Text>, &
 }
 
 /// An item of SELECT.
-#[tactic(auto, unfolding(jpql_tree::specs::Conditions::item_at))]
+#[tactic(auto, unfolding(jpql_grammar::specs::Conditions::item_at))]
 pub fn item(alloc: Global, depth: usize, tokens: &[Token]) -> Result<(Item, &[Token]), ReadError>
     ensures { Gives (λ r. (r.0, r.1.now)) result (spec.item_at depth tokens.now) }
 {
@@ -76,7 +77,7 @@ fn begins_related(tokens: &[Token]) -> bool
 }
 
 /// A variable, and the name after its dot.
-#[tactic(auto, unfolding(jpql_tree::specs::Conditions::related_at))]
+#[tactic(auto, unfolding(jpql_grammar::specs::Conditions::related_at))]
 pub fn related(alloc: Global, tokens: &[Token]) -> Result<((Text, Text), &[Token]), ReadError>
     ensures { Gives (λ r. (r.0, r.1.now)) result (spec.related_at tokens.now) }
 {
@@ -85,7 +86,7 @@ pub fn related(alloc: Global, tokens: &[Token]) -> Result<((Text, Text), &[Token
     Ok(((variable, name), rest))
 }
 
-#[tactic(auto, unfolding(jpql_tree::specs::Conditions::origin_at))]
+#[tactic(auto, unfolding(jpql_grammar::specs::Conditions::origin_at))]
 fn origin(alloc: Global, is_nested: bool, tokens: &[Token]) -> Result<(Origin, &[Token]), ReadError>
     ensures { Gives (λ r. (r.0, r.1.now)) result (spec.origin_at is_nested tokens.now) }
 {
@@ -106,7 +107,7 @@ fn begins_join(tokens: &[Token]) -> bool
         || is_word(Keyword::Left, tokens)
 }
 
-#[tactic(auto, unfolding(jpql_tree::specs::Conditions::side_at))]
+#[tactic(auto, unfolding(jpql_grammar::specs::Conditions::side_at))]
 fn side(tokens: &[Token]) -> Result<(bool, &[Token]), ReadError>
     ensures { Gives (λ r. (r.0, r.1.now)) result (spec.side_at tokens.now) }
 {
@@ -121,7 +122,7 @@ fn side(tokens: &[Token]) -> Result<(bool, &[Token]), ReadError>
 
 /// A condition after this word, where the word comes next.
 #[cycle(cond)]
-#[tactic(auto, unfolding(jpql_tree::specs::Conditions::clause_at))]
+#[tactic(auto, unfolding(jpql_grammar::specs::Conditions::clause_at))]
 pub fn clause(
     alloc: Global,
     depth: usize,
@@ -138,7 +139,7 @@ pub fn clause(
 }
 
 #[cycle(cond)]
-#[tactic(auto, unfolding(jpql_tree::specs::Conditions::join_at))]
+#[tactic(auto, unfolding(jpql_grammar::specs::Conditions::join_at))]
 fn join(alloc: Global, depth: usize, tokens: &[Token]) -> Result<(Join, &[Token]), ReadError>
     ensures { Gives (λ r. (r.0, r.1.now)) result (spec.join_at (cond_at depth) tokens.now) }
 {
@@ -159,7 +160,7 @@ fn join(alloc: Global, depth: usize, tokens: &[Token]) -> Result<(Join, &[Token]
 }
 
 #[cycle(cond)]
-#[tactic(auto, unfolding(jpql_tree::specs::Conditions::joins_at))]
+#[tactic(auto, unfolding(jpql_grammar::specs::Conditions::joins_at))]
 fn joins(alloc: Global, depth: usize, tokens: &[Token]) -> Result<(Seq<Join>, &[Token]), ReadError>
     ensures { Gives (λ r. (r.0, r.1.now)) result
         (spec.joins_at (cond_at depth) (length tokens.now) [] tokens.now) }
@@ -178,7 +179,7 @@ fn joins(alloc: Global, depth: usize, tokens: &[Token]) -> Result<(Seq<Join>, &[
 }
 
 #[cycle(cond)]
-#[tactic(auto, unfolding(jpql_tree::specs::Conditions::source_at))]
+#[tactic(auto, unfolding(jpql_grammar::specs::Conditions::source_at))]
 fn source(
     alloc: Global,
     depth: usize,
@@ -203,7 +204,7 @@ fn source(
 
 /// What stands after FROM; in a nested SELECT relations of variables too.
 #[cycle(cond)]
-#[tactic(auto, unfolding(jpql_tree::specs::Values::list_at, jpql_tree::specs::Values::others_at))]
+#[tactic(auto, unfolding(jpql_grammar::specs::Values::list_at, jpql_grammar::specs::Values::others_at))]
 pub fn sources(
     alloc: Global,
     depth: usize,
@@ -228,7 +229,7 @@ pub fn sources(
 }
 
 #[cycle(cond)]
-#[tactic(auto, unfolding(jpql_tree::specs::Conditions::block_at))]
+#[tactic(auto, unfolding(jpql_grammar::specs::Conditions::block_at))]
 fn block(alloc: Global, depth: usize, tokens: &[Token]) -> Result<(Block, &[Token]), ReadError>
     ensures { Gives (λ r. (r.0, r.1.now)) result (spec.block_at depth (cond_at depth) tokens.now) }
 {
@@ -249,7 +250,7 @@ fn block(alloc: Global, depth: usize, tokens: &[Token]) -> Result<(Block, &[Toke
 }
 
 #[cycle(cond)]
-#[tactic(auto, unfolding(jpql_tree::specs::Conditions::exists_at, jpql_tree::specs::Values::closed))]
+#[tactic(auto, unfolding(jpql_grammar::specs::Conditions::exists_at, jpql_grammar::specs::Values::closed))]
 fn exists(alloc: Global, depth: usize, tokens: &[Token]) -> Result<(Condition, &[Token]), ReadError>
     ensures { Gives (λ r. (r.0, r.1.now)) result
         (spec.exists_at depth (cond_at depth) tokens.now) }
@@ -263,7 +264,7 @@ fn exists(alloc: Global, depth: usize, tokens: &[Token]) -> Result<(Condition, &
 // Here and in the loops below a condition is dropped by a call: one that goes out of scope takes
 // minutes to prove.
 #[cycle(cond)]
-#[tactic(auto, unfolding(jpql_tree::specs::Values::closed))]
+#[tactic(auto, unfolding(jpql_grammar::specs::Values::closed))]
 fn nested(alloc: Global, depth: usize, tokens: &[Token]) -> Result<(Condition, &[Token]), ReadError>
     ensures { Gives (λ r. (r.0, r.1.now)) result (closed (cond_at depth tokens.now)) }
 {
@@ -278,7 +279,7 @@ fn nested(alloc: Global, depth: usize, tokens: &[Token]) -> Result<(Condition, &
 }
 
 #[cycle(cond)]
-#[tactic(auto, unfolding(jpql_tree::specs::Conditions::test_at))]
+#[tactic(auto, unfolding(jpql_grammar::specs::Conditions::test_at))]
 fn test(alloc: Global, depth: usize, tokens: &[Token]) -> Result<(Condition, &[Token]), ReadError>
     ensures { Gives (λ r. (r.0, r.1.now)) result (spec.test_at depth (cond_at depth) tokens.now) }
 {
@@ -292,7 +293,7 @@ fn test(alloc: Global, depth: usize, tokens: &[Token]) -> Result<(Condition, &[T
 }
 
 #[cycle(cond)]
-#[tactic(auto, unfolding(jpql_tree::specs::Conditions::not_at))]
+#[tactic(auto, unfolding(jpql_grammar::specs::Conditions::not_at))]
 fn negation(
     alloc: Global,
     depth: usize,
@@ -309,7 +310,7 @@ fn negation(
 }
 
 #[cycle(cond)]
-#[tactic(auto, unfolding(jpql_tree::specs::Conditions::ands_at))]
+#[tactic(auto, unfolding(jpql_grammar::specs::Conditions::ands_at))]
 fn ands(
     alloc: Global,
     depth: usize,
@@ -340,7 +341,7 @@ fn ands(
 }
 
 #[cycle(cond)]
-#[tactic(auto, unfolding(jpql_tree::specs::Conditions::and_at))]
+#[tactic(auto, unfolding(jpql_grammar::specs::Conditions::and_at))]
 fn conjunction(
     alloc: Global,
     depth: usize,
@@ -353,7 +354,7 @@ fn conjunction(
 }
 
 #[cycle(cond)]
-#[tactic(auto, unfolding(jpql_tree::specs::Conditions::ors_at))]
+#[tactic(auto, unfolding(jpql_grammar::specs::Conditions::ors_at))]
 fn ors(
     alloc: Global,
     depth: usize,
@@ -384,7 +385,7 @@ fn ors(
 }
 
 #[cycle(cond)]
-#[tactic(auto, unfolding(jpql_tree::specs::Conditions::cond_level_at))]
+#[tactic(auto, unfolding(jpql_grammar::specs::Conditions::cond_level_at))]
 fn disjunction(
     alloc: Global,
     depth: usize,
@@ -399,7 +400,7 @@ fn disjunction(
 
 /// A condition, with fewer than `depth` conditions inside one another.
 #[cycle(cond)]
-#[tactic(auto, unfolding(jpql_tree::specs::Conditions::cond_at))]
+#[tactic(auto, unfolding(jpql_grammar::specs::Conditions::cond_at))]
 pub fn cond(
     alloc: Global,
     depth: usize,

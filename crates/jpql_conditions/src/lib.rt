@@ -6,10 +6,10 @@
 //! `steps` has the steps over tokens that every line of the grammar takes: marks, words, names and
 //! paths. `lookahead` tells whether an open parenthesis begins a condition or a value.
 //!
-//! Each function answers what its function on lists in `jpql_tree`'s `specs/Values` and
+//! Each function answers what its function on lists in `jpql_grammar`'s `specs/Values` and
 //! `specs/Conditions` gives for the tokens, and `Memory` where a growth was refused; that crate has
 //! the laws that these functions are the grammar. The tokens after what was read are handed back.
-//! The crate stands on `jpa_value`, `jpql_tree` and `jpql_lexer`.
+//! The crate stands on `jpa_value`, `jpql_tree`, `jpql_grammar` and `jpql_lexer`.
 #![tactic(auto)]
 
 mod conditions;

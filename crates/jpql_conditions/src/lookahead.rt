@@ -1,9 +1,9 @@
 //! What an open parenthesis begins.
 ghost use Rattle.std.specs.Prelude.{◌≡◌, false};
-ghost use Rattle.jpql_tree.specs.Conditions as spec;
+ghost use Rattle.jpql_grammar.specs.Conditions as spec;
 
 use crate::steps::{is_mark, sees};
-use jpql_tree::{Keyword, Mark, Token};
+use jpql_grammar::{Keyword, Mark, Token};
 
 pub fn is_comparison(mark: Mark) -> bool
     ensures { result ≡ spec.is_comparison mark }

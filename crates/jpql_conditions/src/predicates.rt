@@ -1,18 +1,19 @@
 //! Tests of values, and TYPE.
 ghost use Rattle.std.specs.Prelude.{◌≡◌, ◌∷◌, [], IfOk, length};
 ghost use Rattle.jpql_lexer.specs.Gives.{Gives};
-ghost use Rattle.jpql_tree.specs.Values.{list_at, name_at};
-ghost use Rattle.jpql_tree.specs.Conditions as spec;
+ghost use Rattle.jpql_grammar.specs.Values.{list_at, name_at};
+ghost use Rattle.jpql_grammar.specs.Conditions as spec;
 
 use crate::lookahead::is_comparison;
 use crate::steps::{after, after_word, is_word, name, optional_word, path, sees, variable};
 use crate::values::{value, value_list};
 use jpa_value::{Boxed, Seq, Text};
+use jpql_grammar::{Keyword, Mark, Token};
 use jpql_lexer::ReadError;
-use jpql_tree::{Comparison, Condition, Keyword, Mark, Path, Token, Value};
+use jpql_tree::{Comparison, Condition, Path, Value};
 use std::alloc::{AllocError, Global};
 
-#[tactic(auto, unfolding(jpql_tree::specs::Conditions::comparison_at))]
+#[tactic(auto, unfolding(jpql_grammar::specs::Conditions::comparison_at))]
 fn comparison(tokens: &[Token]) -> Result<(Comparison, &[Token]), ReadError>
     ensures { Gives (λ r. (r.0, r.1.now)) result (spec.comparison_at tokens.now) }
 {
@@ -75,7 +76,7 @@ fn bare_path(bare: bool, value: Value) -> Result<Path, ReadError>
     }
 }
 
-#[tactic(auto, unfolding(jpql_tree::specs::Conditions::compared_at))]
+#[tactic(auto, unfolding(jpql_grammar::specs::Conditions::compared_at))]
 fn compared(
     alloc: Global,
     depth: usize,
@@ -89,7 +90,7 @@ fn compared(
     Ok((Condition::Compare(operation, left, right), rest))
 }
 
-#[tactic(auto, unfolding(jpql_tree::specs::Conditions::is_at))]
+#[tactic(auto, unfolding(jpql_grammar::specs::Conditions::is_at))]
 fn is_null_or_empty(
     alloc: Global,
     tested: Value,
@@ -109,7 +110,7 @@ fn is_null_or_empty(
     }
 }
 
-#[tactic(auto, unfolding(jpql_tree::specs::Conditions::between_at))]
+#[tactic(auto, unfolding(jpql_grammar::specs::Conditions::between_at))]
 fn between(
     alloc: Global,
     depth: usize,
@@ -124,7 +125,7 @@ fn between(
     Ok((Condition::Between(tested, least, greatest), rest))
 }
 
-#[tactic(auto, unfolding(jpql_tree::specs::Conditions::among_at))]
+#[tactic(auto, unfolding(jpql_grammar::specs::Conditions::among_at))]
 fn among(
     alloc: Global,
     depth: usize,
@@ -133,11 +134,15 @@ fn among(
 ) -> Result<(Condition, &[Token]), ReadError>
     ensures { Gives (λ r. (r.0, r.1.now)) result (spec.among_at depth tested tokens.now) }
 {
-    let (all, rest) = value_list(alloc, depth, after(Mark::Open, tokens)?)?;
+    let rest = after(Mark::Open, tokens)?;
+    if sees(Mark::Close, rest) {
+        return Ok((Condition::In(tested, Seq::new(alloc)), &rest[1..]));
+    }
+    let (all, rest) = value_list(alloc, depth, rest)?;
     Ok((Condition::In(tested, all), rest))
 }
 
-#[tactic(auto, unfolding(jpql_tree::specs::Conditions::escape_at))]
+#[tactic(auto, unfolding(jpql_grammar::specs::Conditions::escape_at))]
 fn escape(alloc: Global, tokens: &[Token]) -> Result<(Option<Text>, &[Token]), ReadError>
     ensures { Gives (λ r. (r.0, r.1.now)) result (spec.escape_at tokens.now) }
 {
@@ -152,7 +157,7 @@ fn escape(alloc: Global, tokens: &[Token]) -> Result<(Option<Text>, &[Token]), R
     }
 }
 
-#[tactic(auto, unfolding(jpql_tree::specs::Conditions::like_at))]
+#[tactic(auto, unfolding(jpql_grammar::specs::Conditions::like_at))]
 fn like(
     alloc: Global,
     depth: usize,
@@ -166,7 +171,7 @@ fn like(
     Ok((Condition::Like(tested, pattern, escape), rest))
 }
 
-#[tactic(auto, unfolding(jpql_tree::specs::Conditions::member_at))]
+#[tactic(auto, unfolding(jpql_grammar::specs::Conditions::member_at))]
 fn member(
     alloc: Global,
     tested: Value,
@@ -179,7 +184,7 @@ fn member(
     Ok((Condition::Member(tested, path), rest))
 }
 
-#[tactic(auto, unfolding(jpql_tree::specs::Conditions::worded_at))]
+#[tactic(auto, unfolding(jpql_grammar::specs::Conditions::worded_at))]
 fn worded(
     alloc: Global,
     depth: usize,
@@ -201,7 +206,7 @@ fn worded(
     }
 }
 
-#[tactic(auto, unfolding(jpql_tree::specs::Conditions::tested_at))]
+#[tactic(auto, unfolding(jpql_grammar::specs::Conditions::tested_at))]
 fn tested(
     alloc: Global,
     depth: usize,
@@ -222,7 +227,7 @@ fn tested(
     }
 }
 
-#[tactic(auto, unfolding(jpql_tree::specs::Conditions::valued_at))]
+#[tactic(auto, unfolding(jpql_grammar::specs::Conditions::valued_at))]
 fn valued(alloc: Global, depth: usize, tokens: &[Token]) -> Result<(Condition, &[Token]), ReadError>
     ensures { Gives (λ r. (r.0, r.1.now)) result (spec.valued_at depth tokens.now) }
 {
@@ -230,7 +235,7 @@ fn valued(alloc: Global, depth: usize, tokens: &[Token]) -> Result<(Condition, &
     tested(alloc, depth, first, begins_variable(tokens), rest)
 }
 
-#[tactic(auto, unfolding(jpql_tree::specs::Values::list_at, jpql_tree::specs::Values::others_at))]
+#[tactic(auto, unfolding(jpql_grammar::specs::Values::list_at, jpql_grammar::specs::Values::others_at))]
 fn names(alloc: Global, tokens: &[Token]) -> Result<(Seq<Text>, &[Token]), ReadError>
     ensures { Gives (λ r. (r.0, r.1.now)) result (list_at name_at tokens.now) }
 {
@@ -256,7 +261,7 @@ fn one_name(alloc: Global, name: Text) -> Result<Seq<Text>, AllocError>
     Ok(names)
 }
 
-#[tactic(auto, unfolding(jpql_tree::specs::Conditions::entities_at, jpql_tree::specs::Values::closed))]
+#[tactic(auto, unfolding(jpql_grammar::specs::Conditions::entities_at, jpql_grammar::specs::Values::closed))]
 fn entities(
     alloc: Global,
     variable: Text,
@@ -272,7 +277,7 @@ fn entities(
     Ok((test, rest))
 }
 
-#[tactic(auto, unfolding(jpql_tree::specs::Conditions::type_is_at))]
+#[tactic(auto, unfolding(jpql_grammar::specs::Conditions::type_is_at))]
 fn type_is(
     alloc: Global,
     negated: bool,
@@ -286,7 +291,7 @@ fn type_is(
     Ok((negated_if(alloc, negated, test)?, rest))
 }
 
-#[tactic(auto, unfolding(jpql_tree::specs::Conditions::entity_at))]
+#[tactic(auto, unfolding(jpql_grammar::specs::Conditions::entity_at))]
 fn entity(
     alloc: Global,
     variable: Text,
@@ -303,7 +308,7 @@ fn entity(
     }
 }
 
-#[tactic(auto, unfolding(jpql_tree::specs::Conditions::typed_at))]
+#[tactic(auto, unfolding(jpql_grammar::specs::Conditions::typed_at))]
 fn typed(alloc: Global, tokens: &[Token]) -> Result<(Condition, &[Token]), ReadError>
     ensures { Gives (λ r. (r.0, r.1.now)) result (spec.typed_at tokens.now) }
 {
@@ -312,7 +317,7 @@ fn typed(alloc: Global, tokens: &[Token]) -> Result<(Condition, &[Token]), ReadE
 }
 
 /// A test without a condition inside.
-#[tactic(auto, unfolding(jpql_tree::specs::Conditions::simple_at))]
+#[tactic(auto, unfolding(jpql_grammar::specs::Conditions::simple_at))]
 pub fn simple(
     alloc: Global,
     depth: usize,

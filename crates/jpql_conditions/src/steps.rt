@@ -1,11 +1,12 @@
 //! Marks, words, names and paths.
 ghost use Rattle.std.specs.Prelude.{◌≡◌, ◌∷◌, ◌++◌, [], length, IfOk};
 ghost use Rattle.jpql_lexer.specs.Gives.{Gives};
-ghost use Rattle.jpql_tree.specs.Values as spec;
+ghost use Rattle.jpql_grammar.specs.Values as spec;
 
 use jpa_value::{Seq, Text};
+use jpql_grammar::{Keyword, Mark, Token};
 use jpql_lexer::ReadError;
-use jpql_tree::{Keyword, Mark, Path, Token};
+use jpql_tree::Path;
 use std::alloc::{AllocError, Global};
 
 /// Whether the token is this mark.
@@ -78,7 +79,7 @@ pub fn copied(alloc: Global, text: &Text) -> Result<Text, AllocError>
 }
 
 /// A name, which may be a word of the grammar.
-#[tactic(auto, unfolding(jpql_tree::specs::Values::name_at))]
+#[tactic(auto, unfolding(jpql_grammar::specs::Values::name_at))]
 pub fn name(alloc: Global, tokens: &[Token]) -> Result<(Text, &[Token]), ReadError>
     ensures { Gives (λ r. (r.0, r.1.now)) result (spec.name_at tokens.now) }
 {
@@ -89,7 +90,7 @@ pub fn name(alloc: Global, tokens: &[Token]) -> Result<(Text, &[Token]), ReadErr
 }
 
 /// A variable, which is no word of the grammar.
-#[tactic(auto, unfolding(jpql_tree::specs::Values::variable_at))]
+#[tactic(auto, unfolding(jpql_grammar::specs::Values::variable_at))]
 pub fn variable(alloc: Global, tokens: &[Token]) -> Result<(Text, &[Token]), ReadError>
     ensures { Gives (λ r. (r.0, r.1.now)) result (spec.variable_at tokens.now) }
 {
@@ -99,7 +100,7 @@ pub fn variable(alloc: Global, tokens: &[Token]) -> Result<(Text, &[Token]), Rea
     }
 }
 
-#[tactic(auto, unfolding(jpql_tree::specs::Values::names_at))]
+#[tactic(auto, unfolding(jpql_grammar::specs::Values::names_at))]
 fn names(alloc: Global, tokens: &[Token]) -> Result<(Seq<Text>, &[Token]), ReadError>
     ensures { Gives (λ r. (r.0, r.1.now)) result
         (spec.names_at (length tokens.now) [] tokens.now) }
@@ -118,7 +119,7 @@ fn names(alloc: Global, tokens: &[Token]) -> Result<(Seq<Text>, &[Token]), ReadE
 }
 
 /// A path: a variable, and the names after its dots.
-#[tactic(auto, unfolding(jpql_tree::specs::Values::path_at))]
+#[tactic(auto, unfolding(jpql_grammar::specs::Values::path_at))]
 pub fn path(alloc: Global, tokens: &[Token]) -> Result<(Path, &[Token]), ReadError>
     ensures { Gives (λ r. (r.0, r.1.now)) result (spec.path_at tokens.now) }
 {

@@ -1,16 +1,16 @@
 //! Values.
 ghost use Rattle.std.specs.Prelude.{◌≡◌, ◌∷◌, [], length, IfOk};
 ghost use Rattle.jpql_lexer.specs.Gives.{Gives};
-ghost use Rattle.jpql_tree.specs.Grammar.{trimmed_value};
-ghost use Rattle.jpql_tree.specs.Values as spec;
-ghost use Rattle.jpql_tree.specs.Values.{value_at};
+ghost use Rattle.jpql_tree.specs.Calls as calls;
+ghost use Rattle.jpql_grammar.specs.Parts.{trimmed_value};
+ghost use Rattle.jpql_grammar.specs.Values as spec;
+ghost use Rattle.jpql_grammar.specs.Values.{value_at};
 
 use crate::steps::{after, after_word, copied, is_word, optional_word, path, sees};
 use jpa_value::{Boxed, Seq};
+use jpql_grammar::{Callee, Keyword, Mark, Token};
 use jpql_lexer::ReadError;
-use jpql_tree::{
-    Aggregate, Arithmetic, Callee, Function, Keyword, Mark, Path, Sign, Token, Trimmed, Value,
-};
+use jpql_tree::{Aggregate, Arithmetic, Function, Path, Sign, Trimmed, Value};
 use std::alloc::{AllocError, Global};
 
 fn callee_of(keyword: Keyword) -> Callee
@@ -38,7 +38,7 @@ fn callee_of(keyword: Keyword) -> Callee
 }
 
 fn takes(function: Function, count: usize) -> bool
-    ensures { result ≡ spec.takes function count }
+    ensures { result ≡ calls.takes function count }
 {
     match function {
         Function::Length | Function::Abs | Function::Upper | Function::Lower => count == 1,
@@ -62,7 +62,7 @@ fn taken(alloc: Global, tokens: &[Token]) -> Result<(Option<Value>, &[Token]), A
     }
 }
 
-#[tactic(auto, unfolding(jpql_tree::specs::Values::sided_at))]
+#[tactic(auto, unfolding(jpql_grammar::specs::Values::sided_at))]
 fn sided(
     alloc: Global,
     side: Trimmed,
@@ -74,7 +74,7 @@ fn sided(
     Ok((side, off, after_word(Keyword::From, rest)?))
 }
 
-#[tactic(auto, unfolding(jpql_tree::specs::Values::unsided_at))]
+#[tactic(auto, unfolding(jpql_grammar::specs::Values::unsided_at))]
 fn unsided(alloc: Global, tokens: &[Token]) -> Result<(Trimmed, Option<Value>, &[Token]), ReadError>
     ensures { Gives (λ r. ((r.0, r.1), r.2.now)) result (spec.unsided_at tokens.now) }
 {
@@ -87,7 +87,7 @@ fn unsided(alloc: Global, tokens: &[Token]) -> Result<(Trimmed, Option<Value>, &
 }
 
 /// The side off which TRIM takes, and what it takes off where that is written.
-#[tactic(auto, unfolding(jpql_tree::specs::Values::trimming_at))]
+#[tactic(auto, unfolding(jpql_grammar::specs::Values::trimming_at))]
 fn trimming(
     alloc: Global,
     tokens: &[Token],
@@ -123,7 +123,7 @@ fn trimmed(
 }
 
 #[cycle(value)]
-#[tactic(auto, unfolding(jpql_tree::specs::Values::unary_at))]
+#[tactic(auto, unfolding(jpql_grammar::specs::Values::unary_at))]
 fn unary(alloc: Global, depth: usize, tokens: &[Token]) -> Result<(Value, &[Token]), ReadError>
     ensures { Gives (λ r. (r.0, r.1.now)) result (spec.unary_at (value_at depth) tokens.now) }
 {
@@ -142,7 +142,7 @@ fn unary(alloc: Global, depth: usize, tokens: &[Token]) -> Result<(Value, &[Toke
 }
 
 #[cycle(value)]
-#[tactic(auto, unfolding(jpql_tree::specs::Values::atom_at, jpql_tree::specs::Values::word_at))]
+#[tactic(auto, unfolding(jpql_grammar::specs::Values::atom_at, jpql_grammar::specs::Values::word_at))]
 fn atom(alloc: Global, depth: usize, tokens: &[Token]) -> Result<(Value, &[Token]), ReadError>
     ensures { Gives (λ r. (r.0, r.1.now)) result (spec.atom_at (value_at depth) tokens.now) }
 {
@@ -166,7 +166,7 @@ fn atom(alloc: Global, depth: usize, tokens: &[Token]) -> Result<(Value, &[Token
 }
 
 #[cycle(value)]
-#[tactic(auto, unfolding(jpql_tree::specs::Values::others_at))]
+#[tactic(auto, unfolding(jpql_grammar::specs::Values::others_at))]
 fn others(
     alloc: Global,
     depth: usize,
@@ -192,7 +192,7 @@ fn others(
 
 /// The values of a list, and the parenthesis that closes it.
 #[cycle(value)]
-#[tactic(auto, unfolding(jpql_tree::specs::Values::list_at, jpql_tree::specs::Values::closed))]
+#[tactic(auto, unfolding(jpql_grammar::specs::Values::list_at, jpql_grammar::specs::Values::closed))]
 pub fn value_list(
     alloc: Global,
     depth: usize,
@@ -207,7 +207,7 @@ pub fn value_list(
 }
 
 #[cycle(value)]
-#[tactic(auto, unfolding(jpql_tree::specs::Values::closed))]
+#[tactic(auto, unfolding(jpql_grammar::specs::Values::closed))]
 fn nested(alloc: Global, depth: usize, tokens: &[Token]) -> Result<(Value, &[Token]), ReadError>
     ensures { Gives (λ r. (r.0, r.1.now)) result (spec.closed (value_at depth tokens.now)) }
 {
@@ -215,7 +215,7 @@ fn nested(alloc: Global, depth: usize, tokens: &[Token]) -> Result<(Value, &[Tok
     Ok((inner, after(Mark::Close, rest)?))
 }
 
-#[tactic(auto, unfolding(jpql_tree::specs::Values::closed))]
+#[tactic(auto, unfolding(jpql_grammar::specs::Values::closed))]
 fn closed_path(alloc: Global, tokens: &[Token]) -> Result<(Path, &[Token]), ReadError>
     ensures { Gives (λ r. (r.0, r.1.now)) result (spec.closed (spec.path_at tokens.now)) }
 {
@@ -224,7 +224,7 @@ fn closed_path(alloc: Global, tokens: &[Token]) -> Result<(Path, &[Token]), Read
 }
 
 #[cycle(value)]
-#[tactic(auto, unfolding(jpql_tree::specs::Values::trim_at))]
+#[tactic(auto, unfolding(jpql_grammar::specs::Values::trim_at))]
 fn trim(alloc: Global, depth: usize, tokens: &[Token]) -> Result<(Value, &[Token]), ReadError>
     ensures { Gives (λ r. (r.0, r.1.now)) result (spec.trim_at (value_at depth) tokens.now) }
 {
@@ -234,7 +234,7 @@ fn trim(alloc: Global, depth: usize, tokens: &[Token]) -> Result<(Value, &[Token
 }
 
 #[cycle(value)]
-#[tactic(auto, unfolding(jpql_tree::specs::Values::call_at))]
+#[tactic(auto, unfolding(jpql_grammar::specs::Values::call_at))]
 fn call(
     alloc: Global,
     depth: usize,
@@ -271,7 +271,7 @@ fn call(
 }
 
 #[cycle(value)]
-#[tactic(auto, unfolding(jpql_tree::specs::Values::times_at))]
+#[tactic(auto, unfolding(jpql_grammar::specs::Values::times_at))]
 fn times(
     alloc: Global,
     depth: usize,
@@ -299,7 +299,7 @@ fn times(
 }
 
 #[cycle(value)]
-#[tactic(auto, unfolding(jpql_tree::specs::Values::product_at))]
+#[tactic(auto, unfolding(jpql_grammar::specs::Values::product_at))]
 fn product(alloc: Global, depth: usize, tokens: &[Token]) -> Result<(Value, &[Token]), ReadError>
     ensures { Gives (λ r. (r.0, r.1.now)) result (spec.product_at (value_at depth) tokens.now) }
 {
@@ -308,7 +308,7 @@ fn product(alloc: Global, depth: usize, tokens: &[Token]) -> Result<(Value, &[To
 }
 
 #[cycle(value)]
-#[tactic(auto, unfolding(jpql_tree::specs::Values::level_at))]
+#[tactic(auto, unfolding(jpql_grammar::specs::Values::level_at))]
 fn level(alloc: Global, depth: usize, tokens: &[Token]) -> Result<(Value, &[Token]), ReadError>
     ensures { Gives (λ r. (r.0, r.1.now)) result (spec.level_at (value_at depth) tokens.now) }
 {
@@ -317,7 +317,7 @@ fn level(alloc: Global, depth: usize, tokens: &[Token]) -> Result<(Value, &[Toke
 }
 
 #[cycle(value)]
-#[tactic(auto, unfolding(jpql_tree::specs::Values::sums_at))]
+#[tactic(auto, unfolding(jpql_grammar::specs::Values::sums_at))]
 fn sums(
     alloc: Global,
     depth: usize,
@@ -350,7 +350,7 @@ fn sums(
 
 /// A value, with fewer than `depth` parentheses inside one another.
 #[cycle(value)]
-#[tactic(auto, unfolding(jpql_tree::specs::Values::value_at))]
+#[tactic(auto, unfolding(jpql_grammar::specs::Values::value_at))]
 pub fn value(alloc: Global, depth: usize, tokens: &[Token]) -> Result<(Value, &[Token]), ReadError>
     ensures { Gives (λ r. (r.0, r.1.now)) result (value_at depth tokens.now) }
 {

@@ -12,7 +12,7 @@ use Rattle.jpql_tree.specs.declared.Trimmed.{Trimmed}
 use Rattle.jpql_tree.specs.declared.Arithmetic.{Arithmetic}
 use Rattle.jpql_tree.specs.declared.Sign.{Sign}
 use Rattle.jpql_tree.specs.declared.Comparison.{Comparison}
-use Rattle.jpql_tree.specs.Values.{takes}
+use Rattle.jpql_tree.specs.Calls.{takes}
 use Rattle.jpql_types.specs.declared.sort.Sort.{Sort}
 use Rattle.jpql_types.specs.Scope.{when}
 use Rattle.jpql_types.specs.Sorts as sorts

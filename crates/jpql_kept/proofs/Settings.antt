@@ -17,8 +17,8 @@ use Rattle.jpa_row_laws.proofs.Facts.{some_none, value_in}
 use Rattle.jpa_stored.specs.Sets.{StoredSet, is_identity_of}
 use Rattle.jpql_tree.specs.declared.Value.{Value}
 use Rattle.jpql_tree.specs.declared.Assignment.{Assignment}
-use Rattle.jpql_tree.specs.Grammar.{Text}
-use Rattle.jpql_tree.specs.Values.{◌>>=◌}
+use Rattle.jpql_tree.specs.Names.{Text}
+use Rattle.jpql_tree.specs.Steps.{◌>>=◌}
 use Rattle.jpql_types.specs.declared.scope.Step.{Step}
 use Rattle.jpql_types.specs.declared.sort.Sort.{Sort}
 use Rattle.jpql_types.specs.Scope.{Scope, when, same_variable, step_at, step_from, class_at}

@@ -9,7 +9,7 @@ use Rattle.jpa_value.specs.Value.{is_null}
 use Rattle.jpa_model.specs.declared.unit.PersistenceUnit.{PersistenceUnit}
 use Rattle.jpa_row_laws.proofs.Facts.{some_none, value_in}
 use Rattle.jpa_stored.specs.Sets.{each_fits}
-use Rattle.jpql_tree.specs.Values.{◌>>=◌}
+use Rattle.jpql_tree.specs.Steps.{◌>>=◌}
 use Rattle.jpql_types.specs.declared.sort.Sort.{Sort}
 use Rattle.jpql_types.specs.Scope.{when}
 use Rattle.jpql_types.specs.Sorts.{same_kind, goes_with, is_basic, known_of, joined_with, joined, joined_basic}

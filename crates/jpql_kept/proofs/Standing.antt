@@ -24,8 +24,8 @@ use Rattle.jpa_stored.specs.declared.stored.Stored.{Stored}
 use Rattle.jpa_stored.specs.Sets.{StoredSet, stored_at, all_shaped, is_shaped, all_lead, is_of, each_fits, is_identity_of, is_key_of, version_there, owns_well, owned_at, members, members_by, first_fault}
 use Rattle.jpa_object_rows.proofs.Bytes.Orders.{identities}
 use Rattle.jpql_tree.specs.declared.Path.{Path}
-use Rattle.jpql_tree.specs.Grammar.{Text}
-use Rattle.jpql_tree.specs.Values.{◌>>=◌}
+use Rattle.jpql_tree.specs.Names.{Text}
+use Rattle.jpql_tree.specs.Steps.{◌>>=◌}
 use Rattle.jpql_types.specs.declared.scope.Step.{Step}
 use Rattle.jpql_types.specs.declared.scope.TypedPath.{TypedPath}
 use Rattle.jpql_types.specs.declared.sort.Sort.{Sort}

@@ -13,7 +13,7 @@ use Rattle.jpa_model.specs.Chains.{entity_at, root_in, root_of, attributes_of, r
 use Rattle.jpa_model.specs.WellFormed.{is_some_that}
 use Rattle.jpa_behaviour.specs.Behaviour.{World}
 use Rattle.jpa_stored.specs.Sets.{each_fits, is_identity_of}
-use Rattle.jpql_tree.specs.Grammar.{Text}
+use Rattle.jpql_tree.specs.Names.{Text}
 use Rattle.jpql_types.specs.declared.sort.Sort.{Sort}
 use Rattle.jpql_eval.specs.declared.datum.Datum.{Datum}
 use Rattle.jpql_plan.specs.Bulk.{Throws}

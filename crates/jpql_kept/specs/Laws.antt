@@ -5,7 +5,7 @@ use Rattle.jpa_behaviour.specs.Behaviour.{World, AnswersConvertible}
 use Rattle.jpa_stored.specs.Sets.{StoredSet, IsSound}
 use Rattle.jpa_rows.specs.Cells.{CanBeHeld, all_representable}
 use Rattle.jpql_tree.specs.declared.Query.{Query}
-use Rattle.jpql_tree.specs.Grammar.{Text}
+use Rattle.jpql_tree.specs.Names.{Text}
 use Rattle.jpql_types.specs.declared.sort.Sort.{Sort}
 use Rattle.jpql_types.specs.declared.typed.Typed.{Typed}
 use Rattle.jpql_types.specs.declared.typed.TypedAssignment.{TypedAssignment}

@@ -12,13 +12,13 @@ use Rattle.std.specs.Char.{is_ascii_digit}
 use Rattle.std.specs.List.{prefix_len, list_all}
 use mir.Syntax.{w64}
 use Rattle.std.specs.Str.{IsCharBoundary}
-use Rattle.jpql_tree.specs.Grammar.{Text}
+use Rattle.jpql_tree.specs.Names.{Text}
 use Rattle.jpql_tree.specs.declared.Language.{Language}
-use Rattle.jpql_tree.specs.declared.token.Token.{Token}
-use Rattle.jpql_tree.specs.Text.{begins, digits_value, greatest_integer, Piece}
-use Rattle.jpql_tree.proofs.Tools.{same}
-use Rattle.jpql_tree.proofs.LexingLaws.{one_piece}
-use Rattle.jpql_tree.specs.Lexing.{run, with_front, quoted_at, first, number_of, piece_at, tokens_at}
+use Rattle.jpql_grammar.specs.declared.token.Token.{Token}
+use Rattle.jpql_grammar.specs.Text.{begins, digits_value, greatest_integer, Piece}
+use Rattle.jpql_grammar.proofs.Tools.{same}
+use Rattle.jpql_grammar.proofs.LexingLaws.{one_piece}
+use Rattle.jpql_grammar.specs.Lexing.{run, with_front, quoted_at, first, number_of, piece_at, tokens_at}
 use Rattle.jpql_lexer.specs.declared.cut.Class.{Class}
 use Rattle.jpql_lexer.specs.declared.cut.Class.TheVariants as class
 use Rattle.jpql_lexer.specs.Classes.{is_in, as_tokens}

@@ -1,11 +1,11 @@
 -- What reading a whole text answers, in words of the grammar.
 use Rattle.std.proofs.Common.{◌≡◌, List, [], length, Some, Result, Ok, Err, IfOk, subst}
 use Rattle.jpql_tree.specs.declared.Language.{Language}
-use Rattle.jpql_tree.specs.declared.token.Token.{Token}
-use Rattle.jpql_tree.specs.Grammar.{Text}
-use Rattle.jpql_tree.specs.Text.{IsText}
-use Rattle.jpql_tree.specs.Lexing.{tokens_at}
-use Rattle.jpql_tree.proofs.LexingLaws.{tokens_sound, tokens_complete}
+use Rattle.jpql_grammar.specs.declared.token.Token.{Token}
+use Rattle.jpql_tree.specs.Names.{Text}
+use Rattle.jpql_grammar.specs.Text.{IsText}
+use Rattle.jpql_grammar.specs.Lexing.{tokens_at}
+use Rattle.jpql_grammar.proofs.LexingLaws.{tokens_sound, tokens_complete}
 use Rattle.jpql_lexer.specs.declared.error.ReadError.{ReadError}
 use Rattle.jpql_lexer.specs.declared.error.ReadError.TheVariants.{Memory, Syntax}
 use Rattle.jpql_lexer.specs.Gives.{Gives}

@@ -2,10 +2,10 @@
 use Rattle.std.specs.Prelude.{ℕ, ◌==◌, Bool, not, List, [], ◌∷◌, Option, Some, None}
 use Rattle.std.specs.Char.{is_ascii_digit}
 use Rattle.jpql_tree.specs.declared.Language.{Language}
-use Rattle.jpql_tree.specs.declared.token.Token.{Token}
-use Rattle.jpql_tree.specs.Grammar.{Text}
-use Rattle.jpql_tree.specs.Values.{◌>>=◌}
-use Rattle.jpql_tree.specs.Text.{is_in_word, Piece, piece_tokens}
+use Rattle.jpql_grammar.specs.declared.token.Token.{Token}
+use Rattle.jpql_tree.specs.Names.{Text}
+use Rattle.jpql_tree.specs.Steps.{◌>>=◌}
+use Rattle.jpql_grammar.specs.Text.{is_in_word, Piece, piece_tokens}
 use Rattle.jpql_lexer.specs.declared.cut.Class.{Class}
 use Rattle.jpql_lexer.specs.declared.cut.Class.TheVariants as class
 

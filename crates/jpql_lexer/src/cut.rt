@@ -1,7 +1,7 @@
 //! Steps over the text that allocate nothing.
 ghost use Rattle.std.specs.Prelude.{◌≡◌, ◌<◌, ◌≤◌, ◌+◌, length, drop, slice_index};
 ghost use Rattle.std.specs.List.{prefix_len};
-ghost use Rattle.jpql_tree.specs.Lexing.{run, first};
+ghost use Rattle.jpql_grammar.specs.Lexing.{run, first};
 ghost use Rattle.jpql_lexer.specs.Classes as spec;
 
 /// A set of bytes, to find a run of them.

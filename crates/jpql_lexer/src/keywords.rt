@@ -1,10 +1,11 @@
 //! The words of the grammar.
 ghost use Rattle.std.specs.Prelude.{◌≡◌};
 ghost use Rattle.std.specs.Str.{str_eq_ignore_ascii_case};
-ghost use Rattle.jpql_tree.specs.Text as spec;
+ghost use Rattle.jpql_grammar.specs.Text as spec;
 ghost use Rattle.jpql_tree.specs.declared.Language.TheVariants as language;
 
-use jpql_tree::{Keyword, Language};
+use jpql_grammar::Keyword;
+use jpql_tree::Language;
 
 /// The words of the profile's grammar, which the wider language has too.
 const PROFILE_KEYWORDS: [Keyword; 46] = [
@@ -158,7 +159,7 @@ fn first_keyword(keywords: &[Keyword], word: &str) -> Option<Keyword>
     None
 }
 
-#[tactic(auto, unfolding(jpql_tree::specs::Text::keyword_of))]
+#[tactic(auto, unfolding(jpql_grammar::specs::Text::keyword_of))]
 fn profile_keyword(word: &str) -> Option<Keyword>
     ensures { result ≡ spec.keyword_of language.Profile word.now }
 {

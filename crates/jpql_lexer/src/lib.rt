@@ -1,9 +1,9 @@
 //! Cuts a text of the query language into tokens (Jakarta Persistence 3.1, chapter 4.4.1:
 //! identifiers, and 4.6.1: literals).
 //!
-//! A text is seen as its bytes. `jpql_tree`'s `specs/Text` says which tokens a text has, as a
+//! A text is seen as its bytes. `jpql_grammar`'s `specs/Text` says which tokens a text has, as a
 //! relation: each word, number and mark goes as far as its characters do. The crate stands on
-//! `jpa_value` and `jpql_tree`.
+//! `jpa_value`, `jpql_tree` and `jpql_grammar`.
 #![tactic(auto)]
 
 mod cut;

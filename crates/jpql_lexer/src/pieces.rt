@@ -1,15 +1,15 @@
 //! Pieces of a text, and all of them.
 ghost use Rattle.std.specs.Prelude.{◌≡◌, ◌∷◌, ◌++◌, [], length, OnOk, IfOk, false, true, Some, None, MatchOption, ◌<◌, if◌then◌else◌, Err, List, ℕ};
-ghost use Rattle.jpql_tree.specs.Text.{IsText};
+ghost use Rattle.jpql_grammar.specs.Text.{IsText};
 ghost use Rattle.jpql_tree.specs.declared.Language.{Language};
-ghost use Rattle.jpql_tree.specs.declared.token.Token.{Token};
+ghost use Rattle.jpql_grammar.specs.declared.token.Token.{Token};
 ghost use Rattle.jpql_lexer.specs.declared.error.ReadError.TheVariants.{Syntax};
 ghost use Rattle.std.specs.Char.{is_ascii_digit};
 ghost use Rattle.std.specs.List.{list_all};
 ghost use Rattle.std.specs.String.{string_bytes};
-ghost use Rattle.jpql_tree.specs.Text as text_spec;
-ghost use Rattle.jpql_tree.specs.Text.{begins, word_of};
-ghost use Rattle.jpql_tree.specs.Lexing as spec;
+ghost use Rattle.jpql_grammar.specs.Text as text_spec;
+ghost use Rattle.jpql_grammar.specs.Text.{begins, word_of};
+ghost use Rattle.jpql_grammar.specs.Lexing as spec;
 ghost use Rattle.jpql_lexer.specs.Classes.{as_tokens, one_if_any};
 ghost use Rattle.jpql_lexer.specs.Gives.{Gives};
 
@@ -17,7 +17,8 @@ use crate::cut::{Class, first, skip_one, split_run};
 use crate::error::ReadError;
 use crate::keywords::keyword_of;
 use jpa_value::Text;
-use jpql_tree::{Language, Mark, Token};
+use jpql_grammar::{Mark, Token};
+use jpql_tree::Language;
 use std::alloc::{AllocError, Global};
 
 fn word_token(alloc: Global, language: Language, word: &str) -> Result<Token, AllocError>
@@ -30,9 +31,10 @@ fn word_token(alloc: Global, language: Language, word: &str) -> Result<Token, Al
     }
 }
 
-#[tactic(auto, unfolding(jpql_tree::specs::Lexing::word_at))]
+#[tactic(auto, unfolding(jpql_grammar::specs::Lexing::word_at))]
 fn word(alloc: Global, language: Language, text: &str) -> Result<(Token, &str), ReadError>
-    ensures { Gives (λ r. (r.0 ∷ [], r.1.now)) result (as_tokens language (spec.word_at text.now)) }
+    ensures { Gives (λ r. (r.0 ∷ [], r.1.now)) result
+        (as_tokens language (spec.word_at text.now)) }
 {
     let (word, rest) = split_run(Class::Word, text);
     Ok((word_token(alloc, language, word)?, rest))
@@ -49,7 +51,7 @@ fn number(digits: &str) -> Option<i64>
     }
 }
 
-#[tactic(auto, unfolding(jpql_tree::specs::Lexing::digits_at))]
+#[tactic(auto, unfolding(jpql_grammar::specs::Lexing::digits_at))]
 fn digits(text: &str) -> Result<(Token, &str), ReadError>
     requires { begins is_ascii_digit text.now ≡ true }
     ensures { (l : Language) → Gives (λ r. (r.0 ∷ [], r.1.now)) result
@@ -110,7 +112,7 @@ fn quoted(alloc: Global, text: &str) -> Result<(Text, &str), ReadError>
     }
 }
 
-#[tactic(auto, unfolding(jpql_tree::specs::Lexing::quotes_at))]
+#[tactic(auto, unfolding(jpql_grammar::specs::Lexing::quotes_at))]
 fn quotes(alloc: Global, text: &str) -> Result<(Token, &str), ReadError>
     ensures { (l : Language) → Gives (λ r. (r.0 ∷ [], r.1.now)) result
         (as_tokens l (spec.quotes_at text.now)) }
@@ -132,7 +134,7 @@ fn begins_digits(text: &str) -> bool
     first(text).is_ascii_digit()
 }
 
-#[tactic(auto, unfolding(jpql_tree::specs::Lexing::named_at))]
+#[tactic(auto, unfolding(jpql_grammar::specs::Lexing::named_at))]
 fn named(alloc: Global, text: &str) -> Result<(Token, &str), ReadError>
     ensures { (l : Language) → Gives (λ r. (r.0 ∷ [], r.1.now)) result
         (as_tokens l (spec.named_at text.now)) }
@@ -144,7 +146,7 @@ fn named(alloc: Global, text: &str) -> Result<(Token, &str), ReadError>
     Ok((Token::Parameter(Text::of(alloc, name)?), rest))
 }
 
-#[tactic(auto, unfolding(jpql_tree::specs::Lexing::numbered_at))]
+#[tactic(auto, unfolding(jpql_grammar::specs::Lexing::numbered_at))]
 fn numbered(alloc: Global, text: &str) -> Result<(Token, &str), ReadError>
     ensures { (l : Language) → Gives (λ r. (r.0 ∷ [], r.1.now)) result
         (as_tokens l (spec.numbered_at text.now)) }
@@ -203,7 +205,7 @@ fn is_long(mark: Mark) -> bool
     }
 }
 
-#[tactic(auto, unfolding(jpql_tree::specs::Lexing::mark_at))]
+#[tactic(auto, unfolding(jpql_grammar::specs::Lexing::mark_at))]
 fn mark(text: &str) -> Result<(Token, &str), ReadError>
     requires { 0 < length text.now }
     ensures { (l : Language) → Gives (λ r. (r.0 ∷ [], r.1.now)) result
@@ -231,7 +233,7 @@ fn is_blank(byte: u8) -> bool
 }
 
 /// The token that begins with this byte.
-#[tactic(auto, unfolding(jpql_tree::specs::Lexing::piece_at))]
+#[tactic(auto, unfolding(jpql_grammar::specs::Lexing::piece_at))]
 fn token(
     alloc: Global,
     language: Language,
@@ -241,7 +243,8 @@ fn token(
     requires some { 0 < length text.now }
     requires first { byte ≡ spec.first text.now }
     requires solid { text_spec.is_blank byte ≡ false }
-    ensures { Gives (λ r. (r.0 ∷ [], r.1.now)) result (as_tokens language (spec.piece_at text.now)) }
+    ensures { Gives (λ r. (r.0 ∷ [], r.1.now)) result
+        (as_tokens language (spec.piece_at text.now)) }
 {
     if begins_word(text) {
         word(alloc, language, text)
@@ -258,9 +261,10 @@ fn token(
     }
 }
 
-#[tactic(auto, unfolding(jpql_tree::specs::Lexing::piece_at))]
+#[tactic(auto, unfolding(jpql_grammar::specs::Lexing::piece_at))]
 fn piece(alloc: Global, language: Language, text: &str) -> Result<(Option<Token>, &str), ReadError>
-    ensures { Gives (λ r. (one_if_any r.0, r.1.now)) result (as_tokens language (spec.piece_at text.now)) }
+    ensures { Gives (λ r. (one_if_any r.0, r.1.now)) result
+        (as_tokens language (spec.piece_at text.now)) }
 {
     if text.is_empty() {
         return Err(ReadError::Syntax);
@@ -283,7 +287,7 @@ fn add(found: &mut Vec<Token>, token: Option<Token>) -> Result<(), AllocError>
 }
 
 /// The tokens of a text.
-#[tactic(auto, unfolding(jpql_tree::specs::Lexing::tokens_at))]
+#[tactic(auto, unfolding(jpql_grammar::specs::Lexing::tokens_at))]
 fn cut(alloc: Global, language: Language, text: &str) -> Result<Vec<Token>, ReadError>
     ensures { Gives (λ found. found.items) result
         (spec.tokens_at language (length text.now) [] text.now) }

@@ -21,6 +21,9 @@ pub mod Growing
 pub mod Parted
 pub mod Among
 pub mod ByKey
+pub mod ByLink
 pub mod Left
 pub mod LeftOne
 pub mod Narrowed
+pub mod KeyEnds
+pub mod KeySpans

@@ -13,3 +13,5 @@ pub mod Refused
 pub mod Grown
 pub mod Indexes
 pub mod Bounds
+pub mod KeySpans
+pub mod ByLink

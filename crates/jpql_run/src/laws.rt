@@ -10,6 +10,7 @@ ghost use Rattle.jpql_types.specs.declared.typed.TypedValue.{TypedValue};
 ghost use Rattle.jpql_plan.specs.Paths.{Entry, Tuple};
 ghost use Rattle.jpql_run.specs.Keys.{IsAlwaysTold, IsAnyTold};
 ghost use Rattle.jpql_run.specs.Calm.{CalmLaws};
+ghost use Rattle.jpql_run.specs.ByLink.{LinkLaws};
 ghost use Rattle.jpql_run.specs.Lookups.{KeyLaws, LookupLaws, KnownLaws};
 ghost use Rattle.jpql_run.specs.Refused.{AreJoinsTold, LeavingOut, JoinLeavingOut, RefusalLaws};
 
@@ -57,4 +58,11 @@ pub fn known_laws()
 pub fn key_laws()
     ensures { (m : PersistenceUnit) (s : StoredSet) (ps : List Datum) (cs : List TypedCondition)
         (t : Tuple) → KeyLaws m s ps cs t }
+{}
+
+/// The law of keys that links lead to; it does nothing. What the index of references leaves out for
+/// such a key, each part of which is asked, is refused.
+pub fn link_laws()
+    ensures { (m : PersistenceUnit) (s : StoredSet) (ps : List Datum) (cs : List TypedCondition)
+        (t : Tuple) → LinkLaws m s ps cs t }
 {}

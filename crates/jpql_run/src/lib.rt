@@ -8,6 +8,8 @@ mod asking;
 mod block;
 mod bounds;
 mod by_key;
+mod by_key_span;
+mod by_link;
 mod by_on;
 mod by_reference;
 mod by_value;
@@ -23,6 +25,7 @@ mod holding;
 mod indexed;
 mod indexes;
 mod joins;
+mod key_ends;
 mod known;
 mod laws;
 mod links;
@@ -45,7 +48,8 @@ pub use gathering::indexes_for;
 pub use holding::{kept, truth, truth_by};
 pub use indexes::Indexes;
 pub use laws::{
-    calm_laws, join_laws, key_laws, known_laws, leaving_out_laws, lookup_laws, refusal_laws,
+    calm_laws, join_laws, key_laws, known_laws, leaving_out_laws, link_laws, lookup_laws,
+    refusal_laws,
 };
 pub use looked_up::copied;
 pub use object::{Object, object_of};

@@ -22,9 +22,11 @@ use std::alloc::{AllocError, Global};
 
 /// A tuple, and the group that it is the first of, where they stand.
 #[derive(Clone, Copy)]
-pub(crate) struct Case<'t, 'a> {
-    pub(crate) tuple: &'t Tuple<'a>,
-    pub(crate) group: &'t [Tuple<'a>],
+pub struct Case<'t, 'a> {
+    /// What paths start from.
+    pub tuple: &'t Tuple<'a>,
+    /// What aggregates go over; nothing, where a tuple stands alone.
+    pub group: &'t [Tuple<'a>],
 }
 
 /// Whether a value has an aggregate.
@@ -66,8 +68,9 @@ fn is_any(groups: &[TypedPath]) -> bool
     !matches!(groups, [])
 }
 
-/// Whether the tuples of a statement stand in groups.
-fn is_grouping(select: &TypedSelect) -> bool
+/// Whether the tuples of a statement stand in groups: by GROUP BY, HAVING or an aggregate among its
+/// items (chapter 4.8).
+pub fn is_grouping(select: &TypedSelect) -> bool
     ensures { result ≡ selection.is_grouping select.now }
 {
     is_any(select.groups.as_slice())

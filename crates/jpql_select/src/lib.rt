@@ -22,7 +22,11 @@ mod statement;
 mod table;
 mod tuples;
 
+pub use case::{Case, is_grouping};
+pub use order::by_sorting;
 pub use own::rows_of;
-pub use row::Row;
+pub use row::{Row, Sorting};
+pub use rows::{items_of, sorting_of};
 pub use statement::select;
-pub use table::Table;
+pub use table::{Table, table_of};
+pub use tuples::selected_tuples;

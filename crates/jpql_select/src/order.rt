@@ -86,11 +86,13 @@ fn data_of<'s, 'a>(sorting: &'s Sorting<'a>) -> &'s [Seen<'a>]
     }
 }
 
-/// Row by row.
-fn by_rows<'a>(keys: &[TypedKey], left: &Row<'a>, right: &Row<'a>) -> Ordering
-    ensures { result ≡ selection.keys_cmp keys.now left.now.keys right.now.keys }
+/// The order of two rows by what they are ordered by (chapter 4.10): nulls come first, and DESC
+/// turns a key round.
+pub fn by_sorting<'a>(keys: &[TypedKey], left: &Sorting<'a>, right: &Sorting<'a>) -> Ordering
+    ensures { result
+        ≡ selection.keys_cmp keys.now (sorting_data left.now) (sorting_data right.now) }
 {
-    match (&left.keys, &right.keys) {
+    match (left, right) {
         (Sorting::One(left), Sorting::One(right)) => by_one(keys, left, right),
         (left, right) => by_keys(keys, data_of(left), data_of(right)),
     }
@@ -105,6 +107,6 @@ pub(crate) fn in_order<'a>(
         ≡ selection.in_order keys.now rows.entry.items) }
 {
     let mut sorted = rows;
-    sorted.sort_by(|left, right| by_rows(keys, left, right))?;
+    sorted.sort_by(|left, right| by_sorting(keys, &left.keys, &right.keys))?;
     Ok(sorted)
 }

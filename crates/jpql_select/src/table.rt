@@ -13,8 +13,8 @@ use std::alloc::{AllocError, Global};
 /// The rows that a SELECT gives, each with what its items give.
 pub type Table<'a> = Vec<Vec<Seen<'a>>>;
 
-/// The items of rows.
-fn table_of<'a>(alloc: Global, rows: Vec<Row<'a>>) -> Result<Table<'a>, AllocError>
+/// The items of rows, which are moved; fails for want of memory alone.
+pub fn table_of<'a>(alloc: Global, rows: Vec<Row<'a>>) -> Result<Table<'a>, AllocError>
     ensures { IfOk result (λ table. rows_in table ≡ items_in rows.entry.items) }
 {
     let mut table = Vec::with_capacity(alloc, rows.len())?;

@@ -1,8 +1,8 @@
 -- The item at a place of a list, and those after it.
 use Rattle.std.proofs.Common.{◌≡◌, ℕ, zero, suc, ◌+◌, ◌<◌, ◌≤◌, Bool, true, false, List, [], ◌∷◌, refl, ap, sym, ◌∙◌, arith, length, drop, get_or, add-one, Option, Some, None}
 use Rattle.std.proofs.Math.Seq.{drop-cons}
-use Rattle.jpql_tree.specs.Limits.{nests_over, nest_step}
-use Rattle.jpql_tree.proofs.NestingLaws.{nests_on, nests_past}
+use Rattle.jpql_grammar.specs.Limits.{nests_over, nest_step}
+use Rattle.jpql_grammar.proofs.NestingLaws.{nests_on, nests_past}
 
 pub drop_past : {A : Type 0} (xs : List A) (i : ℕ) → length xs ≤ i → drop i xs ≡ []
 drop_past [] zero h = refl

@@ -1,51 +1,112 @@
 -- What reading a whole text answers, in words of the grammar.
 use Rattle.std.proofs.Common.{◌≡◌, ℕ, ◌≤◌, ◌<◌, ◌⊎◌, inl, inr, min, Bool, true, false, List, length, Option, Some, None, Result, Ok, Err, IfOk, IfErr, subst, ap, sym, ◌∙◌, refl, arith}
+use Rattle.std.proofs.lemmas.Bool.{leb-true, leb-false}
 use Rattle.jpa_value.specs.declared.refusal.Argument.TheVariants as argument
 use Rattle.jpa_value.specs.declared.refusal.Cause.{Cause}
 use Rattle.jpa_value.specs.declared.refusal.Cause.TheVariants as cause
-use Rattle.jpql_tree.specs.declared.token.Token.{Token}
+use Rattle.jpql_grammar.specs.declared.lists.GivenList.{GivenList}
+use Rattle.jpql_grammar.specs.declared.token.Token.{Token}
 use Rattle.jpql_tree.specs.declared.Language.{Language}
 use Rattle.jpql_tree.specs.declared.Query.{Query}
-use Rattle.jpql_tree.specs.Grammar.{Text, IsStatement}
-use Rattle.jpql_tree.specs.Text.{IsText}
-use Rattle.jpql_tree.specs.Statements.{whole_at}
-use Rattle.jpql_tree.specs.Limits.{nests_over}
+use Rattle.jpql_tree.specs.Names.{Text}
+use Rattle.jpql_tree.specs.Steps.{◌>>=◌}
+use Rattle.jpql_grammar.specs.Grammar.{IsStatement}
+use Rattle.jpql_grammar.specs.Text.{IsText}
+use Rattle.jpql_grammar.specs.Statements.{whole_at}
+use Rattle.jpql_grammar.specs.Limits.{nests_over}
 use Rattle.jpql_tree.specs.Variables.{declared_variables}
-use Rattle.jpql_tree.specs.Queries.{IsQuery}
-use Rattle.jpql_tree.proofs.Tools.{same}
-use Rattle.jpql_tree.proofs.One.{read_is}
-use Rattle.jpql_tree.proofs.Queries.{query_read}
+use Rattle.jpql_grammar.specs.Lists.{spread, are_used}
+use Rattle.jpql_grammar.specs.Queries.{IsQuery}
+use Rattle.jpql_grammar.proofs.Tools.{same, step}
+use Rattle.jpql_grammar.proofs.One.{read_is}
+use Rattle.jpql_grammar.proofs.Queries.{one_list, query_read}
 use Rattle.jpql_lexer.specs.declared.error.ReadError.{ReadError}
 use Rattle.jpql_lexer.specs.declared.error.ReadError.TheVariants.{Memory, Syntax}
 use Rattle.jpql_lexer.specs.Gives.{Gives, Fails}
-use Rattle.jpql_text.specs.Answers.{IsWithin, IsRead, IsRefused}
+use Rattle.jpql_text.specs.Answers.{IsWithin, IsAnswered, UsesLists, cause_of, statement_in}
+use Rattle.jpql_text.specs.Together.{most_values_together, values_together, become_few}
 
 abbrev pub itself : Query → Query
 itself q = q
 
--- ---- tokens, and the statement that they are
+-- ---- which lists stand in the text
 
-pub whole_found : (l : Language) (r : Result Query ReadError) (text : Text) (tokens : List Token) → IsText l text tokens → Gives itself r (whole_at 34 tokens) → IfOk r (λ q. IsQuery l text q)
-whole_found l (Ok q) text tokens t h = (tokens, t, read_is tokens q h)
-whole_found l (Err e) text tokens t h = tt
+pub used_in : (l : Language) (lists : List GivenList) (text : Text) (written : List Token) (uses : Bool) → IsText l text written → uses ≡ are_used lists written → UsesLists l lists text uses
+used_in l lists text written uses t e = record {
+  used = λ tokens u. e ∙ ap (are_used lists) (one_list l text written tokens t u);
+  none = λ no. absurd (no written t);
+}
 
-pub whole_only : (l : Language) (r : Result Query ReadError) (text : Text) (tokens : List Token) → nests_over 32 false 0 text ≡ false → IsText l text tokens → Gives itself r (whole_at 34 tokens)
-    → (q : Query) → IsQuery l text q → Gives itself r (Some q)
-whole_only l r text tokens n t h q is = subst (Gives itself r) (query_read l text tokens q n t is) h
+pub used_in_none : {X : Type 0} (l : Language) (lists : List GivenList) (view : X → List Token) (text : Text) → ((tokens : List Token) → IsText l text tokens → Gives {X = X} view (Err Syntax) (Some tokens))
+    → UsesLists l lists text true
+used_in_none l lists view text h = record {
+  used = λ tokens t. (let none = h tokens t in absurd cc);
+  none = λ no. refl;
+}
 
--- where the text has no tokens
-pub no_tokens : {X : Type 0} (l : Language) (view : X → List Token) (e : ReadError) (text : Text) → ((tokens : List Token) → IsText l text tokens → Gives {X = X} view (Err e) (Some tokens))
-    → (q : Query) → IsQuery l text q → Fails e (Some q)
-no_tokens l view Memory text h q is = tt
-no_tokens l view Syntax text h q (tokens, t, s) = let none = h tokens t in absurd cc
+-- ---- what is answered
 
--- ---- the limits
+-- a text that isn't too long, nests not too deep, and has these tokens
+module _ (l : Language) (lists : List GivenList) (text : Text) (written : List Token) (short : length text ≤ 16384) (shallow : nests_over 32 false 0 text ≡ false) (is : IsText l text written) where
+  -- its lists become too many values
+  pub too_many_values : become_few lists written ≡ false → IsAnswered l lists text (Err cause.Limit)
+  too_many_values many = record {
+    read = tt;
+    refused = inr (inr (inl (written, is, over)));
+    only = λ q r. absurd (omega (arith, over, r.1.2 written is));
+  }
+    where
+      over : most_values_together < values_together lists written
+      over = leb-false (values_together lists written) most_values_together many
 
-pub syntax_not : (l : Language) (text : Text) (q : Query) → IsQuery l text q → ((q : Query) → IsQuery l text q → Gives itself (Err Syntax) (Some q)) → ⊥
-syntax_not l text q is h = let none = h q is in cc
+  within : become_few lists written ≡ true → IsWithin l lists text
+  within few = (short, shallow, λ tokens t. subst (λ ts. values_together lists ts ≤ most_values_together) (one_list l text written tokens is t) (leb-true (values_together lists written) most_values_together few))
 
-pub same_query : (l : Language) (text : Text) (found q : Query) → ((q : Query) → IsQuery l text q → Gives itself (Ok found) (Some q)) → IsQuery l text q → q ≡ found
-same_query l text found q h is = same _ _ (h q is)
+  -- it is not read as a statement
+  pub unread : become_few lists written ≡ true → (e : ReadError) → Fails e (statement_in lists written) → IsAnswered l lists text (Err (cause_of e))
+  unread few Memory h = record { read = tt; refused = tt; only = λ q r. inr refl }
+  unread few Syntax h = record {
+    read = tt;
+    refused = (within few, none);
+    only = λ q r. absurd (none q r.0);
+  }
+    where
+      none : (q : Query) → IsQuery l lists text q → ⊥
+      none q r = let never = sym h ∙ query_read l lists text written q shallow is r in cc
 
-pub too_many : (l : Language) (text : Text) (found q : Query) (n : ℕ) → ((q : Query) → IsQuery l text q → Gives itself (Ok found) (Some q)) → IsRead l text q → n ≡ min 9 (declared_variables found) → 8 < n → ⊥
-too_many l text found q n h is e more = omega (arith, is.2, ap declared_variables (same_query l text found q h is.0))
+  found_query : (found : Query) → statement_in lists written ≡ Some found → IsQuery l lists text found
+  found_query found h = step (spread lists written) (whole_at 35) found h (λ stand stands reads. (written, stand, is, stands, read_is stand found reads))
+
+  found_alone : (found q : Query) → statement_in lists written ≡ Some found → IsQuery l lists text q → q ≡ found
+  found_alone found q h r = same _ _ (sym (query_read l lists text written q shallow is r) ∙ h)
+
+  -- or as one with too many variables
+  pub too_many_variables : (found : Query) (n : ℕ) → statement_in lists written ≡ Some found → n ≡ min 9 (declared_variables found) → 8 < n → IsAnswered l lists text (Err cause.Limit)
+  too_many_variables found n h e more = record {
+    read = tt;
+    refused = inr (inr (inr (found, found_query found h, omega (arith, e, more))));
+    only = λ q r. absurd (omega (arith, e, more, r.2, ap declared_variables (found_alone found q h r.0)));
+  }
+
+  pub tree_found : become_few lists written ≡ true → (found : Query) (n : ℕ) → statement_in lists written ≡ Some found → n ≡ min 9 (declared_variables found) → n ≤ 8 → IsAnswered l lists text (Ok found)
+  tree_found few found n h e fits = record {
+    read = (found_query found h, within few, omega (arith, e, fits));
+    refused = tt;
+    only = λ q r. inl (ap Ok (sym (found_alone found q h r.0)));
+  }
+
+-- a text without tokens
+pub no_tokens : {X : Type 0} (l : Language) (lists : List GivenList) (text : Text) (view : X → List Token) (e : ReadError) → length text ≤ 16384 → nests_over 32 false 0 text ≡ false
+    → ((tokens : List Token) → IsText l text tokens → Gives {X = X} view (Err e) (Some tokens)) → IsAnswered l lists text (Err (cause_of e))
+no_tokens l lists text view Memory short shallow h = record { read = tt; refused = tt; only = λ q r. inr refl }
+no_tokens l lists text view Syntax short shallow h = record {
+  read = tt;
+  refused = ((short, shallow, λ tokens t. absurd (never tokens t)), none);
+  only = λ q r. absurd (none q r.0);
+}
+  where
+    never : (tokens : List Token) → IsText l text tokens → ⊥
+    never tokens t = let none = h tokens t in cc
+
+    none : (q : Query) → IsQuery l lists text q → ⊥
+    none q (tokens, stand, t, s, u) = never tokens t

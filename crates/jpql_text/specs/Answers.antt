@@ -1,35 +1,78 @@
 -- What reading a text answers.
-use Rattle.std.specs.Prelude.{◌≡◌, ℕ, ◌≤◌, ◌<◌, ◌⊎◌, Bool, true, false, length}
+use Rattle.std.specs.Prelude.{◌≡◌, ℕ, ◌≤◌, ◌<◌, ◌⊎◌, Bool, true, false, List, length, Option}
+use Rattle.std.specs.Prelude.{Result, Ok, Err, IfOk, IfErr}
 use Rattle.jpa_value.specs.declared.refusal.Argument.TheVariants as argument
 use Rattle.jpa_value.specs.declared.refusal.Cause.{Cause}
 use Rattle.jpa_value.specs.declared.refusal.Cause.TheVariants as cause
+use Rattle.jpql_grammar.specs.declared.lists.GivenList.{GivenList}
+use Rattle.jpql_grammar.specs.declared.token.Token.{Token}
 use Rattle.jpql_tree.specs.declared.Language.{Language}
 use Rattle.jpql_tree.specs.declared.Query.{Query}
-use Rattle.jpql_tree.specs.Grammar.{Text}
+use Rattle.jpql_tree.specs.Names.{Text}
 use Rattle.jpa_value.specs.Limits.{most_query_bytes, most_open_parentheses, most_query_variables}
-use Rattle.jpql_tree.specs.Limits.{nests_over}
+use Rattle.jpql_grammar.specs.Limits.{nests_over}
 use Rattle.jpql_tree.specs.Variables.{declared_variables}
-use Rattle.jpql_tree.specs.Queries.{IsQuery}
+use Rattle.jpql_tree.specs.Steps.{◌>>=◌}
+use Rattle.jpql_grammar.specs.Lists.{spread, are_used}
+use Rattle.jpql_grammar.specs.Statements.{whole_at}
+use Rattle.jpql_grammar.specs.Text.{IsText}
+use Rattle.jpql_grammar.specs.Queries.{IsQuery}
+use Rattle.jpql_lexer.specs.declared.error.ReadError.{ReadError}
+use Rattle.jpql_lexer.specs.declared.error.ReadError.TheVariants.{Memory, Syntax}
+use Rattle.jpql_text.specs.Together.{most_values_together, values_together}
 
--- The text is within the limits: at most 16,384 bytes, and at most 32 parentheses open at one
--- place.
-abbrev pub IsWithin : Text → Type 0
-IsWithin text = (length text ≤ most_query_bytes) × (nests_over most_open_parentheses false 0 text ≡ false)
+-- the statement that tokens are, where lists stand for their values; conditions and values nest no
+-- deeper than parentheses do
+abbrev pub statement_in : List GivenList → List Token → Option Query
+statement_in lists tokens = spread lists tokens >>= whole_at 35
 
--- The text is one of the language's grammar, within the limits, with at most 8 variables, and this
--- is its tree.
-abbrev pub IsRead : Language → Text → Query → Type 0
-IsRead l text query = IsQuery l text query × IsWithin text × (declared_variables query ≤ most_query_variables)
+-- ---- the limits
 
--- a text is too long, nests too deep, or is a query of the language with too many variables
-abbrev pub IsOverLimit : Language → Text → Type 0
-IsOverLimit l text = (most_query_bytes < length text)
+-- Where collections are handed in for these parameters, the text is within the limits that are told
+-- before it is read: at most 16,384 bytes, at most 32 parentheses open at one place, and at most 65,536
+-- values of collections in its tokens, together.
+abbrev pub IsWithin : Language → List GivenList → Text → Type 0
+IsWithin l lists text = (length text ≤ most_query_bytes)
+    × (nests_over most_open_parentheses false 0 text ≡ false)
+    × ((tokens : List Token) → IsText l text tokens → values_together lists tokens ≤ most_values_together)
+
+-- The text is one of the language's grammar, where collections are handed in for these parameters,
+-- within the limits, with at most 8 variables, and this is its tree.
+abbrev pub IsRead : Language → List GivenList → Text → Query → Type 0
+IsRead l lists text query =
+    IsQuery l lists text query × IsWithin l lists text × (declared_variables query ≤ most_query_variables)
+
+-- a text is too long, nests too deep, has collections become too many values, or is a query of the
+-- language with too many variables
+abbrev pub IsOverLimit : Language → List GivenList → Text → Type 0
+IsOverLimit l lists text = (most_query_bytes < length text)
     ⊎ ((nests_over most_open_parentheses false 0 text ≡ true)
-    ⊎ ((query : Query) × IsQuery l text query × (most_query_variables < declared_variables query)))
+    ⊎ (((tokens : List Token) × IsText l text tokens × (most_values_together < values_together lists tokens))
+    ⊎ ((query : Query) × IsQuery l lists text query × (most_query_variables < declared_variables query))))
+
+-- ---- what is answered
+
+-- why a text is refused that isn't read as a statement
+abbrev pub cause_of : ReadError → Cause
+cause_of Memory = cause.OutOfMemory
+cause_of Syntax = cause.IllegalArgument argument.Syntax
 
 -- why a text is refused in the language
-abbrev pub IsRefused : Language → Text → Cause → Type 0
-IsRefused l text cause.OutOfMemory = Unit {0}
-IsRefused l text cause.Limit = IsOverLimit l text
-IsRefused l text (cause.IllegalArgument argument.Syntax) = IsWithin text × ((query : Query) → IsQuery l text query → ⊥)
-IsRefused l text _ = ⊥
+abbrev pub IsRefused : Language → List GivenList → Text → Cause → Type 0
+IsRefused l lists text cause.OutOfMemory = Unit {0}
+IsRefused l lists text cause.Limit = IsOverLimit l lists text
+IsRefused l lists text (cause.IllegalArgument argument.Syntax) =
+    IsWithin l lists text × ((query : Query) → IsQuery l lists text query → ⊥)
+IsRefused l lists text _ = ⊥
+
+-- a text's tree, or why it is refused; a text that has a tree within the limits is refused for want of
+-- memory alone
+pub record IsAnswered (l : Language) (lists : List GivenList) (text : Text) (answer : Result Query Cause) : Type 0 where
+  pub read : IfOk answer (IsRead l lists text)
+  pub refused : IfErr answer (IsRefused l lists text)
+  pub only : (query : Query) → IsRead l lists text query → (answer ≡ Ok query) ⊎ (answer ≡ Err cause.OutOfMemory)
+
+-- whether each list stands somewhere behind IN in the text; of a text without tokens this is so
+pub record UsesLists (l : Language) (lists : List GivenList) (text : Text) (uses : Bool) : Type 0 where
+  pub used : (tokens : List Token) → IsText l text tokens → uses ≡ are_used lists tokens
+  pub none : ((tokens : List Token) → IsText l text tokens → ⊥) → uses ≡ true

@@ -1,18 +1,20 @@
 //! The reader of the Jakarta Persistence Query Language (Jakarta Persistence 3.1, chapter 4).
 //!
-//! `read_query` takes a text of a language, seen as its bytes, to the tree of `jpql_tree`. That crate has the
-//! grammar as a relation between texts and trees (`specs/Queries`), reading as functions on lists
-//! (`specs/Values`, `Conditions`, `Statements`), and the laws that these are the grammar.
-//! `jpql_lexer` cuts the text into tokens, `jpql_conditions` reads values and conditions, and here
-//! are statements, the limits and the whole.
+//! `read_query` takes a text of a language, seen as its bytes, to the tree of `jpql_tree`.
+//! `jpql_grammar` has the grammar as a relation between texts and trees (`specs/Queries`), reading as
+//! functions on lists (`specs/Values`, `Conditions`, `Statements`), and the laws that these are the
+//! grammar. `jpql_lexer` cuts the text into tokens, `jpql_conditions` reads values and conditions,
+//! and here are collections behind IN, statements, the limits and the whole.
 //!
-//! Conditions and values recurse as deep as parentheses nest, of which a text has at most 32: each
-//! recursion counts down from 34.
+//! Conditions and values recurse as deep as parentheses nest, of which a text has at most 32, and its
+//! tokens one more where a collection stands for its values: each recursion counts down from 35.
 #![tactic(auto)]
 
 mod limits;
+mod lists;
 mod read;
 mod statements;
 mod variables;
 
-pub use read::{a_profile_text_is_wide, at_most_one_tree, read_query};
+pub use lists::MOST_LIST_VALUES;
+pub use read::{a_profile_text_is_wide, at_most_one_tree, read_query, uses_lists};

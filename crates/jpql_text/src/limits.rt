@@ -1,6 +1,6 @@
 //! How deep parentheses nest in a text.
 ghost use Rattle.std.specs.Prelude.{◌≡◌, ◌≤◌, false, IfSome};
-ghost use Rattle.jpql_tree.specs.Limits as spec;
+ghost use Rattle.jpql_grammar.specs.Limits as spec;
 
 use jpa_value::MOST_OPEN_PARENTHESES;
 

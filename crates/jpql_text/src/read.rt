@@ -1,55 +1,59 @@
 //! Reads a whole text.
-ghost use Rattle.std.specs.Prelude.{◌≡◌, ◌⊎◌, IfOk, IfErr, List, Ok, Err, Some, false};
+ghost use Rattle.std.specs.Prelude.{◌≡◌, ◌≤◌, ◌⊎◌, IfOk, IfErr, List, Ok, Err, false, length};
 ghost use Rattle.jpa_value.specs.declared.refusal.Cause.TheVariants as cause;
+ghost use Rattle.jpql_grammar.specs.declared.lists.GivenList.{GivenList};
 ghost use Rattle.jpql_tree.specs.declared.Language.{Language};
 ghost use Rattle.jpql_tree.specs.declared.Language.TheVariants as language;
-ghost use Rattle.jpql_tree.specs.declared.token.Token.{Token};
+ghost use Rattle.jpql_grammar.specs.declared.token.Token.{Token};
 ghost use Rattle.jpql_tree.specs.declared.Query.{Query};
-ghost use Rattle.jpql_tree.specs.Grammar.{Text};
-ghost use Rattle.jpql_tree.specs.Limits as limits;
-ghost use Rattle.jpql_tree.specs.Text.{IsText};
-ghost use Rattle.jpql_tree.specs.Queries.{IsQuery, KeepNames};
+ghost use Rattle.jpql_tree.specs.Names.{Text};
+ghost use Rattle.jpql_grammar.specs.Limits as limits;
+ghost use Rattle.jpql_grammar.specs.Text.{IsText};
+ghost use Rattle.jpql_grammar.specs.Queries.{IsQuery, KeepNames};
 ghost use Rattle.jpql_lexer.specs.Gives.{Gives};
-ghost use Rattle.jpql_text.specs.Answers.{IsRead, IsRefused};
+ghost use Rattle.jpql_text.specs.Answers.{IsAnswered, IsRead, IsRefused, UsesLists};
+ghost use Rattle.jpql_text.specs.Answers.{cause_of, statement_in};
 
 use crate::limits::nests_over;
+use crate::lists::{are_used, become_few, spread};
 use crate::statements::statement;
 use crate::variables::declared;
 use jpa_value::{Argument, Cause, MOST_OPEN_PARENTHESES, MOST_QUERY_BYTES, MOST_QUERY_VARIABLES};
+use jpql_grammar::{GivenList, Token};
 use jpql_lexer::{ReadError, tokens};
 use jpql_tree::{Language, Query};
 use std::alloc::Global;
 
-fn whole(alloc: Global, language: Language, text: &str) -> Result<Query, ReadError>
-    requires { limits.nests_over 32 false 0 text.now ≡ false }
-    ensures found { IfOk result (λ query. IsQuery language text.now query) }
-    ensures only { (query : Query) → IsQuery language text.now query →
-        Gives (λ query. query) result (Some query) }
+/// Why a text is refused that isn't read as a statement.
+fn cause_of(error: ReadError) -> Cause
+    ensures { result ≡ cause_of error }
 {
-    let tokens = tokens(alloc, language, text)?;
-    statement(alloc, MOST_OPEN_PARENTHESES + 2, tokens.as_slice())
+    match error {
+        ReadError::Memory => Cause::OutOfMemory,
+        ReadError::Syntax => Cause::IllegalArgument(Argument::Syntax),
+    }
 }
 
-/// The tree of a query's text in a language. The text is one of the grammar of Jakarta Persistence
-/// 3.1, chapter 4, as far as `jpql_tree`'s `specs/Grammar` has it; keywords are those of the language
-/// and ignore ASCII case, and parentheses leave no node.
-///
-/// `Limit` for a text over 16,384 bytes, for one in which more than 32 parentheses are open at some
-/// place outside quotes, and for a text of the grammar that declares more than 8 variables;
-/// `IllegalArgument(Syntax)` for each other text outside the grammar; `OutOfMemory` where a growth
-/// was refused.
-pub fn read_query(alloc: Global, language: Language, text: &str) -> Result<Query, Cause>
-    ensures read { IfOk result (IsRead language text.now) }
-    ensures refused { IfErr result (IsRefused language text.now) }
-    ensures only { (query : Query) → IsRead language text.now query → (result ≡ Ok query)
-        ⊎ (result ≡ Err cause.OutOfMemory) }
+/// The statement that a text's tokens are, where lists stand for their values.
+fn statement_in(alloc: Global, lists: &[GivenList], written: Vec<Token>) -> Result<Query, ReadError>
+    ensures { Gives (λ query. query) result (statement_in lists.now written.items) }
 {
-    if text.len() > MOST_QUERY_BYTES || nests_over(text.as_bytes()) {
+    let tokens = spread(alloc, lists, written)?;
+    statement(alloc, MOST_OPEN_PARENTHESES + 3, tokens.as_slice())
+}
+
+/// The tree of a text that has these tokens, and isn't too long and nests not too deep.
+fn tree_of(alloc: Global, lists: &[GivenList], written: Vec<Token>) -> Result<Query, Cause>
+    ensures { (l : Language) (text : Text) → length text ≤ 16384 →
+        limits.nests_over 32 false 0 text ≡ false → IsText l text written.items →
+        IsAnswered l lists.now text result }
+{
+    if !become_few(lists, written.as_slice()) {
+        drop(written);
         return Err(Cause::Limit);
     }
-    match whole(alloc, language, text) {
-        Err(ReadError::Memory) => Err(Cause::OutOfMemory),
-        Err(ReadError::Syntax) => Err(Cause::IllegalArgument(Argument::Syntax)),
+    match statement_in(alloc, lists, written) {
+        Err(error) => Err(cause_of(error)),
         Ok(query) => {
             if declared(&query) > MOST_QUERY_VARIABLES {
                 drop(query);
@@ -61,16 +65,68 @@ pub fn read_query(alloc: Global, language: Language, text: &str) -> Result<Query
     }
 }
 
-/// A text has at most one tree in a language.
+/// The tree of a query's text in a language. The text is one of the grammar of Jakarta Persistence
+/// 3.1, chapter 4, as far as `jpql_grammar`'s `specs/Grammar` has it; keywords are those of the
+/// language and ignore ASCII case, and parentheses leave no node. A parameter that a collection is
+/// handed in for stands behind IN alone, with parentheses around it or not, for the parameters of its
+/// values (chapter 4.6.9), whose names `value_name` gives.
+///
+/// `Limit` for a text over 16,384 bytes, for one in which more than 32 parentheses are open at some
+/// place outside quotes, for one in which collections become more than 65,536 values, counted at
+/// each place where one stands behind IN, and for a text of the grammar that declares more than 8
+/// variables; `IllegalArgument(Syntax)` for each other text outside the grammar; `OutOfMemory` where
+/// a growth was refused.
+pub fn read_query(
+    alloc: Global,
+    language: Language,
+    lists: &[GivenList],
+    text: &str,
+) -> Result<Query, Cause>
+    ensures read { IfOk result (IsRead language lists.now text.now) }
+    ensures refused { IfErr result (IsRefused language lists.now text.now) }
+    ensures only { (query : Query) → IsRead language lists.now text.now query →
+        (result ≡ Ok query) ⊎ (result ≡ Err cause.OutOfMemory) }
+{
+    if text.len() > MOST_QUERY_BYTES || nests_over(text.as_bytes()) {
+        return Err(Cause::Limit);
+    }
+    match tokens(alloc, language, text) {
+        Err(error) => Err(cause_of(error)),
+        Ok(written) => tree_of(alloc, lists, written),
+    }
+}
+
+/// Whether each collection that is handed in stands somewhere behind IN in a text, as `read_query`
+/// takes it; so it is where the text has no tokens. `OutOfMemory` where a growth was refused.
+pub fn uses_lists(
+    alloc: Global,
+    language: Language,
+    lists: &[GivenList],
+    text: &str,
+) -> Result<bool, Cause>
+    ensures uses { IfOk result (UsesLists language lists.now text.now) }
+    ensures memory { IfErr result (λ refusal. refusal ≡ cause.OutOfMemory) }
+{
+    if lists.is_empty() {
+        return Ok(true);
+    }
+    match tokens(alloc, language, text) {
+        Ok(written) => Ok(are_used(lists, written.as_slice())),
+        Err(ReadError::Syntax) => Ok(true),
+        Err(ReadError::Memory) => Err(Cause::OutOfMemory),
+    }
+}
+
+/// A text has at most one tree in a language, where the same collections are handed in.
 pub fn at_most_one_tree()
-    ensures { (l : Language) (text : Text) (one other : Query) → IsQuery l text one →
-        IsQuery l text other → one ≡ other }
+    ensures { (l : Language) (lists : List GivenList) (text : Text) (one other : Query) →
+        IsQuery l lists text one → IsQuery l lists text other → one ≡ other }
 {}
 
 /// A text whose names are names in the wider language too has there the tree that it has in the
 /// profile.
 pub fn a_profile_text_is_wide()
-    ensures { (text : Text) (tokens : List Token) (query : Query) →
+    ensures { (lists : List GivenList) (text : Text) (tokens : List Token) (query : Query) →
         IsText language.Profile text tokens → KeepNames tokens →
-        IsQuery language.Profile text query → IsQuery language.Wide text query }
+        IsQuery language.Profile lists text query → IsQuery language.Wide lists text query }
 {}

@@ -1,19 +1,18 @@
 //! Statements.
 ghost use Rattle.std.specs.Prelude.{◌≡◌, ◌∷◌, [], length, IfOk};
 ghost use Rattle.jpql_lexer.specs.Gives.{Gives};
-ghost use Rattle.jpql_tree.specs.Values.{list_at, path_at};
-ghost use Rattle.jpql_tree.specs.Statements as spec;
-ghost use Rattle.jpql_tree.specs.Conditions.{item_at};
+ghost use Rattle.jpql_grammar.specs.Values.{list_at, path_at};
+ghost use Rattle.jpql_grammar.specs.Statements as spec;
+ghost use Rattle.jpql_grammar.specs.Conditions.{item_at};
 
 use jpa_value::Seq;
 use jpql_conditions::{
     after, after_word, clause, is_word, item, name, named, optional_name, optional_word, path,
     related, sees, sources, value,
 };
+use jpql_grammar::{Keyword, Mark, Token};
 use jpql_lexer::ReadError;
-use jpql_tree::{
-    Assignment, Item, Keyword, Mark, Path, Query, Select, SortKey, Sorted, Token, Value,
-};
+use jpql_tree::{Assignment, Item, Path, Query, Select, SortKey, Sorted, Value};
 use std::alloc::Global;
 
 fn direction(tokens: &[Token]) -> (bool, &[Token])
@@ -36,7 +35,7 @@ fn sorted_by(path: Path) -> Sorted
     }
 }
 
-#[tactic(auto, unfolding(jpql_tree::specs::Statements::key_at))]
+#[tactic(auto, unfolding(jpql_grammar::specs::Statements::key_at))]
 fn key(alloc: Global, tokens: &[Token]) -> Result<(SortKey, &[Token]), ReadError>
     ensures { Gives (λ r. (r.0, r.1.now)) result (spec.key_at tokens.now) }
 {
@@ -51,7 +50,7 @@ fn key(alloc: Global, tokens: &[Token]) -> Result<(SortKey, &[Token]), ReadError
     ))
 }
 
-#[tactic(auto, unfolding(jpql_tree::specs::Values::list_at, jpql_tree::specs::Values::others_at))]
+#[tactic(auto, unfolding(jpql_grammar::specs::Values::list_at, jpql_grammar::specs::Values::others_at))]
 fn keys(alloc: Global, tokens: &[Token]) -> Result<(Seq<SortKey>, &[Token]), ReadError>
     ensures { Gives (λ r. (r.0, r.1.now)) result (list_at spec.key_at tokens.now) }
 {
@@ -69,7 +68,7 @@ fn keys(alloc: Global, tokens: &[Token]) -> Result<(Seq<SortKey>, &[Token]), Rea
     Ok((found, rest))
 }
 
-#[tactic(auto, unfolding(jpql_tree::specs::Values::list_at, jpql_tree::specs::Values::others_at))]
+#[tactic(auto, unfolding(jpql_grammar::specs::Values::list_at, jpql_grammar::specs::Values::others_at))]
 fn paths(alloc: Global, tokens: &[Token]) -> Result<(Seq<Path>, &[Token]), ReadError>
     ensures { Gives (λ r. (r.0, r.1.now)) result (list_at path_at tokens.now) }
 {
@@ -87,7 +86,7 @@ fn paths(alloc: Global, tokens: &[Token]) -> Result<(Seq<Path>, &[Token]), ReadE
     Ok((found, rest))
 }
 
-#[tactic(auto, unfolding(jpql_tree::specs::Values::list_at, jpql_tree::specs::Values::others_at))]
+#[tactic(auto, unfolding(jpql_grammar::specs::Values::list_at, jpql_grammar::specs::Values::others_at))]
 fn items(alloc: Global, depth: usize, tokens: &[Token]) -> Result<(Seq<Item>, &[Token]), ReadError>
     ensures { Gives (λ r. (r.0, r.1.now)) result (list_at (item_at depth) tokens.now) }
 {
@@ -105,7 +104,7 @@ fn items(alloc: Global, depth: usize, tokens: &[Token]) -> Result<(Seq<Item>, &[
     Ok((found, rest))
 }
 
-#[tactic(auto, unfolding(jpql_tree::specs::Statements::by_at))]
+#[tactic(auto, unfolding(jpql_grammar::specs::Statements::by_at))]
 fn group_by(alloc: Global, tokens: &[Token]) -> Result<(Seq<Path>, &[Token]), ReadError>
     ensures { Gives (λ r. (r.0, r.1.now)) result (spec.by_at Keyword.Group path_at tokens.now) }
 {
@@ -116,7 +115,7 @@ fn group_by(alloc: Global, tokens: &[Token]) -> Result<(Seq<Path>, &[Token]), Re
     }
 }
 
-#[tactic(auto, unfolding(jpql_tree::specs::Statements::by_at))]
+#[tactic(auto, unfolding(jpql_grammar::specs::Statements::by_at))]
 fn order_by(alloc: Global, tokens: &[Token]) -> Result<(Seq<SortKey>, &[Token]), ReadError>
     ensures { Gives (λ r. (r.0, r.1.now)) result
         (spec.by_at Keyword.Order spec.key_at tokens.now) }
@@ -128,7 +127,7 @@ fn order_by(alloc: Global, tokens: &[Token]) -> Result<(Seq<SortKey>, &[Token]),
     }
 }
 
-#[tactic(auto, unfolding(jpql_tree::specs::Statements::select_at))]
+#[tactic(auto, unfolding(jpql_grammar::specs::Statements::select_at))]
 fn select(alloc: Global, depth: usize, tokens: &[Token]) -> Result<(Query, &[Token]), ReadError>
     ensures { Gives (λ r. (r.0, r.1.now)) result (spec.select_at depth tokens.now) }
 {
@@ -154,7 +153,7 @@ fn select(alloc: Global, depth: usize, tokens: &[Token]) -> Result<(Query, &[Tok
     ))
 }
 
-#[tactic(auto, unfolding(jpql_tree::specs::Statements::new_value_at))]
+#[tactic(auto, unfolding(jpql_grammar::specs::Statements::new_value_at))]
 fn new_value(
     alloc: Global,
     depth: usize,
@@ -170,7 +169,7 @@ fn new_value(
     }
 }
 
-#[tactic(auto, unfolding(jpql_tree::specs::Statements::assignment_at))]
+#[tactic(auto, unfolding(jpql_grammar::specs::Statements::assignment_at))]
 fn assignment(
     alloc: Global,
     depth: usize,
@@ -190,7 +189,7 @@ fn assignment(
     ))
 }
 
-#[tactic(auto, unfolding(jpql_tree::specs::Values::list_at, jpql_tree::specs::Values::others_at))]
+#[tactic(auto, unfolding(jpql_grammar::specs::Values::list_at, jpql_grammar::specs::Values::others_at))]
 fn assignments(
     alloc: Global,
     depth: usize,
@@ -212,7 +211,7 @@ fn assignments(
     Ok((found, rest))
 }
 
-#[tactic(auto, unfolding(jpql_tree::specs::Statements::update_at))]
+#[tactic(auto, unfolding(jpql_grammar::specs::Statements::update_at))]
 fn update(alloc: Global, depth: usize, tokens: &[Token]) -> Result<(Query, &[Token]), ReadError>
     ensures { Gives (λ r. (r.0, r.1.now)) result (spec.update_at depth tokens.now) }
 {
@@ -232,7 +231,7 @@ fn update(alloc: Global, depth: usize, tokens: &[Token]) -> Result<(Query, &[Tok
     ))
 }
 
-#[tactic(auto, unfolding(jpql_tree::specs::Statements::delete_at))]
+#[tactic(auto, unfolding(jpql_grammar::specs::Statements::delete_at))]
 fn delete(alloc: Global, depth: usize, tokens: &[Token]) -> Result<(Query, &[Token]), ReadError>
     ensures { Gives (λ r. (r.0, r.1.now)) result (spec.delete_at depth tokens.now) }
 {
@@ -249,7 +248,7 @@ fn delete(alloc: Global, depth: usize, tokens: &[Token]) -> Result<(Query, &[Tok
     ))
 }
 
-#[tactic(auto, unfolding(jpql_tree::specs::Statements::statement_at))]
+#[tactic(auto, unfolding(jpql_grammar::specs::Statements::statement_at))]
 fn any_statement(
     alloc: Global,
     depth: usize,
@@ -269,7 +268,7 @@ fn any_statement(
 }
 
 /// The statement that all the tokens are.
-#[tactic(auto, unfolding(jpql_tree::specs::Statements::whole_at))]
+#[tactic(auto, unfolding(jpql_grammar::specs::Statements::whole_at))]
 pub fn statement(alloc: Global, depth: usize, tokens: &[Token]) -> Result<Query, ReadError>
     ensures { Gives (λ q. q) result (spec.whole_at depth tokens.now) }
 {

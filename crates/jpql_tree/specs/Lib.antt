@@ -1,11 +1,4 @@
-pub mod Same
-pub mod Grammar
-pub mod Nesting
-pub mod Values
-pub mod Conditions
-pub mod Statements
-pub mod Text
-pub mod Lexing
-pub mod Limits
+pub mod Names
+pub mod Steps
+pub mod Calls
 pub mod Variables
-pub mod Queries

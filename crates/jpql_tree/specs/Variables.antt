@@ -9,7 +9,7 @@ use Rattle.jpql_tree.specs.declared.Join.{Join, fold-Join}
 use Rattle.jpql_tree.specs.declared.Source.{Source, fold-Source}
 use Rattle.jpql_tree.specs.declared.Query.{Query}
 use Rattle.jpql_tree.specs.declared.Query.TheVariants as q
-use Rattle.jpql_tree.specs.Grammar.{Text}
+use Rattle.jpql_tree.specs.Names.{Text}
 
 -- a number, or 0 where there is none
 abbrev pub if_any : Option ℕ → ℕ

@@ -1,23 +1,11 @@
-//! Queries of the Jakarta Persistence Query Language as they are written (Jakarta Persistence 3.1,
-//! chapter 4): their trees, their tokens, and the grammar that joins them.
+//! Queries of the Jakarta Persistence Query Language as trees (Jakarta Persistence 3.1, chapter 4).
 //!
 //! A tree has a node for each line of the grammar that joins others; parentheses leave none.
 //! Contracts see it as plain data: a `Boxed` as what it holds, a `Seq` as a list, a `Text` as its
-//! bytes.
-//!
-//! The grammar stands in `specs/` apart from any reader. `Grammar` has derivations: what each
-//! writes, and its tree. `Text` says which tokens a text has, `Queries` which text is which query,
-//! `Limits` and `Variables` what is counted. `Values`, `Conditions`, `Statements` and `Lexing` are
-//! reading as functions on lists, and `proofs/` has the laws that these are the grammar, both ways,
-//! and that a text has at most one tree. The crate stands on `jpa_value`.
+//! bytes. How a tree is written stands in `jpql_grammar`. The crate stands on `jpa_value`.
 #![tactic(auto)]
 
-#[cfg(test)]
-mod tests;
-mod token;
-
 use jpa_value::{Boxed, Seq, Text};
-pub use token::{Callee, Keyword, Mark, Token};
 
 /// A comparison (chapter 4.6.7).
 #[derive(Clone, Copy)]

@@ -6,7 +6,7 @@ use Rattle.jpql_tree.specs.declared.Path.{Path}
 use Rattle.jpql_tree.specs.declared.Condition.TheViews.{out-Block}
 use Rattle.jpql_tree.specs.declared.Condition.TheFolds as condition
 use Rattle.jpql_tree.specs.declared.Block.{Block}
-use Rattle.jpql_tree.specs.Grammar.{Text}
+use Rattle.jpql_tree.specs.Names.{Text}
 use Rattle.jpql_types.specs.declared.scope.Clause.{Clause}
 use Rattle.jpql_types.specs.declared.sort.Sort.{Sort}
 use Rattle.jpql_types.specs.Scope.{Scope}

@@ -11,7 +11,7 @@ use Rattle.jpql_tree.specs.declared.Condition.{Condition}
 use Rattle.jpql_tree.specs.declared.Condition.TheFolds as condition
 use Rattle.jpql_tree.specs.declared.Block.{Block, out-Block}
 use Rattle.jpql_tree.specs.declared.Source.{Source, out-Source}
-use Rattle.jpql_tree.specs.Grammar.{Text}
+use Rattle.jpql_tree.specs.Names.{Text}
 use Rattle.jpql_types.specs.declared.names.Names.{Names}
 use Rattle.jpql_types.specs.Names.{joined_lists, or_nothing, of_variable, in_value, in_item, in_condition, in_filter, in_join, in_source, in_block}
 use Rattle.jpql_types.specs.Statements.{has_aggregate}

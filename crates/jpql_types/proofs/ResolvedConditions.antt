@@ -19,8 +19,8 @@ use Rattle.jpql_tree.specs.declared.Block.{Block}
 use Rattle.jpql_tree.specs.declared.Join.{Join}
 use Rattle.jpql_tree.specs.declared.Source.{Source}
 use Rattle.jpql_tree.specs.declared.Value.{Value}
-use Rattle.jpql_tree.specs.Grammar.{Text}
-use Rattle.jpql_tree.specs.Values.{◌>>=◌}
+use Rattle.jpql_tree.specs.Names.{Text}
+use Rattle.jpql_tree.specs.Steps.{◌>>=◌}
 use Rattle.jpql_types.specs.declared.scope.Step.{Step}
 use Rattle.jpql_types.specs.declared.scope.TypedPath.{TypedPath}
 use Rattle.jpql_types.specs.declared.sort.Sort.{Sort}

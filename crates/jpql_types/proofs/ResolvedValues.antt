@@ -7,8 +7,8 @@ use Rattle.jpql_tree.specs.declared.Value.{Value, Value-F, fold-Value}
 use Rattle.jpql_tree.specs.declared.Value.TheViews.{roll-Value}
 use Rattle.jpql_tree.specs.declared.Value.TheOpen as part
 use Rattle.jpql_tree.specs.declared.Value.TheFolds as tree
-use Rattle.jpql_tree.specs.Grammar.{Text}
-use Rattle.jpql_tree.specs.Values.{◌>>=◌}
+use Rattle.jpql_tree.specs.Names.{Text}
+use Rattle.jpql_tree.specs.Steps.{◌>>=◌}
 use Rattle.jpql_types.specs.declared.sort.Sort.{Sort}
 use Rattle.jpql_types.specs.declared.typed.TypedValue.{TypedValue}
 use Rattle.jpql_types.specs.declared.typed.TypedValue.TheVariants as v

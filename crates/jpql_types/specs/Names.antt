@@ -12,7 +12,7 @@ use Rattle.jpql_tree.specs.declared.Block.{Block, fold-Block}
 use Rattle.jpql_tree.specs.declared.Join.{Join, fold-Join}
 use Rattle.jpql_tree.specs.declared.Source.{Source, fold-Source}
 use Rattle.jpql_tree.specs.declared.Query.{Query}
-use Rattle.jpql_tree.specs.Grammar.{Text}
+use Rattle.jpql_tree.specs.Names.{Text}
 use Rattle.jpql_types.specs.declared.names.Names.{Names}
 
 -- the names that are there, or none

@@ -19,8 +19,8 @@ use Rattle.jpql_tree.specs.declared.SortKey.{SortKey}
 use Rattle.jpql_tree.specs.declared.Select.{Select}
 use Rattle.jpql_tree.specs.declared.Assignment.{Assignment}
 use Rattle.jpql_tree.specs.declared.Query.{Query}
-use Rattle.jpql_tree.specs.Grammar.{Text}
-use Rattle.jpql_tree.specs.Values.{◌>>=◌}
+use Rattle.jpql_tree.specs.Names.{Text}
+use Rattle.jpql_tree.specs.Steps.{◌>>=◌}
 use Rattle.jpql_types.specs.declared.sort.Sort.{Sort}
 use Rattle.jpql_types.specs.declared.typed.TypedValue.{TypedValue}
 use Rattle.jpql_types.specs.declared.typed.TypedValue.TheVariants as v

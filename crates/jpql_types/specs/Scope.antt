@@ -9,8 +9,8 @@ use Rattle.jpa_model.specs.declared.unit.PersistenceUnit.{PersistenceUnit}
 use Rattle.jpa_model.specs.declared.unit.Relation.{Relation}
 use Rattle.jpa_model.specs.declared.unit.Member.{Member}
 use Rattle.jpql_tree.specs.declared.Path.{Path}
-use Rattle.jpql_tree.specs.Grammar.{Text}
-use Rattle.jpql_tree.specs.Values.{◌>>=◌}
+use Rattle.jpql_tree.specs.Names.{Text}
+use Rattle.jpql_tree.specs.Steps.{◌>>=◌}
 use Rattle.jpql_types.specs.declared.scope.Variable.{Variable}
 use Rattle.jpql_types.specs.declared.scope.Clause.{Clause}
 use Rattle.jpql_types.specs.declared.scope.Step.{Step}

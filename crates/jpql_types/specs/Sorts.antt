@@ -9,7 +9,8 @@ use Rattle.jpa_model.specs.declared.unit.Member.{Member}
 use Rattle.jpql_tree.specs.declared.Function.{Function}
 use Rattle.jpql_tree.specs.declared.Aggregate.{Aggregate}
 use Rattle.jpql_tree.specs.declared.Comparison.{Comparison}
-use Rattle.jpql_tree.specs.Values.{◌>>=◌, takes}
+use Rattle.jpql_tree.specs.Steps.{◌>>=◌}
+use Rattle.jpql_tree.specs.Calls.{takes}
 use Rattle.jpql_types.specs.declared.scope.Step.{Step}
 use Rattle.jpql_types.specs.declared.scope.TypedPath.{TypedPath}
 use Rattle.jpql_types.specs.declared.sort.Sort.{Sort}

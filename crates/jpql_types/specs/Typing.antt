@@ -16,8 +16,8 @@ use Rattle.jpql_tree.specs.declared.Condition.TheOpen.{Block-F, Join-F, Source-F
 use Rattle.jpql_tree.specs.declared.Block.{Block, fold-Block}
 use Rattle.jpql_tree.specs.declared.Join.{Join, fold-Join}
 use Rattle.jpql_tree.specs.declared.Source.{Source, fold-Source}
-use Rattle.jpql_tree.specs.Grammar.{Text}
-use Rattle.jpql_tree.specs.Values.{◌>>=◌}
+use Rattle.jpql_tree.specs.Names.{Text}
+use Rattle.jpql_tree.specs.Steps.{◌>>=◌}
 use Rattle.jpql_types.specs.declared.scope.Clause.{Clause}
 use Rattle.jpql_types.specs.declared.scope.TypedPath.{TypedPath}
 use Rattle.jpql_types.specs.declared.sort.Sort.{Sort}

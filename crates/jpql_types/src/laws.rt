@@ -2,7 +2,7 @@
 ghost use Rattle.std.specs.Prelude.{List};
 ghost use Rattle.jpa_model.specs.declared.unit.PersistenceUnit.{PersistenceUnit};
 ghost use Rattle.jpql_tree.specs.declared.Query.{Query};
-ghost use Rattle.jpql_tree.specs.Grammar.{Text};
+ghost use Rattle.jpql_tree.specs.Names.{Text};
 ghost use Rattle.jpql_types.specs.declared.sort.Sort.{Sort};
 ghost use Rattle.jpql_types.specs.Resolved.{IsResolved};
 

@@ -1,7 +1,7 @@
 //! What values of a query are of, and which go together.
 ghost use Rattle.std.specs.Prelude.{◌≡◌};
 ghost use Rattle.std.specs.List.{list_all};
-ghost use Rattle.jpql_tree.specs.Values as grammar;
+ghost use Rattle.jpql_tree.specs.Calls as calls;
 ghost use Rattle.jpql_types.specs.Sorts as sorts;
 
 use jpa_value::Kind;
@@ -113,7 +113,7 @@ fn fit(asked: &[Sort], all: &[Sort]) -> bool
 
 /// Whether a function takes this many arguments (chapter 4.7).
 fn takes(function: Function, count: usize) -> bool
-    ensures { result ≡ grammar.takes function count }
+    ensures { result ≡ calls.takes function count }
 {
     match function {
         Function::Length | Function::Abs | Function::Upper | Function::Lower => count == 1,

@@ -3,15 +3,18 @@ attributes that take their types alone."""
 
 from __future__ import annotations
 
-from typing import TYPE_CHECKING, Any, Callable, Dict, List, Mapping, Optional, Tuple, Type, Union
+from typing import TYPE_CHECKING, Any, Callable, Dict, Iterator, List, Mapping, Optional, Sequence
+from typing import Tuple, Type, Union
 from weakref import WeakKeyDictionary, WeakSet
 
 from ..entities import Attribute, Entity, Event, check_names
-from ..lines import LifecycleEvent
+from ..lines import LifecycleEvent, line_of, text_spelled
 from . import types
 from .checks import chain
 from .declared import CALLBACKS, TO_MANY, Declared, Member, Model
+from .embedded import Embedded, has_required
 from .fields import MISSING
+from .values import WrongValue, from_stored, to_stored
 
 if TYPE_CHECKING:
     from ..factory import EntityManagerFactory
@@ -19,16 +22,13 @@ if TYPE_CHECKING:
 _OPEN: WeakKeyDictionary[type, WeakSet[EntityManagerFactory]] = WeakKeyDictionary()
 
 
-class WrongValue(ValueError, TypeError):
-    """A value that its attribute doesn't take; it names the class, the attribute and the value."""
-
-
 class TypedAttribute(Attribute):
     """An attribute that takes values of its type, and stores their form."""
 
-    def __init__(self, plain: Attribute, member: Member, place: Optional[int], of: str) -> None:
-        super().__init__(plain.name, plain.target, place=place)
-        self.member, self.of = member, of
+    def __init__(self, member: Member, place: Optional[int], of: str) -> None:
+        super().__init__(member.name, member.target, place=place)
+        self.member, self.place = member, place
+        self.said = f"{of}.{member.said}"
         self._validators: List[str] = []
         self.type = member.type
         read = self.fget
@@ -48,36 +48,105 @@ class TypedAttribute(Attribute):
 
     def stored(self, value: Any) -> Any:
         """What is stored of a value."""
-        if self.type is None:
-            return value
         if value is None:
-            if self.member.is_optional or self.member.field.sort in ("generated", "version"):
+            if self._may_be_none():
                 return None
-            raise WrongValue(f"{self.of}.{self.name} is {self.type.what}, and never None: declare "
-                             "it as .. | None where it may be")
-        return to_stored(self.type, value, f"{self.of}.{self.name}")
+            what = self.type.what if self.type else f"a {self.member.target}"
+            raise WrongValue(f"{self.said} is {what}, and never None: declare it as .. | None "
+                             "where it may be")
+        return value if self.type is None else to_stored(self.type, value, self.said)
+
+    def _may_be_none(self) -> bool:
+        field = self.member.field
+        is_given = field.sort in ("generated", "version") or field.mapped_by is not None
+        return self.member.is_optional or is_given
 
     def value(self, stored: Any) -> Any:
         """The value of what is stored."""
         if stored is None or self.type is None:
             return stored
-        return from_stored(self.type, stored, f"{self.of}.{self.name}")
+        return from_stored(self.type, stored, self.said)
 
 
-def to_stored(kind: types.StoredType, value: Any, what: str) -> types.Plain:
-    """What is stored of a value for this; else a `WrongValue`."""
-    try:
-        return kind.to_stored(value)
-    except types.Unfit as why:
-        raise WrongValue(f"{what} is {kind.what}, and {value!r} {why}") from None
+class EmbeddedAttribute(Attribute):
+    """An attribute that is an embedded value, or an embedded id, of which each part is stored."""
+
+    def __init__(self, member: Member, places: Mapping[str, int], of: str) -> None:
+        super().__init__(member.name)
+        self.member, self.said = member, f"{of}.{member.said}"
+        self._validators: List[str] = []
+        self._leaves = {
+            leaf.name: TypedAttribute(leaf, places[leaf.name], of) for leaf in member.leaves()
+        }
+        property.__init__(self, self._read, self._assign)
+
+    def validated_by(self, methods: List[str]) -> None:
+        """As of a `TypedAttribute`."""
+        self._validators = methods
+
+    def _read(self, entity: Entity) -> Any:
+        if entity._karzhoul_shown.epoch.is_over:
+            return self.of_row(entity._karzhoul_factory.values_of(entity))
+        return self.of_row(entity._karzhoul_values)
+
+    def _assign(self, entity: Entity, value: Any) -> None:
+        entity._karzhoul_factory.tell_all(entity._karzhoul_run, self.lines(entity, value))
+
+    def of_row(self, row: Sequence[Any]) -> Any:
+        """The value that an object of these values has; None where nothing of it is there."""
+        stored = {
+            name: leaf.value(row[leaf.place])  # type: ignore[index]
+            for name, leaf in self._leaves.items()
+        }
+        return embedded_of(self.member, stored, self.said)
+
+    def lines(self, entity: Entity, value: Any) -> List[bytes]:
+        """The lines that set its parts."""
+        for name in self._validators:
+            value = getattr(entity, name)(value)
+        kind, may_be_none = self.member.kind, self.member.is_optional
+        if type(value) is not kind and not (value is None and may_be_none):
+            assert kind is not None
+            none = ", and never None: declare it as .. | None where it may be"
+            wrong = none if value is None else f", and {value!r} is none"
+            raise WrongValue(f"{self.said} is of {kind.__name__}{wrong}")
+        return [
+            self._leaves[leaf.name].line(entity, part) for leaf, part in parts_with(
+                self.member, value)
+        ]
 
 
-def from_stored(kind: types.StoredType, stored: Any, what: str) -> Any:
-    """The value of what is stored for this; else a `WrongValue`."""
-    try:
-        return kind.from_stored(stored)
-    except types.Unfit as why:
-        raise WrongValue(f"{what} is {kind.what}, and what is stored, {stored!r}, {why}") from None
+def parts_with(member: Member, value: Any) -> Iterator[Tuple[Member, Any]]:
+    """What is stored of an embedded value, with what it has there."""
+    for part in member.parts:
+        assert part.part is not None
+        own = None if value is None else vars(value)[part.part.name]
+        if part.kind is None:
+            yield part, own
+        else:
+            yield from parts_with(part, own)
+
+
+def embedded_of(member: Member, values: Mapping[str, Any], what: str) -> Any:
+    """The embedded value of its parts, by their names in the mapping. None where it may be None,
+    or was not given yet, and all of them are."""
+    assert member.kind is not None
+    if has_required(member.kind) and all(values[it.name] is None for it in member.leaves()):
+        return None
+    made: Dict[str, Any] = {}
+    for part in member.parts:
+        assert part.part is not None
+        value = values[part.name] if part.kind is None else embedded_of(part, values, what)
+        if value is None and not part.part.is_optional:
+            raise WrongValue(f"{what} is of {member.kind.__name__}, and only a part of one is "
+                             f"stored: {part.said} is None")
+        made[part.part.name] = value
+    return member.kind._karzhoul_made(made)
+
+
+def _part_of_key(part: Member, value: Any, what: str) -> Any:
+    assert part.type is not None
+    return to_stored(part.type, value, what)
 
 
 class Binding:
@@ -94,12 +163,19 @@ class Binding:
         entity = self.model.get(name)
         if entity is None:
             return type, (base,), dict(own)
-        made: Dict[str, Any] = {}
-        for key, each in own.items():
-            if not isinstance(each, Attribute):
-                made[key] = each
-            elif key in entity.members:
-                made[key] = self._attribute(entity, each, own["_karzhoul_places"].get(key))
+        made = {key: each for key, each in own.items() if not isinstance(each, Attribute)}
+        for key, member in entity.members.items():
+            if member.field.sort in TO_MANY:
+                made[key] = own[key]
+            elif member.part is None:  # The parts of embedded values are read by these.
+                made[key] = self._attribute(entity, key, member, own["_karzhoul_places"])
+        made["_karzhoul_stored"] = {
+            leaf.name: TypedAttribute(leaf, own["_karzhoul_places"].get(leaf.name), entity.name)
+            for member in self._members(entity).values() for leaf in member.leaves()
+            if leaf.part is not None or leaf.path
+        }
+        if len(entity.of("key")) > 1:
+            made["_karzhoul_key"] = "", [it.name for it in entity.key()]
         kind = entity.kind
         made.update(
             __doc__=kind.__doc__, __module__=kind.__module__, __qualname__=kind.__qualname__,
@@ -108,46 +184,72 @@ class Binding:
         bases = (kind,) if base is Entity else (kind, base)
         return type(kind), bases, made
 
-    def _attribute(self, entity: Declared, plain: Attribute, place: Optional[int]) -> Attribute:
-        member = entity.members[plain.name]
-        if member.field.sort in TO_MANY:
-            return plain
-        made = TypedAttribute(plain, member, place, entity.name)
+    def _attribute(
+        self, entity: Declared, said: str, member: Member, places: Mapping[str, int]
+    ) -> Attribute:
+        made: Union[EmbeddedAttribute, TypedAttribute] = (
+            TypedAttribute(member, places.get(member.name), entity.name) if member.kind is None
+            else EmbeddedAttribute(member, places, entity.name)
+        )
         made.validated_by([
             name for name in dir(entity.kind)
-            if plain.name in getattr(
-                getattr(entity.kind, name, None), "_karzhoul_validates", ())
+            if said in getattr(getattr(entity.kind, name, None), "_karzhoul_validates", ())
         ])
         return made
 
     def _members(self, entity: Declared) -> Dict[str, Member]:
         return {
             name: member for each in chain(self.model, entity)
-            for name, member in each.members.items()
+            for name, member in each.members.items() if member.part is None
         }
 
-    def _key_type(self, name: str) -> Optional[types.StoredType]:
-        """The type of an entity's key, where it isn't stored as it is."""
-        root = chain(self.model, self.model[name])[0]
-        kinds = [key.type for key in root.of("key", "generated")]
-        return next((it for it in kinds if it is not None and not it.is_plain), None)
+    def _key(self, name: str) -> List[Member]:
+        return chain(self.model, self.model[name])[0].key()
 
     def keys(self, name: str, keys: List[Any]) -> List[Any]:
-        """Keys of an entity as they are stored."""
-        kind = self._key_type(name) if name in self.model else None
-        if kind is None:
+        """Keys of an entity as they are stored; a `WrongValue` where one is of another type."""
+        if name not in self.model:
             return keys
+        parts = self._key(name)
+        return [self._stored_key(name, parts, key) for key in keys]
+
+    def _stored_key(self, name: str, parts: Sequence[Member], key: Any) -> Any:
         told = f"the key of {name}"
-        return [it if it is None else to_stored(kind, it, told) for it in keys]
+        kinds = [it.kind for it in chain(self.model, self.model[name])[0].of("key", "generated")]
+        if isinstance(key, Embedded) and [type(key)] != kinds:
+            named = kinds[0].__name__ if kinds[0] is not None else ", ".join(it.said for it in parts)
+            raise WrongValue(f"{told} is {named}, and {key!r} is none")
+        if len(parts) == 1 and not isinstance(key, (Embedded, list, tuple)):
+            return key if key is None else _part_of_key(parts[0], key, told)
+        values = list(key._values().values()) if isinstance(key, Embedded) else key
+        if not isinstance(values, (list, tuple)) or len(values) != len(parts):
+            named = ", ".join(it.said for it in parts)
+            raise WrongValue(f"{told} is {named} in a tuple, and not {key!r}")
+        return tuple(
+            each if each is None else _part_of_key(part, each, f"{part.said} in {told}")
+            for part, each in zip(parts, values)
+        )
 
     def find_fast(self, leaves: Dict[Union[str, Type[Any]], Tuple[bytes, Type[Entity]]]) -> None:
-        """Has classes be found by their keys in less time, where these are stored as they are."""
+        """Has classes be found by their keys in less time, where these are whole numbers."""
         for entity in self.model.values():
             known = leaves.get(entity.name)
-            if known is not None and self._key_type(entity.name) is None:
+            forms = [key.type and key.type.form for key in self._key(entity.name)]
+            if known is not None and forms == ["int"]:
                 leaves[entity.kind] = known
             elif known is not None:
                 del leaves[entity.name], leaves[known[1]]
+
+    def index_lines(self) -> List[bytes]:
+        """The lines that say which attributes will be looked up."""
+        return [
+            line_of("index", {"entity": text_spelled(name), "name": text_spelled(said)})
+            for name, entity in self.model.items()
+            for said in dict.fromkeys(
+                leaf.name for member in entity.members.values() for leaf in member.leaves()
+                if leaf.field.index
+            )
+        ]
 
     # ---- what is open
 
@@ -210,24 +312,27 @@ def _set(entity: Entity, name: str, value: Any) -> None:
     object.__setattr__(entity, name, value)
 
 
+_TAKEN = ("value", "embedded", "key", "many_to_one", "one_to_one")
+
+
 def fill(entity: Entity, values: Mapping[str, Any]) -> None:
     """Gives a new object its values, and the defaults of those that aren't given: all of them, or
     none where one isn't taken."""
     kind = type(entity)
     check_names(kind, values)
     members: Mapping[str, Member] = kind._karzhoul_members  # type: ignore[attr-defined]
+    for name in values:
+        if not members[name].field.init:
+            raise TypeError(f"{kind.__name__} takes no {name}, which is init=False: set it then")
     missing = [
         name for name, it in members.items()
-        if name not in values and it.default is MISSING and not it.is_optional
-        and it.field.sort in ("value", "key", "many_to_one", "one_to_one")
-        and it.field.mapped_by is None
+        if name not in values and not it.field.has_default and not it.is_optional
+        and it.field.init and it.field.sort in _TAKEN and it.field.mapped_by is None
     ]
     if missing:
         raise TypeError(f"{kind.__name__} takes {', '.join(missing)}, and none is given")
-    given = {
-        name: it.default for name, it in members.items()
-        if it.default is not MISSING and it.default is not None
-    }
+    fresh = {name: it.field.fresh() for name, it in members.items() if name not in values}
+    given = {name: it for name, it in fresh.items() if it is not MISSING and it is not None}
     lines: List[bytes] = []
     later: Dict[str, Any] = {}
     for name, value in {**given, **values}.items():
@@ -235,7 +340,7 @@ def fill(entity: Entity, values: Mapping[str, Any]) -> None:
         if attribute.is_viewed:
             later[name] = value
         else:
-            lines.append(attribute.line(entity, value))
+            lines += attribute.lines(entity, value)
     entity._karzhoul_factory.tell_all(entity._karzhoul_run, lines)
     for name, value in later.items():
         object.__setattr__(entity, name, value)

@@ -6,28 +6,31 @@ from __future__ import annotations
 import re
 import sys
 from contextlib import suppress
+from dataclasses import replace
 from pathlib import Path
 from types import ModuleType
-from typing import TYPE_CHECKING, Any, Callable, Dict, Iterator, List, Mapping, NamedTuple
-from typing import Optional, Tuple, Union
+from typing import TYPE_CHECKING, Any, Callable, Dict, Iterable, Iterator, List, Mapping
+from typing import NamedTuple, Optional, Tuple, Union
 
-from ..refusals import Damaged, Refused
+from ..refusals import Damaged, KarzhoulError, Refused
 from . import lock as locks
 from .binding import Binding
 from .declared import Declared, Given, Member, Model, declared_by
 from .fields import MISSING
 from .mapping import FORMS, gone_name, mapping_of
 from .types import StoredType, Unfit
+from .unique import Constraint, Uniques, doubles, keyless, make_keys, sweep
 
 if TYPE_CHECKING:
     from ..factory import EntityManagerFactory
+    from ..managers import EntityManager
 
 Start = Callable[[Mapping[str, Any], Optional[Binding]], "EntityManagerFactory"]
 _FORMS_OF = f"SELECT f.at, f.form FROM {FORMS} f"
 _TOLD = 3
 
 
-class NotBroughtOver(ValueError):
+class NotBroughtOver(KarzhoulError, ValueError):
     """A store that the classes don't fit any more; each of the `faults` says what stands in it, and
     what to do. The store is as it was."""
 
@@ -45,13 +48,15 @@ class Made(NamedTuple):
     mapping: Dict[str, Any]
 
 
-def make(given: Given, lock: Union[None, str, Path] = None) -> Made:
+def make(
+    given: Given, lock: Union[None, str, Path] = None, *, is_anew: bool = False
+) -> Made:
     """What the classes of a module, or these, make, by the lock of a file, else of the one beside
-    them; nothing is written."""
+    them, or by one that begins anew; nothing is written."""
     given = given if isinstance(given, ModuleType) else list(given)
     model = declared_by(given)
     file = Path(lock) if lock is not None else _beside(given, model)
-    made = locks.locked(model, locks.read(file))
+    made = locks.locked(model, locks.empty() if is_anew else locks.read(file))
     return Made(model, made, file, mapping_of(model, made))
 
 
@@ -80,16 +85,23 @@ def open_classes(
     except Damaged as damaged:
         _fill_required(made, start, damaged)
         app = start(made.mapping, binding)
+    uniques = Uniques(made.model, made.lock)
     try:
-        _bring_forms(app, made)
+        _bring_forms(app, made, uniques)
         if made.file is not None and not is_in_memory:
             locks.write(made.file, locks.finished(made.lock))
     except BaseException:
         with suppress(Refused):
             app.close()
         raise
-    app.bind()
+    app.bind(uniques if uniques.all else None)
     return app
+
+
+def settle(app: EntityManagerFactory, made: Made) -> None:
+    """Has a new store say its forms, and give each value that is unique its key, by a factory over
+    any mapping of the same rows; a `NotBroughtOver` where two objects have one value."""
+    _bring_forms(app, made, Uniques(made.model, made.lock))
 
 
 # ---- what is required now
@@ -104,22 +116,83 @@ def _fill_required(made: Made, start: Start, damaged: Damaged) -> None:
         raise damaged from None  # It is none of these classes, whatever may be null.
     faults: List[str] = []
     with app, app.begin() as manager:
+        rescaled = _rescaled(manager, made)
         for entity, member in _required(made.model):
-            where = f"FROM {entity.name} e WHERE e.{member.name} IS NULL"
-            count = manager.one(f"SELECT COUNT(e) {where}")
-            if count and member.type is not None and member.default is not MISSING:
-                value = member.type.to_stored(member.default)
-                set_to = f"UPDATE {entity.name} e SET e.{member.name} = :value"
-                manager.execute_update(f"{set_to} WHERE e.{member.name} IS NULL", value=value)
-            elif count:
-                named = ", ".join(map(_named, manager.query(f"SELECT e {where}", max=_TOLD)))
-                faults.append(
-                    f"{entity.name}.{member.name} may not be None, and is in {count:,} stored: "
-                    f"{named}{', ..' if count > _TOLD else ''}. Give it a default, which these get "
-                    "at the next opening, or let it be .. | None, and fill it first"
-                )
+            before = rescaled.get((entity.name, member.name))
+            unset = f"SELECT COUNT(e) FROM {entity.name} e WHERE e.{member.name} IS NULL"
+            if before is not None and manager.one(unset):
+                # A default that is set now would be brought to the other scale with the others.
+                faults.append(f"{entity.name}.{member.said} is stored as {before}, and is required "
+                              "and of another scale now: let it be required first, and open the "
+                              "store, or let it be of that scale first")
+            elif _fill(app, manager, entity, member, faults):
+                _unsay_unique(manager, made, member)
         if faults:
-            raise NotBroughtOver(faults)
+            raise NotBroughtOver(faults) from None
+
+
+def _rescaled(manager: EntityManager, made: Made) -> Dict[Tuple[str, str], str]:
+    """The forms of the stored numbers whose scale is another one now, by entity and name."""
+    stored: Dict[str, str] = {at: form for at, form in manager.query(_FORMS_OF)}
+    return {
+        (column.entity.name, column.name): stored[column.at]
+        for column in _columns(made)
+        if column.at in stored and stored[column.at] != column.form
+        and None not in (scale_of(stored[column.at]), scale_of(column.form))
+    }
+
+
+def _fill(
+    app: EntityManagerFactory, manager: EntityManager, entity: Declared, member: Member,
+    faults: List[str], whole: Optional[Member] = None,
+) -> bool:
+    """Gives the objects of an entity that have none of an attribute its default, of a part of an
+    embedded value those that have the value; whether there were any. Where it has no default, one
+    more of the faults says which they are."""
+    where = f"WHERE e.{member.name} IS NULL"
+    if whole is not None:
+        others = [f"e.{leaf.name} IS NOT NULL" for leaf in whole.leaves()]
+        where += f" AND ({' OR '.join(others)})"
+    count = manager.one(f"SELECT COUNT(e) FROM {entity.name} e {where}")
+    if count and member.type is not None and member.field.has_default:
+        _give_default(app, manager, entity, member, where)
+        return True
+    if count:
+        found = manager.query(f"SELECT e FROM {entity.name} e {where}", max=_TOLD)
+        named = ", ".join(map(_named, found))
+        there = f" where {whole.said} is there" if whole is not None else ""
+        faults.append(
+            f"{entity.name}.{member.said} may not be None{there}, and is in {count:,} stored: "
+            f"{named}{', ..' if count > _TOLD else ''}. Give it a default, which these get "
+            "at the next opening, or let it be .. | None, and fill it first"
+        )
+    return False
+
+
+def _give_default(
+    app: EntityManagerFactory, manager: EntityManager, entity: Declared, member: Member, where: str
+) -> None:
+    """Gives objects of an entity the default of an attribute, each its own where that is made for
+    each."""
+    assert member.type is not None
+    if member.field.default_factory is None:
+        manager.execute_update(
+            f"UPDATE {entity.name} e SET e.{member.name} = :value {where}",
+            value=member.type.to_stored(member.default),
+        )
+        return
+    for each in manager.query(f"SELECT e FROM {entity.name} e {where}"):
+        app.set(each, member.name, member.type.to_stored(member.field.fresh()))
+    manager.flush()
+    manager.clear()  # Else they wouldn't see what an UPDATE gives them.
+
+
+def _unsay_unique(manager: EntityManager, made: Made, member: Member) -> None:
+    """Has the keys of what is unique be made anew, since values were set beside them."""
+    for each in Uniques(made.model, made.lock).all:
+        form = manager.find(FORMS, each.at) if member in each.members else None
+        if form is not None:
+            form.form = _DROPPED
 
 
 def _named(entity: Any) -> str:
@@ -135,14 +208,51 @@ def _required(model: Model) -> Iterator[Tuple[Declared, Member]]:
                 yield entity, member
 
 
+def _fill_parts(
+    app: EntityManagerFactory, manager: EntityManager, made: Made, faults: List[str]
+) -> List[Member]:
+    """Gives embedded values that may be None, and are there, the defaults of their required parts,
+    whose columns must let these be null; and answers which were given."""
+    return [
+        member for entity in made.model.values()
+        for whole in _optional_wholes(entity.members.values())
+        for member in _needed(whole)
+        if _fill(app, manager, entity, member, faults, whole)
+    ]
+
+
+def _optional_wholes(members: Iterable[Member]) -> Iterator[Member]:
+    """The embedded values of members that may be None, also within others."""
+    for each in members:
+        if each.kind is not None and (each.part or each).is_optional:
+            yield each
+        yield from _optional_wholes(each.parts)
+
+
+def _needed(whole: Member, default: Any = MISSING) -> Iterator[Member]:
+    """What is stored of an embedded value wherever that is there, with the defaults that its class
+    says, or that of a value that it is a part of."""
+    for each in whole.parts:
+        assert each.part is not None
+        said = each.part.field
+        if default is not MISSING:
+            said = replace(said, default=vars(default)[each.part.name], default_factory=None)
+        if each.kind is not None and not each.part.is_optional:
+            yield from _needed(each, said.default)
+        elif not each.part.is_optional:
+            yield replace(each, field=said)
+
+
 # ---- the forms of columns
 
 
 class _Column(NamedTuple):
-    """A column, with the form that it is to have: `link`, `dropped`, or that of a type."""
+    """A column or a list, with the form that it is to have: `link`, `list`, `dropped`, or that of a
+    type."""
 
     at: str
-    """The name that a store has it by: its table and its number."""
+    """The name that a store has it by: its table and its number, of a list the number of its own.
+    """
     entity: Declared
     name: str
     form: str
@@ -158,17 +268,22 @@ def _columns(made: Made) -> Iterator[_Column]:
         table = made.lock["entities"][locks.root_of(made.lock, entity.name)]["table"]
         for name, stored in record["members"].items():
             kind = entity.members[name].type
-            if "column" in stored:
-                form = "link" if kind is None else kind.form
-                yield _Column(f"{table}.{stored['column']}", entity, name, form, kind)
+            form = "list" if "table" in stored else "link" if kind is None else kind.form
+            yield _Column(_at(table, stored), entity, name, form, kind)
         for each in record.get("gone", ()):
-            if each.get("cleared") and "column" in each:
-                yield _Column(f"{table}.{each['column']}", entity, gone_name(each), _DROPPED)
+            if each.get("cleared"):
+                yield _Column(_at(table, each), entity, gone_name(each), _DROPPED)
 
 
-def _bring_forms(app: EntityManagerFactory, made: Made) -> None:
-    """Has each column be in the form that its class says, all of them in one commit."""
+def _at(table: int, stored: locks.Record) -> str:
+    return str(stored["table"]) if "table" in stored else f"{table}.{stored['column']}"
+
+
+def _bring_forms(app: EntityManagerFactory, made: Made, uniques: Uniques) -> None:
+    """Has each column be in the form that its class says, and each embedded value have its required
+    parts, all of them in one commit; and each value that is unique have its key."""
     faults: List[str] = []
+    unmade: List[Constraint] = []
     with app.begin() as manager:
         stored: Dict[str, str] = {at: form for at, form in manager.query(_FORMS_OF)}
         for column in _columns(made):
@@ -177,21 +292,60 @@ def _bring_forms(app: EntityManagerFactory, made: Made) -> None:
                 continue
             try:
                 if form == _DROPPED:
-                    manager.execute_update(
-                        f"UPDATE {column.entity.name} e SET e.{column.name} = NULL"
-                    )
+                    _let_go(app, manager, column)
                 elif before not in (None, _DROPPED):
                     _bring(manager, column, str(before))
             except Unfit as why:
                 faults.append(f"{column.entity.name}.{column.name} is stored as {before}, and is "
                               f"{form} now: {why}")
                 continue
-            if before is None:
-                manager.persist(app.new(FORMS, at=column.at, form=form))
-            else:
-                manager.get_reference(FORMS, column.at).form = form
+            _say_form(app, manager, column.at, form, is_new=before is None)
+        filled = {it.name for it in _fill_parts(app, manager, made, faults)}
+        for each in uniques.dropped + uniques.all:
+            before, is_on = stored.get(each.at), each in uniques.all
+            is_filled = any(it.name in filled for it in each.members)
+            # What was stored by the mapping alone, as by a load, has no key.
+            is_short = is_on and (is_filled or manager.query(keyless(each), max=1))
+            if before == (each.form if is_on else _DROPPED) and not is_short:
+                continue
+            faults += doubles(manager, each) if is_on else ()
+            manager.execute_update(f"UPDATE {each.entity} e SET e.{each.link} = NULL")
+            _say_form(app, manager, each.at, _DROPPED, is_new=before is None)
+            unmade += [each] if is_on else []
         if faults:
             raise NotBroughtOver(faults)
+    _make_keys(app, uniques, unmade)
+
+
+def _say_form(
+    app: EntityManagerFactory, manager: EntityManager, at: str, form: str, is_new: bool
+) -> None:
+    if is_new:
+        manager.persist(app.new(FORMS, at=at, form=form))
+    else:
+        manager.get_reference(FORMS, at).form = form
+
+
+def _make_keys(app: EntityManagerFactory, uniques: Uniques, unmade: List[Constraint]) -> None:
+    """Makes the keys of what is unique that have none yet, each in the store's words once it has
+    all; what is stopped on the way goes on at the next opening."""
+    for each in unmade:
+        make_keys(app, uniques, each)
+        with app.begin() as manager:
+            manager.get_reference(FORMS, each.at).form = each.form
+    if uniques.all or uniques.dropped:
+        sweep(app, uniques)
+
+
+def _let_go(app: EntityManagerFactory, manager: EntityManager, column: _Column) -> None:
+    """Lets the values of a column go, or the members of a list."""
+    name, path = column.entity.name, f"e.{column.name}"
+    if "." in column.at:
+        manager.execute_update(f"UPDATE {name} e SET {path} = NULL")
+        return
+    for each in manager.query(f"SELECT e FROM {name} e WHERE {path} IS NOT EMPTY"):
+        for member in app.get(each, column.name):
+            app.take_out(each, column.name, member)
 
 
 _OTHER = (
@@ -202,16 +356,17 @@ _OTHER = (
 
 def _bring(manager: Any, column: _Column, before: str) -> None:
     """Brings a column over to the form of its attribute; `Unfit` says what is in the way."""
-    old, new = _scale(before), _scale(column.form)
+    old, new = scale_of(before), scale_of(column.form)
     if old is not None and new is not None:
         _rescale(manager, column, old, new)
-    elif column.type is not None and _may_become(before, column.form):
+    elif column.type is not None and may_become(before, column.form):
         _check_values(manager, column, column.type)
     else:
         raise Unfit(f"the one can't be told from the other; {_OTHER}")
 
 
-def _scale(form: str) -> Optional[int]:
+def scale_of(form: str) -> Optional[int]:
+    """How many digits behind the point a form has; None where it is no number."""
     found = re.fullmatch(r"money\(([0-9]+)\)", form)
     return 0 if form == "int" else int(found[1]) if found else None
 
@@ -254,7 +409,7 @@ def _divide(manager: Any, column: _Column, by: int) -> None:
         manager.factory.conversions = conversions
 
 
-def _may_become(before: str, form: str) -> bool:
+def may_become(before: str, form: str) -> bool:
     """Whether what is stored in a form may be of another one, value by value."""
     own = re.split(r"[ (]", before)[0], re.split(r"[ (]", form)[0]
     if own[0] == own[1]:

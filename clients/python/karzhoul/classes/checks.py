@@ -2,7 +2,7 @@
 
 from __future__ import annotations
 
-from typing import Dict, List, Optional
+from typing import Dict, List, Optional, Sequence
 
 from .declared import TO_MANY, TO_ONE, Declared, Member, Model
 from .faults import Faults
@@ -13,12 +13,17 @@ _SIDES = {
 }
 
 
+_MOST_PARTS = 4
+
+
 def check(model: Model, faults: Faults) -> None:
     """Refuses a model that makes no mapping: a `DeclarationError` has all that is wrong."""
     for entity in model.values():
         _check_key(entity, faults)
         _check_version(entity, faults)
         _check_names(model, entity, faults)
+        for names in entity.unique:
+            _check_unique(model, entity, names, faults)
         for member in entity.of(*TO_ONE, *TO_MANY):
             _check_relation(model, entity, member, faults)
     faults.tell()
@@ -44,20 +49,24 @@ def _check_key(entity: Declared, faults: Faults) -> None:
     keys = entity.of("key", "generated")
     if entity.parent is not None:
         for each in keys:
-            faults.add(each.writer, each.name, f"is a key, and {entity.name} has that of "
+            faults.add(each.writer, each.said, f"is a key, and {entity.name} has that of "
                        f"{entity.parent}, which it extends: take the word key() away")
         return
     if not keys:
         faults.add(entity.kind, None, "has no key: write id: int = generated(), or give the word "
                    "key() to the attribute by which an object is found")
-    for each in keys[1:]:
-        faults.add(each.writer, each.name, f"is a second key beside {keys[0].name}: an entity of "
-                   "classes has one; take the word key() away")
     for each in keys:
+        if len(keys) > 1 and (each.field.sort == "generated" or each.kind is not None):
+            word = "is generated" if each.kind is None else "is an embedded id"
+            faults.add(each.writer, each.said, f"{word}, and so the whole key: take the other "
+                       "key() away")
         if each.is_optional:
-            faults.add(each.writer, each.name, "is a key, which is never None: take None away")
+            faults.add(each.writer, each.said, "is a key, which is never None: take None away")
         if each.field.sort == "generated" and not _is_int(each):
-            faults.add(each.writer, each.name, "is generated, and so a number: write it as int")
+            faults.add(each.writer, each.said, "is generated, and so a number: write it as int")
+    if len(entity.key()) > _MOST_PARTS:
+        faults.add(entity.kind, None, f"has a key of {len(entity.key())} parts, and "
+                   f"{_MOST_PARTS} are the most: write a key() of less")
 
 
 def _check_version(entity: Declared, faults: Faults) -> None:
@@ -84,6 +93,29 @@ def _check_names(model: Model, entity: Declared, faults: Faults) -> None:
         if name in above:
             faults.add(member.writer, name, f"is in {above[name]} already, which it extends: take "
                        "it away here")
+
+
+def _check_unique(
+    model: Model, entity: Declared, names: Sequence[str], faults: Faults
+) -> None:
+    """What is unique is stored, and is no key, which is so anyhow."""
+    for name in names:
+        member = member_of(model, entity.name, name)
+        if member is None:
+            faults.add(entity.kind, None, f"has unique=.. of {name!r}, which is no attribute of it")
+        elif member.parts:
+            faults.add(entity.kind, None, f"has unique=.. of {name}, which is an embedded value: "
+                       f"name its parts, as {next(member.leaves()).said}")
+        elif member.field.sort == "version" or member.type is None and not member.is_link:
+            faults.add(entity.kind, None, f"has unique=.. of {name}, which is no value and no link "
+                       "that is stored: take it away there")
+    members = [member_of(model, entity.name, name) for name in names]
+    key = chain(model, entity)[0].key()
+    if key and all(part in members for part in key):
+        faults.add(entity.kind, None, f"has unique=.. of {', '.join(names)}, which is the key, and "
+                   "so unique: take it away there")
+    if len(set(names)) < len(names) or entity.unique.count(tuple(names)) > 1:
+        faults.add(entity.kind, None, f"has unique=.. of {', '.join(names)} twice: once is enough")
 
 
 def _check_relation(model: Model, entity: Declared, member: Member, faults: Faults) -> None:

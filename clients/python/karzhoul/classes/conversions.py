@@ -5,16 +5,18 @@ from __future__ import annotations
 
 from dataclasses import dataclass, field
 from functools import lru_cache
-from typing import Any, Dict, Iterable, List, Mapping, Optional, Sequence, Set, Tuple
+from typing import Any, Dict, Iterable, List, Mapping, NamedTuple, Optional, Sequence, Set, Tuple
 
 from .. import jpql
-from ..jpql import Block, Bulk, Node, Statement
-from ..rewriting import Edits, is_list, read
-from .binding import WrongValue, from_stored, to_stored
-from .checks import member_of
-from .declared import Model
+from ..jpql import Block, Node, Statement, Token, read
+from ..rewriting import Edits, is_list
+from .binding import embedded_of
+from .checks import chain, member_of
+from .declared import OWN_ID, Member, Model
 from .types import Money, Plainly, Span, StoredType, Unfit
+from .values import WrongValue, from_stored, to_stored
 
+Typed = Optional[Tuple[StoredType, str]]
 _BOOLS = {"TRUE": 1, "FALSE": 0}
 _SCALED = (Money, Span)
 
@@ -27,8 +29,10 @@ class Analysis:
     """With literals as they are stored."""
     parameters: Dict[str, Tuple[StoredType, str]] = field(default_factory=dict)
     """The type of each, and the attribute that it is of, in words."""
-    items: List[Optional[Tuple[StoredType, str]]] = field(default_factory=list)
+    items: List[Typed] = field(default_factory=list)
     """Those of the items of a row; nothing where none is to be converted."""
+    wholes: List[Optional[Path]] = field(default_factory=list)
+    """The items that are embedded values, of which each part is asked for."""
 
 
 class Conversions:
@@ -56,14 +60,38 @@ class Conversions:
 
     def values(self, text: str, rows: List[Any]) -> List[Any]:
         """The rows that a query found, in the types of its items."""
-        items = self._analysed(text).items
+        found = self._analysed(text)
+        items = found.items
         if not items:
             return rows
+        if any(found.wholes):
+            return [_joined(found, row) for row in rows]
         if len(items) == 1:
             return [_value(items[0], row) for row in rows]
         return [list(map(_value, items, row)) for row in rows]
 
+    def flattened(self, text: str) -> str:
+        """An UPDATE with the parts of embedded values by their names in the mapping, which alone
+        can be set; any other text as it is."""
+        try:
+            tokens = jpql.tokens_of(text)
+        except jpql.Unreadable:
+            return text
+        if len(tokens) < 4 or not tokens[0].is_word("UPDATE"):
+            return text
+        variable = tokens[3] if tokens[2].is_word("AS") else tokens[2]
+        reader = _Reader(self._model, text, Analysis(text))
+        for at, token in enumerate(tokens):
+            if token.said == variable.said and token.sort == "word":
+                words = [token]
+                while tokens[at + 1].is_mark(".") and tokens[at + 2].sort == "word":
+                    at += 2
+                    words.append(tokens[at])
+                reader.rename(words, {variable.said: tokens[1].said})
+        return reader.edits.text()
+
     def _analyse(self, text: str) -> Analysis:
+        text = self.flattened(text)
         statement = read(text)
         found = Analysis(text)
         if statement is None:
@@ -71,16 +99,39 @@ class Conversions:
         reader = _Reader(self._model, text, found)
         reader.read(statement)
         found.text = reader.edits.text()
-        if not any(found.items):
+        if not any(found.items) and not any(found.wholes):
             found.items = []
         return found
+
+
+class Path(NamedTuple):
+    """What a path ends in, in words, and the place of the word where its own name begins."""
+
+    member: Member
+    what: str
+    start: int
 
 
 def _value(kind: Optional[Tuple[StoredType, str]], stored: Any) -> Any:
     return stored if kind is None or stored is None else from_stored(kind[0], stored, kind[1])
 
 
-Typed = Optional[Tuple[StoredType, str]]
+def _joined(found: Analysis, row: Any) -> Any:
+    """A row in which the parts of embedded values are these."""
+    values = iter(row if isinstance(row, list) else [row])
+    made: List[Any] = []
+    for kind, whole in zip(found.items, found.wholes):
+        if whole is None:
+            made.append(_value(kind, next(values)))
+            continue
+        parts = {
+            leaf.name: None if stored is None else from_stored(leaf.type, stored, whole.what)
+            for leaf, stored in zip(whole.member.leaves(), values) if leaf.type is not None
+        }
+        made.append(embedded_of(whole.member, parts, whole.what))
+    return made if len(made) > 1 else made[0]
+
+
 Scope = Mapping[str, str]
 
 
@@ -100,7 +151,12 @@ class _Reader:
             return
         scope = self._scope([statement.source], {})
         for each in statement.sets or ():
-            target = self._path([each.variable.said, each.name.said], scope)
+            words = [each.variable.said, each.name.said]
+            found, target = self._walk(words, scope), self._path(words, scope)
+            if found is not None and found.member.kind is not None:
+                raise self._of_whole(found, words[0])
+            if found is not None:
+                self._check_part(scope[words[0]], found.member, each.value)
             if each.value is not None:
                 self._alike([each.value], scope, target)
                 self._within(each.value, scope)
@@ -109,10 +165,19 @@ class _Reader:
     def _block(self, block: Block, outer: Scope, is_outer: bool = False) -> None:
         scope = self._scope(block.sources, outer)
         heads = [item.value for item in block.items]
-        parts = [*heads, *(it.on for it in block.sources), block.where, block.having]
-        for part in [*parts, *(block.groups or ()), *(it.path for it in block.keys or ())]:
+        wholes = [self._whole(each, scope) for each in heads] if is_outer else [None] * len(heads)
+        for head, whole in zip(heads, wholes):
+            if whole is None:
+                self._within(head, scope)
+        for group in block.groups or ():
+            if self._whole(group, scope) is None:
+                self._within(group, scope)
+        parts = [*(it.on for it in block.sources), block.where, block.having]
+        for part in [*parts, *(it.path for it in block.keys or ())]:
             self._within(part, scope)
         if is_outer:
+            self._check_names(block, wholes)
+            self._found.wholes = wholes
             kinds = [self._type(each, scope) for each in heads]
             self._found.items = [
                 None if kind is None or kind[0].is_plain else kind for kind in kinds
@@ -134,6 +199,91 @@ class _Reader:
                 scope[source.variable.said] = name
         return scope
 
+    # ---- paths
+
+    def _walk(self, words: Sequence[str], scope: Scope) -> Optional[Path]:
+        """What a path ends in, where that is a member of a class."""
+        name, *steps = words
+        entity, at = scope.get(name, ""), 0
+        while at < len(steps) and entity in self._model:
+            member, count = self._step(entity, steps[at:])
+            if member is None:
+                return None
+            if at + count == len(steps):
+                return Path(member, f"{entity}.{member.said}", at + 1)
+            entity, at = member.target, at + count
+        return None
+
+    def _step(self, entity: str, steps: Sequence[str]) -> Tuple[Optional[Member], int]:
+        """The member that steps begin with, of an embedded value the part that they lead to; and
+        how many of them that takes."""
+        member, count = member_of(self._model, entity, steps[0]), 1
+        if member is None and steps[0] == OWN_ID:
+            key = chain(self._model, self._model[entity])[0].key()
+            return next((it for it in key if it.name == ".".join(steps[:2])), None), 2
+        while member is not None and member.kind is not None and count < len(steps):
+            step = steps[count]
+            member = next((it for it in member.parts if it.part and it.part.name == step), None)
+            count += 1
+        return member, count
+
+    def rename(self, words: Sequence[Token], scope: Scope) -> Optional[Path]:
+        """Has a path that ends in a value have its name in the mapping; and what it ends in."""
+        found = self._walk([word.said for word in words], scope)
+        if found is not None and found.member.kind is None:
+            self._replace(words[found.start].at, words[-1].end, found.member.name)
+        return found
+
+    def _replace(self, at: int, end: int, by: str) -> None:
+        if self._text[at:end] != by and at not in self._done:
+            self._done.add(at)
+            self.edits.replace(at, end, by)
+
+    def _whole(self, node: Node, scope: Scope) -> Optional[Path]:
+        """The embedded value that an item is, of which each part is asked for."""
+        found = self._walk([it.said for it in node.words], scope) if node.sort == "path" else None
+        if found is None or found.member.kind is None:
+            return None
+        front = self._text[node.at : node.words[found.start].at]
+        self._replace(node.at, node.words[-1].end, ", ".join(
+            front + leaf.name for leaf in found.member.leaves()))
+        return found
+
+    def _check_names(self, block: Block, wholes: Sequence[Optional[Path]]) -> None:
+        names = {it.name.said for it, whole in zip(block.items, wholes) if it.name and whole}
+        for key in block.keys or ():
+            if len(key.path.words) == 1 and key.path.words[0].said in names:
+                raise WrongValue(f"ORDER BY {key.path.words[0].said} is of an embedded value, "
+                                 "which has no order: name one of its parts")
+
+    def _of_whole(self, found: Path, front: str) -> WrongValue:
+        part = next(found.member.leaves()).said
+        return WrongValue(f"{found.what} is an embedded value: name its parts, as {front}.{part}")
+
+    def _check_part(self, entity: str, part: Member, value: Optional[Node]) -> None:
+        """Refuses that an UPDATE sets a part of an embedded value that may be None, and so isn't
+        there in each object; what may be None there may be set to NULL."""
+        steps = part.said.split(".")
+        wholes = [self._step(entity, steps[:count])[0] for count in range(1, len(steps))]
+        unsure = [it for it in wholes if it is not None and (it.part or it).is_optional]
+        if unsure and (value is not None or any(_is_needed(it, part) for it in unsure)):
+            whole, name = unsure[0].said, steps[0]
+            raise ValueError(
+                f"an UPDATE sets {entity}.{part.said}, and {whole} may be None, of which it is no "
+                f"part: assign a whole {name} to the objects, as it.{name} = it.{name}.replace(..)"
+            )
+
+    def _present(self, node: Node, scope: Scope) -> bool:
+        """Whether a path is that of an embedded value of which a part is there where it is."""
+        found = self._walk([it.said for it in node.words], scope) if node.sort == "path" else None
+        if found is None or found.member.kind is None:
+            return False
+        needed = next((it for it in found.member.leaves() if _is_needed(found.member, it)), None)
+        if needed is None:
+            raise WrongValue(f"{found.what} is never None: ask for its parts")
+        self._replace(node.words[found.start].at, node.words[-1].end, needed.name)
+        return True
+
     # ---- what stands beside what
 
     def _within(self, node: Any, scope: Scope) -> None:
@@ -141,6 +291,13 @@ class _Reader:
             self._block(node, scope)
         if not isinstance(node, Node):
             return
+        if node.sort == "path":
+            found = self.rename(node.words, scope)
+            if found is not None and found.member.kind is not None:
+                raise self._of_whole(found, ".".join(it.said for it in node.words[: found.start]))
+        if node.sort == "null" or node.sort == "aggregate" and node.said == "COUNT":
+            if self._present(node.parts[0], scope):
+                return
         if node.sort in ("compare", "between", "in") or (
             node.sort == "arithmetic" and self._is_sum(node)
         ) or (node.sort == "call" and node.said in ("COALESCE", "NULLIF")):
@@ -242,17 +399,19 @@ class _Reader:
         return "*" not in between
 
     def _path(self, words: Sequence[str], scope: Scope) -> Typed:
-        name, *steps = words
-        entity = scope.get(name, "")
-        for place, step in enumerate(steps):
-            member = member_of(self._model, entity, step) if entity in self._model else None
-            if member is None:
-                return None
-            if member.type is not None:
-                is_last = place == len(steps) - 1
-                return (member.type, f"{entity}.{step}") if is_last else None
-            entity = member.target
-        return None
+        found = self._walk(words, scope)
+        if found is None or found.member.type is None:
+            return None
+        return found.member.type, found.what
+
+
+def _is_needed(whole: Member, leaf: Member) -> bool:
+    """Whether a part of an embedded value is there where that is."""
+    for part in whole.parts:
+        if leaf is part or leaf in tuple(part.leaves()):
+            is_there = part.part is not None and not part.part.is_optional
+            return is_there and (leaf is part or _is_needed(part, leaf))
+    return False
 
 
 def _differ(one: StoredType, other: StoredType) -> bool:

@@ -3,19 +3,19 @@
 from __future__ import annotations
 
 import re
-from dataclasses import dataclass, field as member
-from datetime import date, datetime, time, timedelta
-from decimal import Decimal
-from enum import Enum
+from dataclasses import dataclass, field as member, replace
 from types import ModuleType
-from typing import Any, Callable, ClassVar, Dict, Iterable, List, Optional, Tuple, Union
-from uuid import UUID
+from typing import Any, ClassVar, Dict, Iterable, Iterator, List, Optional, Tuple, Type, Union
 
 from ..entities import Entity
+from ..unit import OWN_ENTITIES
 from . import types
 from .annotations import Annotated, Scope, Unread, own_annotations
-from .faults import Faults
+from .embedded import Embedded, Part, check_optional, is_embedded, parts_of
+from .faults import DeclarationError, Faults
 from .fields import MISSING, Field
+from .stored import stored_type
+from .values import WrongValue
 
 Given = Union[ModuleType, Iterable[type]]
 _NAME = re.compile(r"[A-Za-z_][A-Za-z0-9_]{0,63}")
@@ -34,15 +34,35 @@ CALLBACKS = {
 
 @dataclass(frozen=True)
 class Member:
-    """An attribute of an entity. `writer` is the class that writes it, an entity or a mixin."""
+    """An attribute of an entity, or a part of one that is embedded, by its name in the mapping.
+    `writer` is the class that writes it, an entity or a mixin."""
 
     name: str
     writer: type
     field: Field
     is_optional: bool
     type: Optional[types.StoredType] = None
-    """None of a relation."""
+    """None of a relation, and of an embedded value."""
     target: str = ""
+    kind: Optional[Type[Embedded]] = None
+    """The class of an embedded value."""
+    parts: Tuple[Member, ...] = ()
+    """What an embedded value is of."""
+    path: str = ""
+    """The name of a part as queries have it, as `address.city`."""
+    part: Optional[Part] = None
+
+    @property
+    def said(self) -> str:
+        """Its name as a user writes it."""
+        return self.path or self.name
+
+    def leaves(self) -> Iterator[Member]:
+        """What is stored of it: of an embedded value each part."""
+        for part in self.parts:
+            yield from part.leaves()
+        if self.kind is None:
+            yield self
 
     @property
     def default(self) -> Any:
@@ -65,10 +85,16 @@ class Declared:
     was: Optional[str]
     dropped: Tuple[str, ...]
     members: Dict[str, Member] = member(default_factory=dict)
+    unique: List[Tuple[str, ...]] = member(default_factory=list)
+    """The names of attributes of which no two objects have the same values together."""
 
     def of(self, *sorts: str) -> List[Member]:
         """Its members of these sorts."""
         return [each for each in self.members.values() if each.field.sort in sorts]
+
+    def key(self) -> List[Member]:
+        """The parts of its key, which those that extend another one don't have."""
+        return [leaf for each in self.of("key", "generated") for leaf in each.leaves()]
 
 
 Model = Dict[str, Declared]
@@ -81,6 +107,8 @@ def declared_by(given: Given) -> Model:
     faults, found = Faults(), _classes(given)
     known: Dict[str, type] = {}
     for kind in found:
+        if kind.__name__ in OWN_ENTITIES:
+            faults.add(kind, None, "has a name that the client keeps for itself: give it another")
         if known.setdefault(kind.__name__, kind) is not kind:
             faults.add(kind, None, "has the name of another entity: give it one of its own")
     faults.tell()
@@ -90,11 +118,24 @@ def declared_by(given: Given) -> Model:
     for entity in model.values():
         for writer in _writers(entity.kind, known.get(entity.parent or "")):
             _Reader(entity, writer, known, faults).read()
+        _name_keys(entity)
     faults.tell()
     from .checks import check
 
     check(model, faults)
     return model
+
+
+OWN_ID = "_key"
+"""The name in the mapping of the embedded id that several attributes are."""
+
+
+def _name_keys(entity: Declared) -> None:
+    """Gives several attributes that are the key together their names as its parts."""
+    keys = {name: it for name, it in entity.members.items() if it.field.sort == "key"}
+    if len(keys) > 1:
+        for name, each in keys.items():
+            entity.members[name] = replace(each, name=f"{OWN_ID}.{name}", path=name)
 
 
 def _classes(given: Given) -> List[type]:
@@ -123,8 +164,24 @@ def is_entity(kind: Any) -> bool:
 
 
 def _said(kind: type) -> Tuple[Optional[str], Tuple[str, ...]]:
-    was, dropped, _ = vars(kind)["_karzhoul_said"]
+    was, dropped = vars(kind)["_karzhoul_said"][:2]
     return was, ((dropped,) if isinstance(dropped, str) else tuple(dropped))
+
+
+def _unique_said(kind: type) -> List[Tuple[str, ...]]:
+    """The names that a class says to be unique together."""
+    said: Any = (vars(kind).get("_karzhoul_said") or (None, (), False, ()))[3]
+    if isinstance(said, str):
+        said = [said]
+    if said and all(isinstance(each, str) for each in said):
+        said = [said]
+    lists = [[each] if isinstance(each, str) else each for each in said]
+    return [tuple(part_name(*each.split(".")) for each in names) for names in lists]
+
+
+def part_name(*steps: str) -> str:
+    """The name in the mapping of a part of an embedded value, as `address__city`."""
+    return "__".join(steps)
 
 
 def _parent(kind: type) -> Optional[str]:
@@ -152,6 +209,7 @@ class _Reader:
         for name, said in vars(self._writer).items():
             if isinstance(said, Field) and name not in annotations:
                 self._fault(name, f"has no annotation: write it as {name}: str = ..")
+        self._entity.unique += _unique_said(self._writer)
         for name, annotation in annotations.items():
             if name.startswith("_karzhoul"):
                 continue
@@ -170,14 +228,74 @@ class _Reader:
             raise Unread("has a name that is not of at most 64 ASCII letters, digits and _")
         said = vars(self._writer).get(name, MISSING)
         field = said if isinstance(said, Field) else Field(default=said)
-        if field.sort in KINDS:
+        if is_embedded(told.kind) and field.sort in ("value", "embedded", "key"):
+            made = self._embedded(name, told, field)
+        elif field.sort == "embedded":
+            raise Unread("is embedded: its class extends karzhoul.Embedded, which "
+                         f"{getattr(told.kind, '__name__', told.kind)} doesn't")
+        elif field.sort in KINDS:
             made = Member(name, self._writer, field, told.is_optional, target=self._target(
                 field, told))
         else:
             kind = stored_type(told, field)
             made = Member(name, self._writer, field, told.is_optional, kind)
             _check_default(made)
-        self._entity.members[name] = made
+        self._keep(made)
+        if field.unique:
+            self._entity.unique.append((name,))
+
+    def _keep(self, made: Member) -> None:
+        """Takes in a member, with what is stored of it where it is embedded."""
+        stored = [] if made.field.sort == "key" else [it for it in made.leaves() if it is not made]
+        for each in (made, *stored):
+            if each.name in self._entity.members:
+                raise Unread(f"makes an attribute {each.name}, which there is already")
+            if not _NAME.fullmatch(each.name):
+                raise Unread(f"makes an attribute {each.name}, a name of more than 64 characters")
+            self._entity.members[each.name] = each
+            if each is not made and each.field.unique:
+                self._entity.unique.append((each.name,))
+
+    def _embedded(self, name: str, told: Annotated, field: Field) -> Member:
+        """A value of several attributes."""
+        if field.form or field.unique or field.index:
+            raise Unread("is an embedded value: write it as embedded(), and the other words in "
+                         f"{told.kind.__name__}")
+        check_optional(told.kind, told.is_optional)
+        _check_default(Member(name, self._writer, field, told.is_optional, kind=told.kind,
+                              part=Part(name, field, told.is_optional, None, told.kind)))
+        whole = Member(name, self._writer, replace(
+            field, sort="key" if field.sort == "key" else "embedded"
+        ), told.is_optional, kind=told.kind)
+        return replace(whole, parts=self._parts(whole, (name,)))
+
+    def _parts(self, whole: Member, steps: Tuple[str, ...]) -> Tuple[Member, ...]:
+        """The parts of a member that is reached by these steps."""
+        assert whole.kind is not None
+        try:
+            found = parts_of(whole.kind)
+        except DeclarationError as wrong:
+            self._faults.take(wrong)
+            return ()
+        is_key, made = whole.field.sort == "key", []
+        has_own = whole.default is MISSING
+        for part in found.values():
+            way = (*steps, part.name)
+            each = Member(
+                ".".join(way) if is_key else part_name(*way), self._writer,
+                replace(
+                    part.field, default=_default_of(whole, part), was=_was_of(whole, part),
+                    sort="key" if is_key else part.field.sort,
+                    default_factory=part.field.default_factory if has_own else None,
+                ),
+                part.is_optional or whole.is_optional, part.type, kind=part.kind,
+                path=".".join(way), part=part,
+            )
+            if is_key and (each.kind is not None or each.is_optional):
+                raise Unread(f"is a key, whose parts are values that are never None: "
+                             f"{whole.kind.__name__}.{part.name} isn't one")
+            made.append(each if each.kind is None else replace(each, parts=self._parts(each, way)))
+        return tuple(made)
 
     def _target(self, field: Field, told: Annotated) -> str:
         """The entity that a relation leads to."""
@@ -195,65 +313,35 @@ class _Reader:
         return name
 
 
+def _default_of(whole: Member, part: Part) -> Any:
+    """The default of a part: that of the whole value, or its own."""
+    default = whole.default
+    if default is MISSING:
+        return part.field.default
+    return MISSING if default is None else vars(default)[part.name]
+
+
+def _was_of(whole: Member, part: Part) -> Optional[str]:
+    """The name that a part had in the mapping, where it or the whole value had another one."""
+    before, own = whole.field.was, part.field.was
+    if before is None and own is None:
+        return None
+    if "" in (before, own):
+        return ""
+    return part_name(before or whole.name, own or part.name)
+
+
 def _check_default(made: Member) -> None:
-    assert made.type is not None
     if made.default is MISSING or made.default is None and made.is_optional:
         return
     if made.default is None:
         raise Unread("has the default None, and is never None: write it as .. | None = None")
     try:
-        made.type.to_stored(made.default)
+        if made.type is not None:
+            made.type.to_stored(made.default)
+        elif made.part is not None:
+            made.part.taken(made.default, "it")
     except types.Unfit as why:
         raise Unread(f"has the default {made.default!r}, which {why}") from None
-
-
-_SIMPLE: Dict[Any, Callable[[], types.StoredType]] = {
-    int: lambda: types.Plainly(int), str: lambda: types.Plainly(str),
-    bytes: lambda: types.Plainly(bytes), bool: types.Truth, date: lambda: types.Iso(date),
-    time: lambda: types.Iso(time), datetime: lambda: types.Iso(datetime),
-    timedelta: types.Span, UUID: types.Unique,
-}
-
-
-def stored_type(told: Annotated, field: Field) -> types.StoredType:
-    """How values of an annotation are stored; `Unread` where they aren't, with what to write."""
-    kind, form = told.kind, field.form
-    name = getattr(kind, "__name__", str(kind))
-    if form == "typed":
-        if field.stored not in types.STORED:
-            raise Unread("is stored as none of int, str and bytes: typed(.., stored=str)")
-        return types.OwnType(name, field.converters[0], field.converters[1], field.stored)
-    wanted = {"money": kind is Decimal, "naive": kind is datetime, "json": kind in (list, dict),
-              "value": isinstance(kind, type) and issubclass(kind, Enum)}
-    if not wanted.get(form, True):
-        takes = {"money": "Decimal", "naive": "datetime", "json": "list or dict", "value": "Enum"}
-        word = {"json": "json_text", "value": "by_value"}.get(form, form)
-        raise Unread(f"is of {name}, and {word}() is for {takes[form]}")
-    if form == "money":
-        if not 0 <= field.scale <= 18:
-            raise Unread(f"is money({field.scale}): the scale is from 0 to 18, as in money(2)")
-        return types.Money(field.scale)
-    if form == "naive":
-        return types.Iso(datetime, is_naive=True)
-    if form == "json":
-        return types.Json(kind)
-    if kind in _SIMPLE:
-        return _SIMPLE[kind]()
-    if isinstance(kind, type) and issubclass(kind, Enum):
-        return types.Listed(kind, form == "value")
-    raise Unread(_why_none(kind, name))
-
-
-def _why_none(kind: Any, name: str) -> str:
-    if kind is float:
-        return (
-            "is a float, which is near a number and not exact: write Decimal = money(2), or "
-            "typed(..) with a form of your own"
-        )
-    if kind is Decimal:
-        return "is a Decimal without a scale: write it as Decimal = money(2)"
-    if kind in (list, dict):
-        return f"is a {name}: write {name} = json_text(), or of objects one_to_many(..)"
-    if isinstance(kind, type) and issubclass(kind, Entity):
-        return f"leads to an object: write it as {name} = many_to_one()"
-    return f"is of {name}, which has no stored form: write {name} = typed(to, back)"
+    except WrongValue as why:
+        raise Unread(f"has the default {made.default!r}: {why}") from None

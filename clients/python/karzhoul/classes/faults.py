@@ -8,8 +8,10 @@ from functools import lru_cache
 from pathlib import Path
 from typing import Dict, List, Optional, Sequence, Tuple
 
+from ..refusals import KarzhoulError
 
-class DeclarationError(TypeError):
+
+class DeclarationError(KarzhoulError, TypeError):
     """Classes that make no mapping, or not the one of before: each of the `faults` says where, what
     is wrong and what to write."""
 
@@ -26,9 +28,14 @@ class Faults:
 
     def add(self, kind: type, attribute: Optional[str], why: str) -> None:
         """Something is wrong with a class, or with an attribute that it writes."""
-        where, line = _place(kind, attribute)
+        # A part of an embedded value stands where that is written.
+        where, line = _place(kind, attribute and attribute.partition(".")[0])
         of = f".{attribute}" if attribute else ""
         self._found.append(f"{where}{f':{line}' if line else ''}: {kind.__name__}{of} {why}")
+
+    def take(self, wrong: DeclarationError) -> None:
+        """What was found of another class is wrong too."""
+        self._found += wrong.faults
 
     def tell(self) -> None:
         """Raises a `DeclarationError` where anything is wrong."""

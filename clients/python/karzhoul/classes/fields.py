@@ -37,7 +37,7 @@ class Field:
     """What a class says of an attribute, beside its annotation."""
 
     sort: str = "value"
-    """`value`, `key`, `generated`, `version`, or a relation as `many_to_one`."""
+    """`value`, `embedded`, `key`, `generated`, `version`, or a relation as `many_to_one`."""
     default: Any = MISSING
     was: Optional[str] = None
     form: str = ""
@@ -49,25 +49,62 @@ class Field:
     mapped_by: Optional[str] = None
     cascade: Tuple[str, ...] = ()
     orphan_removal: bool = False
+    index: bool = False
+    """Whether the program is told that it will be looked up (`index` of docs/CALLS.md)."""
+    unique: bool = False
+    """Whether no two objects have one value of it (`unique`)."""
+    default_factory: Optional[Callable[[], Any]] = None
+    """What makes the default of each new object."""
+    init: bool = True
+    """Whether the constructor takes it."""
     name: str = member(default="", compare=False)
 
     def __set_name__(self, owner: type, name: str) -> None:
         object.__setattr__(self, "name", name)
 
+    @property
+    def has_default(self) -> bool:
+        """Whether a new object has a value of it that its constructor isn't given."""
+        return self.default is not MISSING or self.default_factory is not None
 
-def field(*, default: Any = MISSING, was: Optional[str] = None) -> Any:
-    """A value, with a default, or with the name that the attribute had before."""
-    return Field("value", default, was)
+    def fresh(self) -> Any:
+        """The default of a new object; `MISSING` where there is none."""
+        return self.default if self.default_factory is None else self.default_factory()
 
 
-def key(*, default: Any = MISSING, was: Optional[str] = None) -> Any:
+# With `index` the program is told, as a store is opened, that equalities, ranges and orders of the
+# attribute will be asked for. No answer is another one for that. With `unique` no two objects have
+# one value of it; None is no value, and any number of them may have none.
+
+
+def field(
+    *, default: Any = MISSING, default_factory: Optional[Callable[[], Any]] = None,
+    init: bool = True, was: Optional[str] = None, index: bool = False, unique: bool = False,
+) -> Any:
+    """A value, with a default, or with the name that the attribute had before.
+
+    `default_factory` makes the default of each new object, as `uuid4` does; with both it is a
+    `ValueError`. With `init=False` the constructor doesn't take it: it has its default, or is to be
+    set before the object is stored, as by `pre_persist`.
+    """
+    if default is not MISSING and default_factory is not None:
+        raise ValueError("field() takes default or default_factory, and not both")
+    return Field(
+        "value", default, was, index=index, unique=unique, default_factory=default_factory,
+        init=init,
+    )
+
+
+def key(*, default: Any = MISSING, was: Optional[str] = None, index: bool = False) -> Any:
     """The key, by which an object is found. It is set before the object is persisted."""
-    return Field("key", default, was)
+    return Field("key", default, was, index=index)
 
 
-def generated(*, was: Optional[str] = None, init: Literal[False] = False) -> Any:
+def generated(
+    *, was: Optional[str] = None, index: bool = False, init: Literal[False] = False
+) -> Any:
     """A key that is given when a new object becomes managed, from 1."""
-    return Field("generated", was=was)
+    return Field("generated", was=was, index=index)
 
 
 def version(*, was: Optional[str] = None, init: Literal[False] = False) -> Any:
@@ -75,10 +112,13 @@ def version(*, was: Optional[str] = None, init: Literal[False] = False) -> Any:
     return Field("version", was=was)
 
 
-def money(scale: int, *, default: Any = MISSING, was: Optional[str] = None) -> Any:
+def money(
+    scale: int, *, default: Any = MISSING, was: Optional[str] = None, index: bool = False,
+    unique: bool = False,
+) -> Any:
     """A `Decimal` of so many digits behind the point, from 0 to 18: stored as a whole number of
     the least unit."""
-    return Field("value", default, was, "money", scale)
+    return Field("value", default, was, "money", scale, index=index, unique=unique)
 
 
 def json_text(*, default: Any = MISSING, was: Optional[str] = None) -> Any:
@@ -86,24 +126,37 @@ def json_text(*, default: Any = MISSING, was: Optional[str] = None) -> Any:
     return Field("value", default, was, "json")
 
 
-def naive(*, default: Any = MISSING, was: Optional[str] = None) -> Any:
+def naive(
+    *, default: Any = MISSING, was: Optional[str] = None, index: bool = False, unique: bool = False
+) -> Any:
     """A `datetime` without a zone, which is stored as it stands."""
-    return Field("value", default, was, "naive")
+    return Field("value", default, was, "naive", index=index, unique=unique)
 
 
-def by_value(*, default: Any = MISSING, was: Optional[str] = None) -> Any:
+def by_value(
+    *, default: Any = MISSING, was: Optional[str] = None, index: bool = False, unique: bool = False
+) -> Any:
     """An enum that is stored by its values, all of them int or all of them str, and not by its
     names."""
-    return Field("value", default, was, "value")
+    return Field("value", default, was, "value", index=index, unique=unique)
 
 
 def typed(
     to: Callable[[Any], Any], back: Callable[[Any], Any], *, stored: type = str,
-    default: Any = MISSING, was: Optional[str] = None,
+    default: Any = MISSING, was: Optional[str] = None, index: bool = False, unique: bool = False,
 ) -> Any:
     """A value of a type of your own: `to` makes of it what is stored, an int, a str or bytes as
     `stored` says, and `back` makes the value of that."""
-    return Field("value", default, was, "typed", converters=(to, back), stored=stored)
+    return Field(
+        "value", default, was, "typed", converters=(to, back), stored=stored, index=index,
+        unique=unique,
+    )
+
+
+def embedded(*, default: Any = MISSING, was: Optional[str] = None) -> Any:
+    """A value of several attributes (2.5), whose class extends `Embedded`: each is stored with the
+    object."""
+    return Field("embedded", default, was)
 
 
 def many_to_one(

@@ -14,8 +14,8 @@ from .faults import Faults
 
 NAME = "karzhoul.lock.json"
 FORMAT = 1
-FORMS_TABLE = 1_000_000
-"""The table of the forms of columns, which no entity has."""
+FORMS_TABLE, UNIQUE_TABLE = 1_000_000, 999_999
+"""The tables of the forms of columns and of the keys of unique values, which no entity has."""
 Record = Dict[str, Any]
 Lock = Dict[str, Any]
 
@@ -64,6 +64,8 @@ def _stored(record: Record) -> Iterator[Tuple[str, Record]]:
     yield from record["members"].items()
     for each in record.get("gone", ()):
         yield each["name"], each
+    for each in record.get("unique", {}).values():
+        yield f"unique {', '.join(each['of'])}", each
 
 
 def write(file: Path, lock: Lock) -> None:
@@ -102,16 +104,24 @@ def locked(model: Model, before: Lock) -> Lock:
     for entity in model.values():
         left = taken[entity.name]
         for each in left:
-            if each["name"] in entity.dropped:
+            if _is_dropped(each["name"], entity):
                 each["cleared"] = True
         if left:
             lock["entities"][entity.name]["gone"] = sorted(left, key=lambda it: str(it["name"]))
     faults.tell()
+    for entity in model.values():
+        _lock_unique(model, lock, entity)
     for name, record in lock["entities"].items():
         record.pop("dropped", None)
         if name not in model:
             record["dropped"] = True
     return lock
+
+
+def _is_dropped(name: str, entity: Declared) -> bool:
+    """Whether the class lets the values of a member go, or those of the embedded value that it is
+    of."""
+    return name in entity.dropped or name.partition("__")[0] in entity.dropped
 
 
 # ---- entities
@@ -157,7 +167,7 @@ def _like(records: Dict[str, Record], lost: "set[str]", entity: Declared) -> str
 
 def _lock_entity(model: Model, lock: Lock, entity: Declared, faults: Faults) -> None:
     record = lock["entities"].get(entity.name)
-    key = next(iter(entity.of("key", "generated")), None)
+    key = entity.key()
     version = next(iter(entity.of("version")), None)
     if record is None:
         place: Record = {"extends": entity.parent} if entity.parent else {"table": _table(lock)}
@@ -174,14 +184,15 @@ def _lock_entity(model: Model, lock: Lock, entity: Declared, faults: Faults) -> 
         faults.add(entity.kind, None, "has a version where it had none, or none where it had one: "
                    "an entity keeps that for good. Take the change back, or carry the objects over "
                    "(docs/CARRY-OVER.md)")
-    if key is not None:
-        assert key.type is not None
-        said = {"form": key.type.form, "type": key.type.stored,
-                "generated": key.field.sort == "generated"}
+    if key:
+        kinds = [part.type for part in key if part.type is not None]
+        said = {"form": ", ".join(it.form for it in kinds),
+                "type": ", ".join(it.stored for it in kinds),
+                "generated": key[0].field.sort == "generated"}
         before = record.setdefault("key", said)
         if before != said:
-            faults.add(key.writer, key.name, f"is a key of {_key_words(said)}, and was one of "
-                       f"{_key_words(before)}: a key stays as it is. Take the change back, or "
+            faults.add(key[0].writer, key[0].said, f"is a key of {_key_words(said)}, and was one "
+                       f"of {_key_words(before)}: a key stays as it is. Take the change back, or "
                        "carry the objects over (docs/CARRY-OVER.md)")
 
 
@@ -215,13 +226,44 @@ def _column(lock: Lock, name: str) -> int:
     return max(columns) + 1
 
 
+# ---- what is unique
+
+
+def _lock_unique(model: Model, lock: Lock, entity: Declared) -> None:
+    """The link of each list of unique attributes to its keys, by the columns of these, which stay
+    where an attribute is renamed. One that isn't unique any more keeps its number."""
+    record = lock["entities"][entity.name]
+    known: Dict[str, Record] = record.setdefault("unique", {})
+    for each in known.values():
+        each["dropped"] = True
+    for names in entity.unique:
+        columns = ",".join(_place_of(model, lock, entity, name) for name in names)
+        if columns not in known:
+            known[columns] = {"column": _column(lock, entity.name)}
+        known[columns] = {"column": known[columns]["column"], "of": list(names)}
+    if not known:
+        del record["unique"]
+
+
+def _place_of(model: Model, lock: Lock, entity: Declared, name: str) -> str:
+    """What an attribute of an entity is known by, whatever its name: its column, or its place in
+    the key."""
+    from .checks import chain
+
+    each = next(it for it in chain(model, entity) if name in it.members)
+    member, key = each.members[name], each.key()
+    if member in key:
+        return f"key{key.index(member)}"
+    return str(lock["entities"][each.name]["members"][name]["column"])
+
+
 # ---- members
 
 
 def is_stored(member: Member) -> bool:
     """Whether a member has a number of its own."""
     field = member.field
-    if field.sort in ("key", "generated", "version", "one_to_many"):
+    if field.sort in ("embedded", "key", "generated", "version", "one_to_many"):
         return False
     return field.mapped_by is None
 
@@ -253,17 +295,19 @@ def _lock_member(
     if known is None:
         lost = [each["name"] for each in left[entity.name] if each.get("now") and
                 each.get("type") == said.get("type") and each.get("target") == said.get("target")
-                and each["name"] not in entity.dropped]
+                and not _is_dropped(each["name"], entity)]
         if lost and member.field.was is None:
-            faults.add(member.writer, member.name, f"is new, and {lost[0]} is gone: where it is "
-                       f"renamed write was=\"{lost[0]}\" in its field(..), and where not, "
-                       f"was=\"\" there; the values of {lost[0]} stay in the store")
+            before = _before(member.name, lost)
+            faults.add(member.writer, member.said, f"is new, and {_words_of(before)} is gone: "
+                       f"where it is renamed write was=\"{_was(member.name, before)}\" in its "
+                       "word, and where not, was=\"\" there; the values of "
+                       f"{_words_of(before)} stay in the store")
         number = {"table": _table(lock)} if said.get("many") else {
             "column": _column(lock, entity.name)}
         record["members"][member.name] = {**number, **said}
         return
     if known.get("type") != said.get("type") or known.get("many") != said.get("many"):
-        faults.add(member.writer, member.name, f"is stored as {_words(said)}, and was stored as "
+        faults.add(member.writer, member.said, f"is stored as {_words(said)}, and was stored as "
                    f"{_words(known)}: give the new one another name, with was=\"\", and fill it "
                    "from the old one before that goes")
     elif known.get("target") != said.get("target"):
@@ -271,6 +315,23 @@ def _lock_member(
                    f"{known['target']}: give the new one another name, with was=\"\"")
     kept = {name: known[name] for name in ("table", "column") if name in known}
     record["members"][member.name] = {**kept, **said}
+
+
+def _words_of(name: str) -> str:
+    """The name of a member as a user writes it."""
+    return name.replace("__", ".")
+
+
+def _before(name: str, lost: List[str]) -> str:
+    """What a member was, of those that are gone: of a part of an embedded value the same part."""
+    part = name.rpartition("__")[2]
+    return next((each for each in lost if each.rpartition("__")[2] == part), lost[0])
+
+
+def _was(name: str, before: str) -> str:
+    """What was= says: where an embedded value has another name, the one that it had."""
+    (front, _, _), (old, _, part) = name.rpartition("__"), before.rpartition("__")
+    return part if front == old else old.partition("__")[0] or part
 
 
 def _words(said: Record) -> str:

@@ -2,16 +2,23 @@
 
 from __future__ import annotations
 
-from typing import Any, Dict, List, Mapping
+from typing import Any, Dict, List, Mapping, Sequence
 
-from .declared import KINDS, Declared, Member, Model
-from .lock import FORMS_TABLE, Lock, Record, is_stored
+from .declared import KINDS, OWN_ID, Declared, Member, Model
+from .lock import FORMS_TABLE, UNIQUE_TABLE, Lock, Record, is_stored
 
-FORMS = "KarzhoulForm"
-"""The entity that has the form in which each column is stored."""
+FORMS, UNIQUE = "KarzhoulForm", "KarzhoulUnique"
+"""The entities that have the form in which each column is stored, and a key for each value that is
+unique."""
 _FORMS_ENTITY: Dict[str, Any] = {
     "name": FORMS, "table": FORMS_TABLE, "key": [{"name": "at", "type": "text"}],
     "attributes": [{"name": "form", "type": "text", "column": 1, "required": True}],
+}
+# An object leads to the key of its value by a oneToOne, and so no other one does. With each object
+# that gets it `taken` rises, so that two transactions that take one value change one key.
+_UNIQUE_ENTITY: Dict[str, Any] = {
+    "name": UNIQUE, "table": UNIQUE_TABLE, "key": [{"name": "at", "type": "text"}],
+    "attributes": [{"name": "taken", "type": "int", "column": 1, "required": True}],
 }
 
 
@@ -19,17 +26,24 @@ def mapping_of(model: Model, lock: Lock, is_soft: bool = False) -> Dict[str, Any
     """The mapping of a model. A soft one lets each value be null.
 
     What a class has no more stays in it, by a name of no attribute, so that its values stay in the
-    store; so do classes that are gone, where rows of a class or links lead to them.
+    store. So do classes that are gone, where rows of a class or links lead to them, or where they
+    lead to others: else that could be removed, and the class couldn't come back.
     """
     hidden = _hidden_entities(model, lock)
     entities = [_entity(model[name], lock, is_soft) for name in model]
     entities += [_gone_entity(name, lock) for name in hidden]
-    return {"revision": 1, "entities": [*entities, _FORMS_ENTITY]}
+    is_unique = any("unique" in record for record in lock["entities"].values())
+    own = [_FORMS_ENTITY, *([_UNIQUE_ENTITY] if is_unique else [])]
+    return {"revision": 1, "entities": [*entities, *own]}
 
 
 def _hidden_entities(model: Model, lock: Lock) -> List[str]:
     records: Dict[str, Record] = lock["entities"]
     found: Dict[str, None] = dict.fromkeys(model)
+    found.update(dict.fromkeys(
+        name for name, record in records.items()
+        if any(map(_is_link, [*record["members"].values(), *record.get("gone", ())]))
+    ))
     size = -1
     while size != len(found):
         size = len(found)
@@ -46,17 +60,13 @@ def _hidden_entities(model: Model, lock: Lock) -> List[str]:
 
 
 def _is_link(record: Record) -> bool:
-    return "column" in record and "target" in record
+    return "target" in record
 
 
 def _entity(entity: Declared, lock: Lock, is_soft: bool) -> Dict[str, Any]:
     record = lock["entities"][entity.name]
     said = _head(entity.name, record)
-    for key in entity.of("key", "generated"):
-        assert key.type is not None
-        said["key"] = [{"name": key.name, "type": key.type.stored}]
-        if key.field.sort == "generated":
-            said["generated"] = True
+    said.update(_key(entity.key()))
     for version in entity.of("version"):
         said["version"] = {"name": version.name, "column": record["version"]}
     attributes, relations = [], []
@@ -67,7 +77,36 @@ def _entity(entity: Declared, lock: Lock, is_soft: bool) -> Dict[str, Any]:
             attributes.append(_attribute(member, record, is_soft))
     for each in record.get("gone", ()):
         _add_gone(each, attributes, relations)
+    relations += _unique_links(record)
     return _with_members(said, attributes, relations)
+
+
+def _unique_links(record: Record) -> List[Dict[str, Any]]:
+    return [
+        {"name": unique_link(each["column"]), "kind": "oneToOne", "target": UNIQUE,
+         "column": each["column"], "cascade": ["MERGE"]}
+        for each in record.get("unique", {}).values()
+    ]
+
+
+def unique_link(column: int) -> str:
+    """The name in the mapping of the link to the keys of unique values."""
+    return f"_unique_{column}"
+
+
+def _key(parts: Sequence[Member]) -> Dict[str, Any]:
+    """What a mapping says of a key of these parts, each named in its embedded id by its last step.
+    """
+    said: Dict[str, Any] = {}
+    for part in parts:
+        assert part.type is not None
+        embedded, _, name = part.name.rpartition(".")
+        if embedded:
+            said["embedded"] = embedded
+        if part.field.sort == "generated":
+            said["generated"] = True
+        said.setdefault("key", []).append({"name": name, "type": part.type.stored})
+    return said
 
 
 def _head(name: str, record: Record) -> Dict[str, Any]:
@@ -120,11 +159,14 @@ def _relation(member: Member, record: Record, is_soft: bool) -> Dict[str, Any]:
 def _add_gone(
     each: Record, attributes: List[Dict[str, Any]], relations: List[Dict[str, Any]]
 ) -> None:
-    """What a class has no more. (The rows of a list's table are not looked at.)"""
-    if "column" not in each:
-        return
+    """What a class has no more."""
     name = gone_name(each)
-    if "target" in each:
+    if "table" in each:
+        relations.append({
+            "name": name, "kind": "manyToMany", "target": each["target"],
+            "joinTable": each["table"],
+        })
+    elif "target" in each:
         relations.append({
             "name": name, "kind": "manyToOne", "target": each["target"], "column": each["column"],
         })
@@ -134,14 +176,17 @@ def _add_gone(
 
 def gone_name(each: Record) -> str:
     """The name in the mapping of a member that its class has no more."""
-    return f"_gone_{each['column']}"
+    return f"_gone_list_{each['table']}" if "table" in each else f"_gone_{each['column']}"
 
 
 def _gone_entity(name: str, lock: Lock) -> Dict[str, Any]:
     record = lock["entities"][name]
     said = _head(name, record)
     if "key" in record:
-        said["key"] = [{"name": "id", "type": record["key"]["type"]}]
+        types = record["key"]["type"].split(", ")
+        said["key"] = [{"name": f"id{at or ''}", "type": it} for at, it in enumerate(types)]
+        if len(types) > 1:
+            said["embedded"] = OWN_ID
         if record["key"]["generated"]:
             said["generated"] = True
     if record.get("version"):
@@ -150,5 +195,6 @@ def _gone_entity(name: str, lock: Lock) -> Dict[str, Any]:
     relations: List[Dict[str, Any]] = []
     for each in [*record["members"].values(), *record.get("gone", ())]:
         _add_gone(each, attributes, relations)
+    relations += _unique_links(record)
     return _with_members(said, attributes, relations)
 

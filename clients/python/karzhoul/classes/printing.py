@@ -3,13 +3,12 @@
 from __future__ import annotations
 
 import argparse
-import importlib
 import json
 import sys
 from pathlib import Path
-from types import ModuleType
 from typing import Any
 
+from ..given import given_of
 from . import lock as locks
 from .changes import make
 from .faults import DeclarationError
@@ -36,9 +35,12 @@ def add_command(commands: Any) -> None:
 def run(said: argparse.Namespace) -> int:
     """Prints it; 1 where the classes are wrong, whose lines are told."""
     try:
-        module = _module(said.module)
-    except ImportError as fault:
-        print(f"karzhoul: {said.module} can't be imported: {fault}", file=sys.stderr)
+        module = given_of(said.module)
+    except FileNotFoundError as fault:
+        print(f"karzhoul: {fault}", file=sys.stderr)
+        return MISSAID
+    if isinstance(module, str):
+        print(f"karzhoul: {module} is no module of classes", file=sys.stderr)
         return MISSAID
     try:
         made = make(module, said.lock)
@@ -56,14 +58,3 @@ def run(said: argparse.Namespace) -> int:
     if made.file is not None:
         locks.write(made.file, locks.finished(made.lock))
     return 0
-
-
-def _module(name: str) -> ModuleType:
-    """The module of a name, or of a file."""
-    path = Path(name)
-    if path.suffix == ".py":
-        sys.path.insert(0, str(path.resolve().parent))
-        name = path.stem
-    elif "" not in sys.path:
-        sys.path.insert(0, "")
-    return importlib.import_module(name)

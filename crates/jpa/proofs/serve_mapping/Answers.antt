@@ -9,7 +9,7 @@ returns-in_err-unit-clause-refused c cause is =
     rw (p.1, p.2) (told_as_wanted _ cause _ c.in_err-unit.ensures.unit is)
 
 pub returns-in-Some-clause-served : goal.returns-in-Some-clause-served
-returns-in-Some-clause-served c = gives_servable _ c.in_ok-unit.unit c.in_ok-unit.history c.serve_file.result c.in_ok-unit.ensures.unit c.serve_file.ensures
+returns-in-Some-clause-served c = gives_servable _ _ c.in_ok-unit.unit c.in_ok-unit.history c.serve_file.result c.in_ok-unit.ensures.unit c.serve_file.ensures
 
 pub returns-clause-served : goal.returns-clause-served
-returns-clause-served c = gives_servable _ c.in_ok-unit.unit c.in_ok-unit.history c.serve_in_memory.result c.in_ok-unit.ensures.unit c.serve_in_memory.ensures
+returns-clause-served c = gives_servable _ _ c.in_ok-unit.unit c.in_ok-unit.history c.serve_in_memory.result c.in_ok-unit.ensures.unit c.serve_in_memory.ensures

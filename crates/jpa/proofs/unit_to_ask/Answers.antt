@@ -9,4 +9,4 @@ returns-in_err-unit-clause-refused c cause is =
     rw (p.1, p.2) (told_as_wanted _ cause _ c.in_err-unit.ensures.unit is)
 
 pub returns-clause-served : goal.returns-clause-served
-returns-clause-served c = asked_unit _ c.in_ok-unit.unit c.in_ok-unit.history c.check_unit.result c.in_ok-unit.ensures.unit c.check_unit.ensures.unknown c.check_unit.ensures.thrown _ c.in_ok-check_unit.was
+returns-clause-served c = asked_unit _ _ c.in_ok-unit.unit c.in_ok-unit.history c.check_unit.result c.in_ok-unit.ensures.unit c.check_unit.ensures.unknown c.check_unit.ensures.thrown _ c.in_ok-check_unit.was

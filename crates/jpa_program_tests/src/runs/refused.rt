@@ -3,13 +3,14 @@ use super::{FIRST_CALLS, FIRST_CELLS, FIRST_REPLIES, cells_in, joined, opened};
 use jpa_lines::{read_call, write_reply};
 use jpa_protocol::{Call, PersistenceProvider, Reply};
 use jpa_value::{Cause, Refusal};
+use jpql_tree::Language;
 use std::alloc::Global;
 use std::test::Fail;
 
 /// The call on a line; it is read again where memory was refused.
 fn read_again(alloc: Global, line: &str) -> Result<Call, Cause> {
-    match read_call(alloc, line.as_bytes()) {
-        Err(Cause::OutOfMemory) => read_call(alloc, line.as_bytes()),
+    match read_call(alloc, Language::Profile, line.as_bytes()) {
+        Err(Cause::OutOfMemory) => read_call(alloc, Language::Profile, line.as_bytes()),
         read => read,
     }
 }

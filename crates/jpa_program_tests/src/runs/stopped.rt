@@ -10,6 +10,7 @@ use super::{cells_in, joined, opened_over};
 use jpa_lines::{read_call, write_reply};
 use jpa_protocol::PersistenceProvider;
 use jpa_value::Cause;
+use jpql_tree::Language;
 use sqlite::{Alter, Connection, Error, ErrorCode, Files, Options};
 use sqlite_disk::{Disk, Fuse, Memory};
 use std::alloc::{AllocError, Global};
@@ -30,7 +31,7 @@ fn reply_to<P: PersistenceProvider>(
     provider: &mut P,
     line: &str,
 ) -> Result<Vec<u8>, Cause> {
-    let reply = provider.call(read_call(alloc, line.as_bytes())?);
+    let reply = provider.call(read_call(alloc, Language::Profile, line.as_bytes())?);
     if is_refused_growth(&reply) {
         return Err(Cause::OutOfMemory);
     }

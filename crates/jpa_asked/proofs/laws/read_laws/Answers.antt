@@ -1,5 +1,5 @@
-use Rattle.jpa_asked.proofs.Read.{read_tree, tree_read}
+use Rattle.jpa_asked.proofs.Read.{reads_as, tree_read}
 use Rattle.jpa_asked.proofs.laws.read_laws.Goals as goal
 
 pub returns : goal.returns
-returns c = record { found = tree_read; only = read_tree }
+returns c = record { found = tree_read; only = reads_as }

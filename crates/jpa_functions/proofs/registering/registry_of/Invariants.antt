@@ -6,5 +6,6 @@ abbrev pub invariant-loop-function : goal.invariant-loop-function
 invariant-loop-function l = record {
   listeners : l.registry.listeners ≡ listeners_in l.yielded;
   converters : l.registry.converters ≡ converters_in l.yielded;
+  language : l.registry.language ≡ l.fn.language;
   rest : l.fn.functions ≡ l.yielded ++ l.function-iterator.rest.items;
 }

@@ -3,4 +3,4 @@ use Rattle.jpa_lines.proofs.run.answer_lines.Given as goal
 
 abbrev pub invariant-reads : goal.invariant-reads
 invariant-reads g l =
-    Underway g.P.PersistenceProvider.steps l.fn.provider l.provider (g.R.Read.remaining l.fn.reader) (g.R.Read.remaining l.reader) l.held.items (g.W.Write.contents l.fn.writer) (g.W.Write.contents l.writer)
+    Underway l.language g.P.PersistenceProvider.steps l.fn.provider l.provider (g.R.Read.remaining l.fn.reader) (g.R.Read.remaining l.reader) l.held.items (g.W.Write.contents l.fn.writer) (g.W.Write.contents l.writer)

@@ -5,7 +5,7 @@ use Rattle.jpa_lines.proofs.run.take_piece.Given as goal
 abbrev pub invariant-lines : goal.invariant-lines
 invariant-lines g l = record {
   within : l.done ≤ length l.piece;
-  gone : GoesOn g.P.PersistenceProvider.steps l.fn.provider l.provider l.fn.held.items l.held.items (take l.done l.piece) (g.W.Write.contents l.fn.writer) (g.W.Write.contents l.writer);
+  gone : GoesOn l.language g.P.PersistenceProvider.steps l.fn.provider l.provider l.fn.held.items l.held.items (take l.done l.piece) (g.W.Write.contents l.fn.writer) (g.W.Write.contents l.writer);
 }
 
 abbrev pub decreases-lines : goal.decreases-lines

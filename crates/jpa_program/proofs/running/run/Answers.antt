@@ -3,8 +3,10 @@ use Rattle.jpa_behaviour.proofs.Regular.{regular_of}
 use Rattle.jpa_rows.specs.declared.schema.Schema.{Schema}
 use Rattle.jpa_object_rows.specs.Sets.{rows_of}
 use Rattle.jpa_rowspace.specs.Space.{HoldsRows}
-use Rattle.jpa_provider.specs.Provided.{world_in}
-use Rattle.jpa_program.specs.Run.{rows_over}
+use Rattle.jpql_tree.specs.declared.Language.{Language}
+use Rattle.jpa_machine.specs.Step.{Step}
+use Rattle.jpa_provider.specs.Provided.{Steps, world_in}
+use Rattle.jpa_program.specs.Run.{EndsAs, rows_over}
 use Rattle.jpa_program.proofs.Isolated.{isolates}
 use Rattle.jpa_program.proofs.Machines.{ended, same_unit}
 use Rattle.jpa_program.proofs.Standing.{rows_held}
@@ -13,10 +15,18 @@ use Rattle.jpa_program.proofs.running.run.Goals as goal
 pub returns-clause-machine : goal.returns-clause-machine
 returns-clause-machine g c =
     let ran = c.run-ran.ensures in
-    ended _ _ c.args.provider.now c.run-ran.new.provider _ _ _ c.run-ran.result _ (record { ok = ran.ok; err = ran.err; read = ran.read })
+    subst (λ (l : Language). EndsAs l (Step (world_in g.B.Behaviour.meaning c.args.provider.now)) (c.args.provider.now).machine (c.run-ran.new.provider).machine c.run-ran.result
+    (g.R.Read.remaining c.args.reader.now) (g.R.Read.remaining c.run-ran.new.reader) (g.W.Write.contents c.args.writer.now) (g.W.Write.contents c.run-ran.new.writer))
+    c.language.ensures
+    (ended _ _ _ c.args.provider.now c.run-ran.new.provider _ _ _ c.run-ran.result _ (record { ok = ran.ok; err = ran.err; read = ran.read }))
 
 pub returns-clause-calls : goal.returns-clause-calls
-returns-clause-calls g c = let ran = c.run-ran.ensures in record { ok = ran.ok; err = ran.err; read = ran.read }
+returns-clause-calls g c =
+    let ran = c.run-ran.ensures in
+    subst (λ (l : Language). EndsAs l (Steps g.B.Behaviour.meaning (rows_over g.S.Store)) c.args.provider.now c.run-ran.new.provider c.run-ran.result
+    (g.R.Read.remaining c.args.reader.now) (g.R.Read.remaining c.run-ran.new.reader) (g.W.Write.contents c.args.writer.now) (g.W.Write.contents c.run-ran.new.writer))
+    c.language.ensures
+    (record { ok = ran.ok; err = ran.err; read = ran.read })
 
 pub returns-clause-isolated : goal.returns-clause-isolated
 returns-clause-isolated g c = isolates g.B.Behaviour.meaning (rows_over g.S.Store) c.args.provider.now
@@ -24,7 +34,7 @@ returns-clause-isolated g c = isolates g.B.Behaviour.meaning (rows_over g.S.Stor
 pub returns-clause-unit : goal.returns-clause-unit
 returns-clause-unit g c =
     let ran = c.run-ran.ensures in
-    same_unit _ _ c.args.provider.now c.run-ran.new.provider _ _ _ c.run-ran.result _ (record { ok = ran.ok; err = ran.err; read = ran.read })
+    same_unit _ _ _ c.args.provider.now c.run-ran.new.provider _ _ _ c.run-ran.result _ (record { ok = ran.ok; err = ran.err; read = ran.read })
 
 pub returns-clause-cells : goal.returns-clause-cells
 returns-clause-cells g c =

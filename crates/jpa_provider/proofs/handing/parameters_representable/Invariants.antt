@@ -1,8 +1,8 @@
 use Rattle.std.proofs.Common.{◌≡◌, true, take}
 use Rattle.std.specs.List.{list_all}
 use Rattle.jpa_protocol.specs.declared.call.Parameter.{Parameter}
-use Rattle.jpa_machine.specs.Invariant.{given_representable}
+use Rattle.jpa_machine.specs.Invariant.{value_representable}
 use Rattle.jpa_provider.proofs.handing.parameters_representable.Given as goal
 
 abbrev pub invariant-loop-parameter : goal.invariant-loop-parameter
-invariant-loop-parameter l = list_all (λ (p : Parameter). given_representable p.value) (take l.parameter-index l.parameters) ≡ true
+invariant-loop-parameter l = list_all (λ (p : Parameter). value_representable p.value) (take l.parameter-index l.parameters) ≡ true

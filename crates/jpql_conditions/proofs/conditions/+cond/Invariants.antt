@@ -1,6 +1,6 @@
 use Rattle.std.proofs.Common.{◌≡◌, [], length, ◌-◌, ◌+◌, ◌*◌}
-use Rattle.jpql_tree.specs.Values.{list_at, others_at}
-use Rattle.jpql_tree.specs.Conditions.{joins_at, source_at, ands_at, ors_at, cond_at}
+use Rattle.jpql_grammar.specs.Values.{list_at, others_at}
+use Rattle.jpql_grammar.specs.Conditions.{joins_at, source_at, ands_at, ors_at, cond_at}
 use Rattle.jpql_conditions.proofs.conditions.+cond.Given as goal
 
 abbrev pub decreases-cond : goal.decreases-cond

@@ -1,7 +1,7 @@
 use Rattle.std.proofs.Common.{rules, arith, ◌≡◌, ◌∷◌, ◌+◌, ◌∙◌, sym, ap, suc, drop, get_or, length, true, false}
 use Rattle.std.proofs.lemmas.Grind.{common_steps}
 use Rattle.std.proofs.Math.Seq.{drop-cons}
-use Rattle.jpql_tree.specs.Conditions.{has_test}
+use Rattle.jpql_grammar.specs.Conditions.{has_test}
 use Rattle.jpql_conditions.proofs.HasTest.{told, done, closes, opens, passes, none_left, one_more_left}
 use Rattle.jpql_conditions.proofs.lookahead.has_test.Goals as goal
 

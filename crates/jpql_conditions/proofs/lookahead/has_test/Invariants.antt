@@ -1,5 +1,5 @@
 use Rattle.std.proofs.Common.{◌≡◌, ◌≤◌, false, drop}
-use Rattle.jpql_tree.specs.Conditions.{has_test}
+use Rattle.jpql_grammar.specs.Conditions.{has_test}
 use Rattle.jpql_conditions.proofs.lookahead.has_test.Given as goal
 
 -- what was passed tells nothing

@@ -1,6 +1,6 @@
 use Rattle.std.proofs.Common.{rules, arith}
 use Rattle.std.proofs.lemmas.Grind.{common_steps}
-use Rattle.jpql_tree.specs.Values.{names_at}
+use Rattle.jpql_grammar.specs.Values.{names_at}
 use Rattle.jpql_conditions.proofs.Turns.{one_more}
 use Rattle.jpql_conditions.proofs.steps.names.Goals as goal
 

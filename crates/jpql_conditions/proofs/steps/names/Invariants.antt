@@ -1,5 +1,5 @@
 use Rattle.std.proofs.Common.{◌≡◌, [], length, ◌-◌}
-use Rattle.jpql_tree.specs.Values.{names_at}
+use Rattle.jpql_grammar.specs.Values.{names_at}
 use Rattle.jpql_conditions.proofs.steps.names.Given as goal
 
 abbrev pub invariant-loop-turn : goal.invariant-loop-turn

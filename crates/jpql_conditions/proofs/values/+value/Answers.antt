@@ -1,6 +1,6 @@
 use Rattle.std.proofs.Common.{rules, arith}
 use Rattle.std.proofs.lemmas.Grind.{common_steps}
-use Rattle.jpql_tree.specs.Values.{times_at, sums_at, others_at, value_at}
+use Rattle.jpql_grammar.specs.Values.{times_at, sums_at, others_at, value_at}
 use Rattle.jpql_conditions.proofs.Turns.{one_more}
 use Rattle.jpql_conditions.proofs.values.+value.Goals as goal
 

@@ -1,5 +1,5 @@
 use Rattle.std.proofs.Common.{◌≡◌, [], ◌∷◌, length, ◌-◌, ◌+◌, ◌*◌}
-use Rattle.jpql_tree.specs.Values.{times_at, sums_at, others_at, value_at}
+use Rattle.jpql_grammar.specs.Values.{times_at, sums_at, others_at, value_at}
 use Rattle.jpql_conditions.proofs.values.+value.Given as goal
 
 abbrev pub decreases-value : goal.decreases-value

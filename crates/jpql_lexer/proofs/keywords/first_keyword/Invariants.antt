@@ -1,5 +1,5 @@
 use Rattle.std.proofs.Common.{◌≡◌, drop}
-use Rattle.jpql_tree.specs.Text.{first_keyword}
+use Rattle.jpql_grammar.specs.Text.{first_keyword}
 use Rattle.jpql_lexer.proofs.keywords.first_keyword.Given as goal
 
 abbrev pub invariant-loop-keyword : goal.invariant-loop-keyword

@@ -1,5 +1,5 @@
 use Rattle.std.proofs.Common.{sym, ◌∙◌}
-use Rattle.jpql_tree.proofs.Words.{keyword_stays, keyword_else}
+use Rattle.jpql_grammar.proofs.Words.{keyword_stays, keyword_else}
 use Rattle.jpql_lexer.proofs.keywords.wide_keyword.Goals as goal
 
 pub returns-in-Some : goal.returns-in-Some

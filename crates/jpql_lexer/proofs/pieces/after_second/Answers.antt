@@ -1,6 +1,6 @@
 use Rattle.std.proofs.Common.{sym, ◌∙◌}
 use Rattle.std.proofs.lemmas.Bool.{ne_eqb}
-use Rattle.jpql_tree.specs.Lexing.{first}
+use Rattle.jpql_grammar.specs.Lexing.{first}
 use Rattle.jpql_lexer.proofs.Runs.{second_quote, second_shorter, no_second}
 use Rattle.jpql_lexer.proofs.pieces.after_second.Goals as goal
 

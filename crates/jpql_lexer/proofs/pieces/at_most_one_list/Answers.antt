@@ -1,4 +1,4 @@
-use Rattle.jpql_tree.proofs.Queries.{one_list}
+use Rattle.jpql_grammar.proofs.Queries.{one_list}
 use Rattle.jpql_lexer.proofs.pieces.at_most_one_list.Goals as goal
 
 pub returns : goal.returns

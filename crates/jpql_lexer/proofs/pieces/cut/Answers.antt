@@ -1,5 +1,5 @@
 use Rattle.std.proofs.Common.{◌-◌, ◌+◌, length, rules, sym, ap, ◌∙◌}
-use Rattle.jpql_tree.specs.Lexing.{tokens_at}
+use Rattle.jpql_grammar.specs.Lexing.{tokens_at}
 use Rattle.jpql_lexer.specs.Classes.{one_if_any}
 use Rattle.jpql_lexer.proofs.Runs.{one_turn, one_more}
 use Rattle.jpql_lexer.proofs.pieces.cut.Goals as goal

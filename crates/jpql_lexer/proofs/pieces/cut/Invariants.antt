@@ -1,5 +1,5 @@
 use Rattle.std.proofs.Common.{◌≡◌, ◌-◌, [], length, IsUtf8}
-use Rattle.jpql_tree.specs.Lexing.{tokens_at}
+use Rattle.jpql_grammar.specs.Lexing.{tokens_at}
 use Rattle.jpql_lexer.proofs.pieces.cut.Given as goal
 
 abbrev pub invariant-loop-turn : goal.invariant-loop-turn

@@ -1,6 +1,6 @@
 use Rattle.std.proofs.Common.{◌≡◌, length, false, IsUtf8}
 use Rattle.std.specs.String.{string_bytes}
-use Rattle.jpql_tree.specs.Lexing.{quoted_at, with_front}
+use Rattle.jpql_grammar.specs.Lexing.{quoted_at, with_front}
 use Rattle.jpql_lexer.proofs.pieces.quoted.Given as goal
 
 abbrev pub invariant-loop-plain : goal.invariant-loop-plain

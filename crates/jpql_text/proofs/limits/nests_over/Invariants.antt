@@ -1,5 +1,5 @@
 use Rattle.std.proofs.Common.{◌≡◌, ◌≤◌, false, drop}
-use Rattle.jpql_tree.specs.Limits.{nests_over}
+use Rattle.jpql_grammar.specs.Limits.{nests_over}
 use Rattle.jpql_text.proofs.limits.nests_over.Given as goal
 
 abbrev pub invariant-loop-byte : goal.invariant-loop-byte

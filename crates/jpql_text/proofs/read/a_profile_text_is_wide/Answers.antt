@@ -1,4 +1,4 @@
-use Rattle.jpql_tree.proofs.Words.{query_stays}
+use Rattle.jpql_grammar.proofs.Words.{query_stays}
 use Rattle.jpql_text.proofs.read.a_profile_text_is_wide.Goals as goal
 
 pub returns : goal.returns

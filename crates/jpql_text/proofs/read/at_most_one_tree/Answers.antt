@@ -1,4 +1,4 @@
-use Rattle.jpql_tree.proofs.Queries.{one_query}
+use Rattle.jpql_grammar.proofs.Queries.{one_query}
 use Rattle.jpql_text.proofs.read.at_most_one_tree.Goals as goal
 
 pub returns : goal.returns

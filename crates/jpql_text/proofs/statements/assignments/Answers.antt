@@ -1,7 +1,7 @@
 use Rattle.std.proofs.Common.{rules, arith}
 use Rattle.std.proofs.lemmas.Grind.{common_steps}
-use Rattle.jpql_tree.specs.Values.{others_at}
-use Rattle.jpql_tree.specs.Statements.{assignment_at}
+use Rattle.jpql_grammar.specs.Values.{others_at}
+use Rattle.jpql_grammar.specs.Statements.{assignment_at}
 use Rattle.jpql_conditions.proofs.Turns.{one_more}
 use Rattle.jpql_text.proofs.statements.assignments.Goals as goal
 

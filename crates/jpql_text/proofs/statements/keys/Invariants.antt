@@ -1,6 +1,6 @@
 use Rattle.std.proofs.Common.{◌≡◌, ◌-◌}
-use Rattle.jpql_tree.specs.Values.{list_at, others_at}
-use Rattle.jpql_tree.specs.Statements.{key_at}
+use Rattle.jpql_grammar.specs.Values.{list_at, others_at}
+use Rattle.jpql_grammar.specs.Statements.{key_at}
 use Rattle.jpql_text.proofs.statements.keys.Given as goal
 
 abbrev pub invariant-loop-turn : goal.invariant-loop-turn

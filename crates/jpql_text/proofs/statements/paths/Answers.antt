@@ -1,6 +1,6 @@
 use Rattle.std.proofs.Common.{rules, arith}
 use Rattle.std.proofs.lemmas.Grind.{common_steps}
-use Rattle.jpql_tree.specs.Values.{others_at, path_at}
+use Rattle.jpql_grammar.specs.Values.{others_at, path_at}
 use Rattle.jpql_conditions.proofs.Turns.{one_more}
 use Rattle.jpql_text.proofs.statements.paths.Goals as goal
 

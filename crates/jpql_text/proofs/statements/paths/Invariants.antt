@@ -1,5 +1,5 @@
 use Rattle.std.proofs.Common.{◌≡◌, ◌-◌}
-use Rattle.jpql_tree.specs.Values.{list_at, others_at, path_at}
+use Rattle.jpql_grammar.specs.Values.{list_at, others_at, path_at}
 use Rattle.jpql_text.proofs.statements.paths.Given as goal
 
 abbrev pub invariant-loop-turn : goal.invariant-loop-turn

@@ -2,6 +2,7 @@ package karzhoul.jpa.context;
 
 import java.util.ArrayList;
 import java.util.Collection;
+import java.util.Comparator;
 import java.util.LinkedHashSet;
 import java.util.List;
 import java.util.Set;
@@ -135,7 +136,7 @@ final class Carry {
         System.arraycopy(entry.rowRelations(), 0, entry.relations, 0, entry.relations.length);
         entry.clean();
         for (Relation relation : entry.model().relations()) {
-            if (relation.isMany() && entry.relations[relation.place()] != Entry.UNREAD) {
+            if (relation.isMany() && !entry.isUnread(relation)) {
                 reads.add(new Read(entry, relation));
             }
             if (relation.get(entry.instance()) instanceof Lazy lazy) {
@@ -208,7 +209,8 @@ final class Carry {
     }
 
     /** The instance's members are those of now, with what it added and without what it took out. */
-    private void takeIn(Read read, List<Entry> now) {
+    private void takeIn(Read read, List<Entry> told) {
+        List<Entry> now = context.listOrders().sorted(read.owner(), read.relation(), told);
         Object value = read.relation().get(read.owner().instance());
         if (value instanceof Collection<?> && !Unread.is(value)) {
             @SuppressWarnings("unchecked")
@@ -218,6 +220,10 @@ final class Carry {
             members.removeIf(member -> isAmong(before, member) && !isAmong(held, member));
             held.stream().filter(member -> !isAmong(before, member) && !isAmong(members, member)).toList()
                 .forEach(members::add);
+            if (read.relation().listOrder().isPresent()) {
+                List<Object> order = List.copyOf(held);
+                members.sort(Comparator.comparing(member -> place(order, member)));
+            }
             held.clear();
             held.addAll(members);
             if (read.relation().container() == Relation.Container.MAP && !(value instanceof Lazy)) {
@@ -225,6 +231,15 @@ final class Carry {
             }
         }
         read.owner().relations[read.relation().place()] = now;
+    }
+
+    /** Who isn't there is behind all others. */
+    private static int place(List<Object> held, Object wanted) {
+        int place = 0;
+        while (place < held.size() && held.get(place) != wanted) {
+            place++;
+        }
+        return place;
     }
 
     private static boolean isAmong(Collection<Object> members, Object wanted) {

@@ -50,7 +50,11 @@ final class Context {
     private final BitSet detached = new BitSet();
     private final Map<Long, WeakReference<Object>> lost = new HashMap<>();
     private final List<Entry> touched = new ArrayList<>();
+    private final List<Entry> locked = new ArrayList<>();
     private final Map<Entry, Entry.Row> written = new IdentityHashMap<>();
+    private final HiddenRows hiddenRows = new HiddenRows(this);
+    private final UniqueValues uniques = new UniqueValues(this);
+    private final ListOrders listOrders = new ListOrders(this);
     private Session session;
     private int depth;
     private boolean isActive;
@@ -110,6 +114,18 @@ final class Context {
 
     Identities identities() {
         return identities;
+    }
+
+    HiddenRows hiddenRows() {
+        return hiddenRows;
+    }
+
+    UniqueValues uniques() {
+        return uniques;
+    }
+
+    ListOrders listOrders() {
+        return listOrders;
     }
 
     /** The calls that wait for the next one that is answered. */
@@ -358,18 +374,34 @@ final class Context {
         isMarked = false;
         hasBegun = false;
         isBeginSent = false;
-        for (Entry entry : identities.numbered()) {
-            if (entry.state() == Entry.State.REMOVED) {
-                forget(entry);
-            }
-            entry.lock(LockModeType.NONE);
-        }
-        heard.clear();
-        written.clear();
+        forgetRemoved();
+        locked.forEach(entry -> entry.lock(LockModeType.NONE));
+        locked.clear();
+        forgetRunAhead();
+        clear(written);
+        forgetHidden();
         if (isClosing) {
             letAllGo();
         }
         leave();
+    }
+
+    private void forgetRemoved() {
+        if (!hasRemoved) {
+            return;
+        }
+        for (Entry entry : identities.numbered()) {
+            if (entry.state() == Entry.State.REMOVED) {
+                forget(entry);
+            }
+        }
+        hasRemoved = false;
+    }
+
+    /** Keeps how an entry is locked until the transaction ends. */
+    void lock(Entry entry, LockModeType mode) {
+        entry.lock(mode);
+        locked.add(entry);
     }
 
     /** The transaction ends without a commit: all is detached (chapter 3.3.3). */
@@ -497,7 +529,7 @@ final class Context {
     }
 
     void forgetRunAhead() {
-        heard.clear();
+        clear(heard);
     }
 
     // ---- instances -------------------------------------------------------------------------------------------------
@@ -584,10 +616,18 @@ final class Context {
         lost.clear();
         clear(heard);
         touched.clear();
+        locked.clear();
         clear(written);
+        forgetHidden();
         isTouched = false;
         hasStale = false;
         hasRemoved = false;
+    }
+
+    private void forgetHidden() {
+        hiddenRows.forget();
+        uniques.forget();
+        listOrders.forget();
     }
 
     /** To clear a table of identities takes as long as it is, though nothing is in it. */

@@ -28,11 +28,19 @@ final class Culprits {
     private final Context probe;
     private final List<Entry> suspects = new ArrayList<>();
     private final Map<Entry, Entry.Row> written;
+    private final List<Entry> entries;
+    private final List<Entry> removed;
+    private final Optional<String> unstored;
+    private final List<UniqueValues.Taken> taken;
 
     Culprits(Context context) {
         probe = new Context(context.factory(), 0);
         written = new IdentityHashMap<>(context.written());
-        for (Entry entry : context.identities().numbered()) {
+        entries = context.identities().numbered();
+        removed = entries.stream().filter(entry -> entry.state() == Entry.State.REMOVED).toList();
+        unstored = BrokenLinks.toUnstored(entries);
+        taken = context.uniques().taken();
+        for (Entry entry : entries) {
             boolean isWritten = entry.isTouched() || written.containsKey(entry) || !entry.isStored() || entry.state() == Entry.State.REMOVED
                 || entry.lock() != LockModeType.NONE;
             if (isWritten && entry.state() != Entry.State.DETACHED && suspects.size() < MOST) {
@@ -59,19 +67,36 @@ final class Culprits {
     }
 
     private RuntimeException cause(RuntimeException refusal) {
-        if (refusal instanceof OptimisticLockException stale && stale.getEntity() == null) {
+        boolean isConflict = refusal instanceof OptimisticLockException || refusal instanceof EntityExistsException;
+        Optional<String> lost = taken.isEmpty() || !isConflict ? Optional.empty()
+            : probe.within(() -> UniqueValues.lost(probe, taken));
+        if (lost.isPresent()) {
+            return new PersistenceException(lost.get(), refusal);
+        } else if (refusal instanceof OptimisticLockException stale && stale.getEntity() == null) {
             return first(this::isStale).<RuntimeException>map(entry -> new OptimisticLockException(
                 about(refusal, entry.toString()), refusal, entry.instance())).orElse(refusal);
         } else if (refusal instanceof EntityExistsException) {
             return first((entry, shown) -> !entry.isStored() && shown != null)
                 .<RuntimeException>map(entry -> new EntityExistsException(about(refusal, entry.toString()), refusal))
                 .orElse(refusal);
-        } else if (refusal.getClass() == PersistenceException.class
-                && String.valueOf(refusal.getMessage()).startsWith("Persistence(null)")) {
-            return suspects.stream().map(Culprits::missing).flatMap(Optional::stream).findFirst()
-                .<RuntimeException>map(what -> new PersistenceException(about(refusal, what), refusal)).orElse(refusal);
+        } else if (isOf(refusal, "IllegalState(reference)")) {
+            return unstored.<RuntimeException>map(what -> new IllegalStateException(about(refusal, what), refusal))
+                .orElse(refusal);
         }
-        return refusal;
+        Optional<String> what = isOf(refusal, "Persistence(null)")
+            ? suspects.stream().map(Culprits::missing).flatMap(Optional::stream).findFirst()
+            : isOf(refusal, "Persistence(reference)")
+            ? new BrokenLinks(probe, entries, removed).toNoRow(suspects, this::isWithoutRow) : Optional.empty();
+        return what.<RuntimeException>map(it -> new PersistenceException(about(refusal, it), refusal)).orElse(refusal);
+    }
+
+    private static boolean isOf(RuntimeException refusal, String words) {
+        return String.valueOf(refusal.getMessage()).startsWith(words);
+    }
+
+    private boolean isWithoutRow(Entry entry) {
+        Entry.Row before = written.get(entry);
+        return !entry.isStored() || before != null && before.values().length == 0;
     }
 
     private static String about(RuntimeException refusal, String what) {

@@ -4,7 +4,6 @@ import jakarta.persistence.LockModeType;
 import jakarta.persistence.PersistenceException;
 import java.util.Arrays;
 import java.util.List;
-import karzhoul.jpa.engine.Shown;
 import karzhoul.jpa.model.Attribute;
 import karzhoul.jpa.model.EntityModel;
 import karzhoul.jpa.model.Relation;
@@ -17,8 +16,8 @@ final class Entry {
     /** Where an instance stands. NEW: the program has an object for it, which no manager knows. */
     enum State { NEW, MANAGED, REMOVED, DETACHED }
 
-    /** A collection that the program has not read. */
-    static final Object UNREAD = Shown.UNREAD;
+    /** A collection that the program has not read, and the door's that stands for it. */
+    private record NotRead(Lazy collection) {}
 
     /** What a row has: values as a snapshot keeps them, links as entries. */
     record Row(Object[] values, Object[] relations) {}
@@ -141,6 +140,20 @@ final class Entry {
 
     void lock(LockModeType mode) {
         lock = mode;
+    }
+
+    /** The program has not read this collection, for which this one of the door stands. */
+    void unread(Relation relation, Lazy collection) {
+        relations[relation.place()] = new NotRead(collection);
+    }
+
+    boolean isUnread(Relation relation) {
+        return relations[relation.place()] instanceof NotRead;
+    }
+
+    /** What stands for a collection that the program has not read. */
+    Lazy unread(Relation relation) {
+        return ((NotRead) relations[relation.place()]).collection();
     }
 
     /** What the program has is about to change. */

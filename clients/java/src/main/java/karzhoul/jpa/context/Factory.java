@@ -20,6 +20,7 @@ import java.util.Map;
 import java.util.Set;
 import java.util.concurrent.atomic.AtomicBoolean;
 import java.util.function.Function;
+import java.util.function.Predicate;
 import karzhoul.jpa.Karzhoul;
 import karzhoul.jpa.criteria.Builder;
 import karzhoul.jpa.engine.Engine;
@@ -43,7 +44,7 @@ public final class Factory implements EntityManagerFactory {
     private final UnitSettings settings;
     private final Program program;
     private final Set<EntityModel> hearingBefore;
-    private final Set<EntityModel> hearingWrites;
+    private final Set<EntityModel> writingFirst;
     private final Map<String, EntityModel> mapped = new HashMap<>();
     private final Map<String, Object> properties;
     private final AtomicBoolean isOpen = new AtomicBoolean(true);
@@ -73,38 +74,37 @@ public final class Factory implements EntityManagerFactory {
         }
         metamodel = new UnitMetamodel(unit);
         criteria = new Builder(unit, metamodel);
-        program = Program.open(settings.url(), settings.program(), unit.mapping(), unit.description(),
+        program = Program.open(settings.url(), settings.program(), unit, settings.properties(),
             settings.log().orElse(null));
-        hearingBefore = hearing(BEFORE);
-        hearingWrites = hearing(WRITES);
+        hearingBefore = reaching(entity -> BEFORE.stream().anyMatch(event -> entity.callbacks().hears(event)));
+        writingFirst = reaching(entity -> !entity.uniques().isEmpty() || ListOrders.isOrdered(entity)
+            || WRITES.stream().anyMatch(event -> entity.callbacks().hears(event)));
         settings.unit().entities().forEach(entity -> mapped.put(entity.mappedName(), entity));
         settings.unit().hidden().forEach(entity -> mapped.put(entity.mappedName(), entity));
         properties = Map.copyOf(settings.properties());
     }
 
-    /** The entities that hear one of these events, or that a flush may lead from to one which does. */
-    private Set<EntityModel> hearing(Set<Event> events) {
-        Set<EntityModel> hearing = new HashSet<>();
-        for (EntityModel entity : settings.unit().entities()) {
-            if (events.stream().anyMatch(event -> entity.callbacks().hears(event))) {
-                hearing.add(entity);
-            }
-        }
-        boolean isMore = !hearing.isEmpty();
+    /** The entities of which this is true, and those from which a flush may lead to one of them. */
+    private Set<EntityModel> reaching(Predicate<EntityModel> wanted) {
+        Set<EntityModel> reaching = new HashSet<>();
+        List<EntityModel> all = new ArrayList<>(settings.unit().entities());
+        all.addAll(settings.unit().hidden());
+        all.stream().filter(wanted).forEach(reaching::add);
+        boolean isMore = !reaching.isEmpty();
         while (isMore) {
             isMore = false;
             for (EntityModel entity : settings.unit().entities()) {
-                isMore |= entity.relations().stream().anyMatch(relation -> isAlong(relation, hearing))
-                    && hearing.add(entity);
+                isMore |= entity.relations().stream().anyMatch(relation -> isAlong(relation, reaching))
+                    && reaching.add(entity);
             }
         }
-        return hearing;
+        return reaching;
     }
 
-    private static boolean isAlong(Relation relation, Set<EntityModel> hearing) {
+    private static boolean isAlong(Relation relation, Set<EntityModel> reaching) {
         boolean isWalked = relation.removesOrphans() || relation.cascades().contains(CascadeType.PERSIST)
             || relation.cascades().contains(CascadeType.REMOVE);
-        return isWalked && hearing.stream().anyMatch(entity -> entity.isA(relation.target()));
+        return isWalked && reaching.stream().anyMatch(entity -> entity.isA(relation.target()));
     }
 
     UnitModel unit() {
@@ -141,9 +141,9 @@ public final class Factory implements EntityManagerFactory {
         return !Collections.disjoint(hearingBefore, entities);
     }
 
-    /** Whether a flush of one of these may have callbacks that belong between the writes and the commit. */
-    boolean hearsWrites(Set<EntityModel> entities) {
-        return !Collections.disjoint(hearingWrites, entities);
+    /** Whether something belongs between the writes of one of these and the commit: callbacks, or unique values. */
+    boolean writesFirst(Set<EntityModel> entities) {
+        return !Collections.disjoint(writingFirst, entities);
     }
 
     Function<Context, Push> pushing() {

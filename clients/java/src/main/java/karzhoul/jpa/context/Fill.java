@@ -19,6 +19,7 @@ import karzhoul.jpa.model.Attribute;
 import karzhoul.jpa.model.Callbacks;
 import karzhoul.jpa.model.EntityModel;
 import karzhoul.jpa.model.KeyCopy;
+import karzhoul.jpa.model.ListOrder;
 import karzhoul.jpa.model.Relation;
 
 /**
@@ -161,7 +162,8 @@ final class Fill {
         int from = context.queue().count();
         context.queue().get(owner.number(), relation.member()).about(owner + "." + relation.path());
         List<Object> refs = context.ask(from)[0].list();
-        return Members.instances(keep(owner, relation, entries(refs)), relation);
+        List<Entry> members = context.listOrders().sorted(owner, relation, entries(refs));
+        return Members.instances(keep(owner, relation, members), relation);
     }
 
     /** Reads a relation of several owners in one go: those that haven't read it. */
@@ -203,10 +205,11 @@ final class Fill {
         links.clear();
         copying.forEach(Fill::copies);
         copying.clear();
+        Map<ListOrder, ListOrders.Places> places = places();
         for (boolean isSet : new boolean[] {false, true}) {
             for (Told told : collections) {
                 if (isSet == (told.relation().container() == Relation.Container.SET)) {
-                    giveMembers(told);
+                    giveMembers(told, places);
                 }
             }
         }
@@ -336,11 +339,13 @@ final class Fill {
             read(new Told(entry, relation, told));
             return;
         }
-        entry.relations[relation.place()] = Entry.UNREAD;
         if (relation.get(entry.instance()) instanceof Lazy lazy && lazy.owner() == entry) {
             lazy.forget();
+            entry.unread(relation, lazy);
         } else {
-            relation.set(entry.instance(), Lazy.of(entry, relation));
+            Lazy collection = Lazy.of(entry, relation);
+            relation.set(entry.instance(), collection);
+            entry.unread(relation, collection);
         }
         if (!relation.isLazy()) {
             unread.add(new Told(entry, relation, null));
@@ -381,10 +386,29 @@ final class Fill {
         relation.set(owner.instance(), target == null ? null : target.instance());
     }
 
-    private void giveMembers(Told told) {
+    /** The orders of the lists that were told, but of those that a merge has put in order. */
+    private Map<ListOrder, ListOrders.Places> places() {
+        Map<ListOrder, List<Entry>> owners = new HashMap<>();
+        for (Told told : collections) {
+            if (((List<?>) told.told()).size() > 1 && !merged.contains(told.owner().number())) {
+                told.relation().listOrder().ifPresent(order ->
+                    owners.computeIfAbsent(order, none -> new ArrayList<>()).add(told.owner()));
+            }
+        }
+        Map<ListOrder, ListOrders.Places> places = new HashMap<>();
+        owners.forEach((order, of) -> places.put(order, context.listOrders().places(order, of)));
+        return places;
+    }
+
+    private void giveMembers(Told told, Map<ListOrder, ListOrders.Places> places) {
         List<Entry> members = new ArrayList<>();
         for (Object ref : (List<?>) told.told()) {
             members.add(entry(((Ref) ref).number()));
+        }
+        if (merged.contains(told.owner().number())) {
+            context.listOrders().changed(told.owner(), told.relation());
+        } else if (members.size() > 1 && told.relation().listOrder().isPresent()) {
+            members = places.get(told.relation().listOrder().get()).sorted(told.owner(), members);
         }
         keep(told.owner(), told.relation(), members);
         Members.give(told.owner(), told.relation(), members);

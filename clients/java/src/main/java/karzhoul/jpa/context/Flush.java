@@ -35,13 +35,14 @@ final class Flush {
         prepare();
         if (context.isTouched()) {
             write();
+            context.hiddenRows().flush();
         }
     }
 
     /** Flushes and commits; nothing is asked where nothing changed since the begin. */
     void commit() {
         prepare();
-        if (context.isTouched() && context.factory().hearsWrites(context.identities().models())) {
+        if (context.isTouched() && context.factory().writesFirst(context.identities().models())) {
             write();
         }
         if (!context.isTouched() && !context.isBegunThere()) {
@@ -50,9 +51,9 @@ final class Flush {
         }
         context.send();                 // a change that were refused must not be behind a commit that is done
         queue.commit(context.manager());
+        context.hiddenRows().letGo();
         take(commitNow().events(), false);
         context.committed();
-        context.forgetRunAhead();
     }
 
     private Reply commitNow() {
@@ -150,6 +151,8 @@ final class Flush {
         queue.flush(context.manager());
         List<Event> events = context.ask(0)[0].events();
         take(events, true);
+        context.uniques().settle();
+        context.listOrders().settle();
         after(events);
     }
 
@@ -162,6 +165,10 @@ final class Flush {
         List<Entry> persisted = new ArrayList<>();
         for (Event event : events) {
             Entry entry = context.identities().of(event.number());
+            if (entry != null && isOpen) {
+                context.uniques().note(event, entry);
+                context.listOrders().note(event, entry);
+            }
             if (entry != null && context.told(event, entry) && Persist.isKeyless(entry)) {
                 persisted.add(entry);
             }

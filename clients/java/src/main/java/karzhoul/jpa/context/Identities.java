@@ -58,9 +58,9 @@ final class Identities {
     }
 
     /** A key whose equality is that of its parts, also where one of them is bytes. */
-    private static List<Object> comparable(List<Object> key) {
-        for (Object part : key) {
-            if (part instanceof byte[]) {
+    static List<Object> comparable(List<Object> key) {
+        for (int i = 0; i < key.size(); i++) {
+            if (key.get(i) instanceof byte[]) {
                 List<Object> parts = new ArrayList<>(key);
                 parts.replaceAll(each -> each instanceof byte[] bytes ? ByteBuffer.wrap(bytes) : each);
                 return parts;

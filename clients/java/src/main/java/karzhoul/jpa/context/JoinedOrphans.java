@@ -22,7 +22,7 @@ final class JoinedOrphans {
             for (Relation relation : image.model().relations()) {
                 if (isOf(relation) && source.model().isA(image.model())
                         && !Unread.is(relation.get(source.instance()))) {
-                    if (image.relations[relation.place()] == Entry.UNREAD) {
+                    if (image.isUnread(relation)) {
                         new Targets(context).read(image, relation);
                     }
                     before.computeIfAbsent(image, it -> new Object[it.relations.length])[relation.place()] =

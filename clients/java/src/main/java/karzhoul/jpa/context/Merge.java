@@ -6,6 +6,7 @@ import jakarta.persistence.OptimisticLockException;
 import jakarta.persistence.PersistenceException;
 import java.util.ArrayDeque;
 import java.util.ArrayList;
+import java.util.Arrays;
 import java.util.Collection;
 import java.util.Deque;
 import java.util.IdentityHashMap;
@@ -18,6 +19,7 @@ import java.util.Set;
 import karzhoul.jpa.engine.Event;
 import karzhoul.jpa.engine.Lines;
 import karzhoul.jpa.engine.Ref;
+import karzhoul.jpa.engine.Refusals;
 import karzhoul.jpa.engine.Reply;
 import karzhoul.jpa.model.Attribute;
 import karzhoul.jpa.model.Callbacks;
@@ -27,15 +29,19 @@ import karzhoul.jpa.model.Relation;
 
 /**
  * merge (chapter 3.2.7). What the cascade reaches, and isn't managed, becomes an object of the program with all its
- * values; the program copies these onto its images, which are read back. A collection that wasn't read is given as
- * its image has it, so that it stays as it is.
+ * values; the program copies these onto its images, which are read back. One that hasn't read all its collections is
+ * told to its image itself, whose collections stay unread.
  */
 final class Merge {
     private final Context context;
     private final Lines queue;
-    private final Map<Object, Entry> sources = new LinkedHashMap<>();
+    /** What is copied, each with its instance. */
+    private final Map<Entry, Object> sources = new LinkedHashMap<>();
     private final Set<Entry> managed = new LinkedHashSet<>();
     private final Map<Entry, Entry> images = new LinkedHashMap<>();
+    private final Map<Object, Entry> imagesByInstance = new IdentityHashMap<>();
+    /** The instances that are told to their images themselves, by these. */
+    private final Map<Entry, Object> direct = new LinkedHashMap<>();
     private final List<Entry> prepared = new ArrayList<>();
     private final JoinedOrphans orphans;
 
@@ -61,15 +67,40 @@ final class Merge {
             findImages(reached);
             return (T) merged(root).instance();
         } catch (OptimisticLockException e) {
-            throw context.marked(new OptimisticLockException(e.getMessage(), e, root));
+            compareAgain();
+            throw context.marked(new OptimisticLockException(e.getMessage(), e, stale(root)));
         } catch (RuntimeException e) {
+            compareAgain();
             throw context.marked(e);
         } finally {
-            sources.forEach((instance, source) -> {
+            sources.forEach((source, instance) -> {
                 source.instance(instance);
                 letGo(source);
             });
         }
+    }
+
+    /** What was told to images, of a merge that was refused, isn't theirs: the next flush tells what they have. */
+    private void compareAgain() {
+        for (Entry image : direct.keySet()) {
+            for (Relation relation : image.model().relations()) {
+                if (relation.get(image.instance()) instanceof Lazy lazy) {
+                    lazy.change();
+                }
+            }
+        }
+    }
+
+    /** Whose version isn't that of its row, or whose row is gone; the root where that isn't seen. */
+    private Object stale(Object root) {
+        for (Map.Entry<Entry, Object> each : sources.entrySet()) {
+            Entry image = images.get(each.getKey());
+            if (image == null ? each.getKey().key() != null && saysVersion(each.getKey())
+                    : !isOfVersion(each.getKey(), image)) {
+                return each.getValue();
+            }
+        }
+        return root;
     }
 
     private static boolean goesOn(EntityModel model) {
@@ -93,6 +124,7 @@ final class Merge {
                 if (Graph.isForeignProxy(instance)) {
                     continue;
                 }
+                readMoved(instance);
                 new MergedElements(context).adopt(instance);
                 reached.add(instance);
             } else if (entry.isHollow()) {
@@ -109,11 +141,27 @@ final class Merge {
         return reached;
     }
 
+    /** Reads the collections that are another entity's, and that it doesn't have as its own unread ones. */
+    private void readMoved(Object instance) {
+        EntityModel model = context.modelOf(instance);
+        for (Relation relation : model.relations()) {
+            if (relation.isMany() && relation.get(instance) instanceof Lazy lazy && !lazy.isRead()
+                    && !isOf(lazy.owner(), model, instance)) {
+                ((Collection<?>) lazy).size();
+            }
+        }
+    }
+
+    private static boolean isOf(Entry owner, EntityModel model, Object instance) {
+        List<Object> key = Targets.keyOf(model, instance);
+        return owner == null || owner.instance() == instance || key != null && owner.key() != null
+            && owner.model().root() == model.root() && Arrays.deepEquals(owner.key().toArray(), key.toArray());
+    }
+
     /** Finds the images that have rows, and makes a source of each instance. */
     private void findImages(List<Object> reached) {
         List<EntityModel> models = new ArrayList<>();
         List<List<Object>> keys = new ArrayList<>();
-        List<Object> found = new ArrayList<>();
         for (Object instance : reached) {
             EntityModel model = context.modelOf(instance);
             List<Object> key = Targets.keyOf(model, instance);
@@ -123,91 +171,73 @@ final class Merge {
             } else if (known == null && key != null) {
                 models.add(model.root());
                 keys.add(key);
-                found.add(instance);
             }
         }
-        Map<Object, Long> unread = unreadObjects(found, models, keys);
         if (!keys.isEmpty()) {
             new Fill(context).found(models, keys);
         }
-        for (Object instance : reached) {
-            Entry before = context.entryOf(instance);
-            if (before != null) {
-                context.identities().remove(before);
+        reached.forEach(this::makeSource);
+        for (Entry source : sources.keySet()) {
+            Entry image = images.get(source);
+            if (image != null && !direct.containsKey(image) && isToldDirectly(source, image)) {
+                direct.put(image, source.instance());
+            } else {
+                source.number(context.newNumber(source.model()));
+                context.identities().put(source);
+                if (source.key() == null) {
+                    runAhead(source);
+                }
             }
-            EntityModel model = context.modelOf(instance);
-            List<Object> key = Targets.keyOf(model, instance);
-            Entry source = new Entry(model, context, Entry.State.NEW);
-            source.instance(instance);
-            source.key(key);
-            Entry image = key == null ? null : context.identities().of(model, key);
-            boolean isUnread = unread.containsKey(instance) && isOfSameRow(source, image);
-            source.number(isUnread ? unread.get(instance) : context.newNumber(model));
-            if (isUnread) {
-                beginAs(source, image);
-            }
-            context.identities().put(source);
-            sources.put(instance, source);
-            if (image != null) {
-                images.put(source, image);
-            } else if (key == null) {
-                runAhead(source);
-            }
+        }
+    }
+
+    private void makeSource(Object instance) {
+        Entry before = context.entryOf(instance);
+        if (before != null) {
+            context.identities().remove(before);
+        }
+        EntityModel model = context.modelOf(instance);
+        Entry source = new Entry(model, context, Entry.State.NEW);
+        source.instance(instance);
+        source.key(Targets.keyOf(model, instance));
+        sources.put(source, instance);
+        Entry image = source.key() == null ? null : context.identities().of(model, source.key());
+        if (image != null) {
+            images.put(source, image);
+            imagesByInstance.put(instance, image);
         }
     }
 
     /**
-     * Objects of the rows of those that have read none of their collections, each let go at once: what such an object
-     * hasn't read the program leaves as the image has it, so that nothing of it is loaded. By instance.
+     * Whether a source hasn't read all its collections, so that it is told to its image itself. What it leads to by
+     * relations that don't cascade MERGE must be managed for that: what the same merge makes the program alone knows.
      */
-    private Map<Object, Long> unreadObjects(List<Object> instances, List<EntityModel> models, List<List<Object>> keys) {
-        List<Object> unread = new ArrayList<>();
-        int from = queue.count();
-        for (int i = 0; i < instances.size(); i++) {
-            if (hasNothingRead(instances.get(i))) {
-                queue.find(context.manager(), models.get(i).mappedName(), keys.get(i))
-                    .about(models.get(i).name() + keys.get(i));
-                unread.add(instances.get(i));
-            }
-        }
-        Map<Object, Long> numbers = new IdentityHashMap<>();
-        if (!unread.isEmpty()) {
-            Reply[] replies = context.ask(from);
-            for (int i = 0; i < replies.length; i++) {
-                if (replies[i].ok() != null) {
-                    queue.detach(context.manager(), replies[i].number());
-                    numbers.put(unread.get(i), replies[i].number());
-                }
-            }
-        }
-        return numbers;
+    private boolean isToldDirectly(Entry source, Entry image) {
+        List<Relation> relations = source.model().relations();
+        return image.isManaged() && image.model() == source.model()
+            && relations.stream().anyMatch(it -> it.isMany() && Unread.is(it.get(source.instance())))
+            && relations.stream().filter(it -> !it.cascades().contains(CascadeType.MERGE))
+                .flatMap(it -> Graph.members(it.get(source.instance())).stream()).allMatch(this::isManagedThere);
     }
 
-    private boolean hasNothingRead(Object instance) {
-        List<Relation> collections =
-            context.modelOf(instance).relations().stream().filter(Relation::isMany).toList();
-        return !collections.isEmpty() && collections.stream().allMatch(it -> Unread.is(it.get(instance)));
+    private boolean isManagedThere(Object target) {
+        Entry there = imagesByInstance.getOrDefault(target, context.entryOf(target));
+        if (there == null) {
+            there = new Targets(context).managed(context.modelOf(target), target);
+        }
+        return there != null && there.isManaged();
     }
 
-    /** Whether the program may be given an object of the row as the source: of the same class, and the same version. */
-    private static boolean isOfSameRow(Entry source, Entry image) {
-        if (image == null || image.model() != source.model()) {
-            return false;
-        }
+    /** The version that an instance has, as it is kept; null where it has none. */
+    private static Object versionOf(Entry source) {
         Optional<Attribute> version = source.model().version();
-        Object column = version.isEmpty() ? null : Values.column(version.get(), version.get().get(source.instance()));
-        return column == null || Values.isKept(version.get(), column, image.values[version.get().place()]);
+        return version.isEmpty() ? null : Values.column(version.get(), version.get().get(source.instance()));
     }
 
-    /** The program has of the source what it has of the row. */
-    private static void beginAs(Entry source, Entry image) {
-        System.arraycopy(image.values, 0, source.values, 0, source.values.length);
-        System.arraycopy(image.relations, 0, source.relations, 0, source.relations.length);
-        for (Relation relation : source.model().relations()) {
-            if (relation.isMany()) {
-                source.relations[relation.place()] = Entry.UNREAD;
-            }
-        }
+    private static boolean isOfVersion(Entry source, Entry image) {
+        Object version = versionOf(source);
+        return version == null || !image.isStored() && version.equals(versionOf(image))
+            || image.model().version().filter(it -> Values.isKept(it, version, image.values[it.place()])).isPresent();
     }
 
     /** PrePersist of a new image may give its key: then it runs before the program is told of it, and not again. */
@@ -250,17 +280,21 @@ final class Merge {
     private Entry merged(Object root) {
         orphans.before(images);
         Push push = context.push();
-        push.merging();
+        push.merging(imagesByInstance, direct);
         List<Entry> there = new ArrayList<>(managed);
         images.values().stream().filter(Entry::isManaged).forEach(there::add);
         push.these(there);
-        push.these(sources.values());
-        sources.values().forEach(this::versionAndKey);
-        images.forEach(this::keepUnwritten);
-        unread();
-        Entry source = context.entryOf(root);
+        sources.keySet().stream().filter(this::isDirect).forEach(this::checkVersion);
+        push.copies();
+        List<Entry> objects = sources.keySet().stream().filter(source -> !isDirect(source)).toList();
+        push.these(objects);
+        objects.forEach(this::versionAndKey);
+        objects.forEach(this::keepUnwritten);
+        unread(objects);
+        Entry known = context.entryOf(root);
+        Entry told = known == null ? imagesByInstance.get(root) : known;
         int from = queue.count();
-        queue.merge(context.manager(), source.number()).about(source);
+        queue.merge(context.manager(), told.number()).about(told);
         context.touched(true);
         Reply reply = context.ask(from)[0];
         readBack(reply.events(), reply.number());
@@ -268,9 +302,20 @@ final class Merge {
         return context.identities().of(reply.number());
     }
 
+    private boolean isDirect(Entry source) {
+        return direct.get(images.get(source)) == sources.get(source);
+    }
+
+    private void checkVersion(Entry source) {
+        if (!isOfVersion(source, images.get(source))) {
+            throw Refusals.of("OptimisticLock", images.get(source));
+        }
+    }
+
     /** What isn't updated stays as the image's row has it. */
-    private void keepUnwritten(Entry source, Entry image) {
-        if (!image.isStored()) {
+    private void keepUnwritten(Entry source) {
+        Entry image = images.get(source);
+        if (image == null || !image.isStored()) {
             return;
         }
         for (Attribute attribute : source.model().attributes()) {
@@ -283,31 +328,37 @@ final class Merge {
 
     private void versionAndKey(Entry source) {
         EntityModel model = source.model();
-        boolean hasRow = images.containsKey(source);
-        Optional<Attribute> version = model.version();
-        if (version.isPresent()) {
-            Object column = Values.column(version.get(), version.get().get(source.instance()));
-            // that of an instance just made, as the zero of an int, says nothing where there is no row
-            if (column != null && isNewObject(source) && (hasRow || !column.equals(versionAtFirst(model, version.get())))) {
-                queue.set(source.number(), version.get().member(), column).about(source);
-            }
+        if (saysVersion(source)) {
+            queue.set(source.number(), model.version().get().member(), versionOf(source)).about(source);
         }
         Attribute part = model.key().parts().get(0);
-        if (model.key().generation() == KeyModel.Generation.UUID && part.get(source.instance()) == null) {
-            queue.set(source.number(), part.member(), part.codec().toColumn(Keys.newUuid(part))).about(source);
+        if (Keys.isGiven(model) && Targets.keyOf(model, source.instance()) == null) {
+            Object key = new Keys(context).next(model);
+            queue.set(source.number(), part.member(), key).about(source);
         }
         for (KeyModel.Derived derived : model.key().derived()) {
             derive(source, derived);
         }
     }
 
-    /** Whether its object is a new one, and not one of its row. */
-    private static boolean isNewObject(Entry source) {
-        return source.model().relations().stream().noneMatch(it -> source.relations[it.place()] == Entry.UNREAD);
+    /**
+     * Whether its version is to be compared. That of an instance just made, as the zero of an int, isn't where the
+     * application gives the key, and that of what is still to be inserted has no row beside it.
+     */
+    private boolean saysVersion(Entry source) {
+        Object version = versionOf(source);
+        Entry image = images.get(source);
+        if (version == null) {
+            return false;
+        } else if (image != null) {
+            return image.isStored() || !version.equals(versionOf(image));
+        }
+        boolean wasGiven = source.key() != null && source.model().key().generation() != KeyModel.Generation.ASSIGNED;
+        return wasGiven || !version.equals(versionAtFirst(source.model()));
     }
 
-    private static Object versionAtFirst(EntityModel model, Attribute version) {
-        return Values.column(version, version.get(model.newInstance()));
+    private static Object versionAtFirst(EntityModel model) {
+        return Values.column(model.version().get(), model.version().get().get(model.newInstance()));
     }
 
     /** A derived key of a new instance is that of its target, where that is known. */
@@ -321,18 +372,18 @@ final class Merge {
         }
     }
 
-    /** Collections that a source hasn't read have the members that the image has. */
-    private void unread() {
+    /** Collections that such a source hasn't read, and that would be empty, have the members that the image has. */
+    private void unread(List<Entry> objects) {
         List<Entry> owners = new ArrayList<>();
         List<Relation> relations = new ArrayList<>();
         int from = queue.count();
-        for (Map.Entry<Entry, Entry> pair : images.entrySet()) {
-            for (Relation relation : pair.getKey().model().relations()) {
-                if (relation.isMany() && pair.getKey().relations[relation.place()] != Entry.UNREAD
-                        && Unread.is(relation.get(pair.getKey().instance()))
-                        && pair.getValue().model().isA(pair.getKey().model())) {
-                    queue.get(pair.getValue().number(), relation.member()).about(pair.getValue());
-                    owners.add(pair.getKey());
+        for (Entry source : objects) {
+            Entry image = images.get(source);
+            for (Relation relation : source.model().relations()) {
+                if (image != null && image.model().isA(source.model()) && relation.isMany()
+                        && Unread.is(relation.get(source.instance()))) {
+                    queue.get(image.number(), relation.member()).about(image);
+                    owners.add(source);
                     relations.add(relation);
                 }
             }

@@ -41,7 +41,7 @@ final class MergedElements {
     /** The rows that the image is known to have, which are read where they weren't. */
     @SuppressWarnings("unchecked")
     private List<Object> rows(Entry image, Relation relation) {
-        if (image.relations[relation.place()] == Entry.UNREAD) {
+        if (image.isUnread(relation)) {
             new Targets(context).read(image, relation);
         }
         return Members.instances((List<Entry>) image.relations[relation.place()], relation);

@@ -218,7 +218,7 @@ final class Operations {
         queue.lock(context.manager(), entry.number(), word(mode, entry)).about(entry);
         context.touched(true);
         context.ask(0);
-        entry.lock(mode);
+        context.lock(entry, mode);
     }
 
     private String word(LockModeType mode, Entry entry) {

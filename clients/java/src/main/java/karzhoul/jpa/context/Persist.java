@@ -95,7 +95,7 @@ final class Persist {
         }
         fresh.add(instance);
         if (entry == null || entry.state() == Entry.State.NEW || !entry.isStored()) {
-            Keys.giveUuid(model, instance);
+            new Keys(context).give(model, instance);
             Entry ahead = entry == null ? aheadOf(model, instance) : entry;
             context.runAhead(Callbacks.Event.PrePersist, ahead);
         }

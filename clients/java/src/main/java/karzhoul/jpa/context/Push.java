@@ -26,6 +26,9 @@ class Push {
     private final Targets targets;
     private final Deque<Entry> work = new ArrayDeque<>();
     private final List<Entry> orphans = new ArrayList<>();
+    private Map<Object, Entry> images = Map.of();
+    private Map<Entry, Object> direct = Map.of();
+    private Map<Entry, Object> told = Map.of();
     private boolean isMerging;
 
     Push(Context context) {
@@ -35,9 +38,24 @@ class Push {
         targets = new Targets(context);
     }
 
-    /** From now on this is for a merge: what wasn't read isn't told, and nothing is left out. */
-    final void merging() {
+    /**
+     * From now on this is for a merge: what wasn't read isn't told, and nothing is left out.
+     *
+     * @param imagesOf what is copied onto what is managed: the images, by instance
+     * @param directly of these the instances that are told to their images themselves, by image
+     */
+    final void merging(Map<Object, Entry> imagesOf, Map<Entry, Object> directly) {
         isMerging = true;
+        images = imagesOf;
+        direct = directly;
+    }
+
+    /** Tells these images the state of their instances in place of their own, and what they lead to. */
+    final void copies() {
+        told = direct;
+        direct.keySet().forEach(this::tell);
+        told = Map.of();
+        rest();
     }
 
     /** All that the context has, and what it leads to. */
@@ -82,8 +100,11 @@ class Push {
         if (entry.isHollow() || entry.state() == Entry.State.DETACHED) {
             return;
         }
+        Object instance = told.getOrDefault(entry, entry.instance());
         for (Attribute attribute : entry.model().attributes()) {
-            value(entry, attribute);
+            if (attribute.role() != Attribute.Role.VERSION) {
+                value(entry, attribute, attribute.get(instance));
+            }
         }
         tellRelations(entry);
     }
@@ -92,17 +113,17 @@ class Push {
         if (entry.isHollow() || entry.state() == Entry.State.DETACHED) {
             return;
         }
+        Object instance = told.getOrDefault(entry, entry.instance());
         for (Relation relation : entry.model().relations()) {
             if (relation.isMany()) {
-                collection(entry, relation);
+                collection(entry, relation, relation.get(instance));
             } else {
-                link(entry, relation);
+                link(entry, relation, relation.get(instance));
             }
         }
     }
 
-    private void value(Entry entry, Attribute attribute) {
-        Object now = attribute.get(entry.instance());
+    private void value(Entry entry, Attribute attribute, Object now) {
         int place = attribute.place();
         if (Values.isSame(attribute, now, entry.values[place]) && !isNullThatIsKept(entry, attribute, now)) {
             return;
@@ -111,7 +132,7 @@ class Push {
             throw new PersistenceException("the key of " + entry + " was changed: " + attribute.path() + " is " + now);
         } else if (entry.isStored() ? !attribute.isUpdatable() : !attribute.isInsertable()) {
             return;
-        } else if (attribute.role() == Attribute.Role.VERSION || isUngiven(entry, attribute, now)) {
+        } else if (isUngiven(entry, attribute, now)) {
             return;
         }
         Object column = Values.column(attribute, now);
@@ -145,8 +166,7 @@ class Push {
         queue.set(entry.number(), attribute.member(), column).about(entry);
     }
 
-    private void link(Entry entry, Relation relation) {
-        Object now = relation.get(entry.instance());
+    private void link(Entry entry, Relation relation, Object now) {
         Entry before = (Entry) entry.relations[relation.place()];
         if (now == (before == null ? null : before.instance())) {
             return;
@@ -173,8 +193,7 @@ class Push {
             : entry.state() == Entry.State.NEW || entry.state() == Entry.State.REMOVED;
     }
 
-    private void collection(Entry entry, Relation relation) {
-        Object value = relation.get(entry.instance());
+    private void collection(Entry entry, Relation relation, Object value) {
         if (value instanceof Lazy lazy && lazy.owner() == entry && (!lazy.isRead() || isAsBefore(entry, relation, lazy))) {
             return;
         }
@@ -184,17 +203,18 @@ class Push {
         if (value instanceof Unread) {
             throw new PersistenceException(entry + "." + relation.path() + " wasn't read before it was serialized");
         }
-        if (entry.relations[relation.place()] == Entry.UNREAD) {
+        boolean isReplaced = entry.isUnread(relation);
+        if (isReplaced) {
             targets.read(entry, relation);
-            value = adopted(entry, relation, value);
         }
-        List<Entry> now = members(entry, relation, value);
+        List<Entry> now = members(entry, relation, isReplaced ? adopted(entry, relation, value) : value);
         @SuppressWarnings("unchecked")
         List<Entry> before = (List<Entry>) entry.relations[relation.place()];
         if (!isSame(before, now)) {
             touch(entry);
             changes(entry, relation, before, now);
             entry.relations[relation.place()] = now;
+            context.listOrders().changed(entry, relation);
         }
         if (value instanceof Lazy lazy && lazy.owner() == entry) {
             lazy.clean();
@@ -213,7 +233,7 @@ class Push {
     }
 
     private static boolean isAsBefore(Entry entry, Relation relation, Lazy lazy) {
-        return !lazy.isChanged() && relation.isOwner() && entry.relations[relation.place()] != Entry.UNREAD;
+        return !lazy.isChanged() && relation.isOwner() && !entry.isUnread(relation);
     }
 
     private List<Entry> members(Entry entry, Relation relation, Object value) {
@@ -265,7 +285,9 @@ class Push {
     }
 
     private Entry target(Relation relation, Object instance) {
-        return numbered(made(instance, !isMerging && relation.cascades().contains(CascadeType.PERSIST)));
+        Entry image = images.get(instance);
+        boolean isImage = image != null && (direct.get(image) == instance || !relation.cascades().contains(CascadeType.MERGE));
+        return numbered(isImage ? image : made(instance, !isMerging && relation.cascades().contains(CascadeType.PERSIST)));
     }
 
     private Entry numbered(Entry entry) {
@@ -281,7 +303,7 @@ class Push {
             return entry;
         }
         EntityModel model = context.modelOf(instance);
-        Entry there = targets.foreign(model, instance, isPersisted);
+        Entry there = isMerging ? targets.managed(model, instance) : targets.foreign(model, instance, isPersisted);
         if (there != null) {
             return there;
         } else if (Graph.isForeignProxy(instance)) {

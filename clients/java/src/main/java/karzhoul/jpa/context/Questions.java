@@ -70,30 +70,41 @@ final class Questions implements Asking {
                 next[0] = number;
                 lines.values(next, 0, 1);
             });
-            List<Object> told = replies[0].list();
-            List<Object> refs = refs(told);
+            List<Object[]> rows = rows(replies[0].list());
+            List<Object> refs = refs(rows);
             Map<Object, Entry> entries = entries(refs, next[0],
                 findsOne && !replies[1].isRefused() ? (Shown) replies[1].list().get(0) : null);
-            List<Object[]> rows = new ArrayList<>(told.size());
-            for (Object row : told) {
-                Object[] items = row instanceof List<?> many ? many.toArray() : new Object[] {row};
-                rows.add(entries.isEmpty() ? items : row(items, entries));
+            if (!entries.isEmpty()) {
+                rows.forEach(row -> replace(row, entries));
             }
             return rows;
         });
     }
 
-    private static List<Object> refs(List<Object> told) {
-        List<Object> refs = new ArrayList<>();
+    private static List<Object[]> rows(List<Object> told) {
+        List<Object[]> rows = new ArrayList<>(told.size());
         for (Object row : told) {
-            if (row instanceof List<?> items) {
-                for (Object item : items) {
-                    if (item instanceof karzhoul.jpa.engine.Ref) {
-                        refs.add(item);
-                    }
+            rows.add(row instanceof List<?> many ? many.toArray() : new Object[] {row});
+        }
+        return rows;
+    }
+
+    @Override
+    public List<Object[]> unknown(EntityModel entity, List<Object> key) {
+        if (context.identities().of(entity, key) != null) {
+            return null;
+        }
+        Entry found = context.within(() -> new Fill(context).found(entity, key));
+        return found == null ? List.of() : List.<Object[]>of(new Object[] {new Asking.Ref(found.number(), found)});
+    }
+
+    private static List<Object> refs(List<Object[]> rows) {
+        List<Object> refs = new ArrayList<>();
+        for (Object[] row : rows) {
+            for (Object item : row) {
+                if (item instanceof karzhoul.jpa.engine.Ref) {
+                    refs.add(item);
                 }
-            } else if (row instanceof karzhoul.jpa.engine.Ref) {
-                refs.add(row);
             }
         }
         return refs;
@@ -111,13 +122,12 @@ final class Questions implements Asking {
         return entries;
     }
 
-    private static Object[] row(Object[] items, Map<Object, Entry> entries) {
+    private static void replace(Object[] items, Map<Object, Entry> entries) {
         for (int i = 0; i < items.length; i++) {
             if (items[i] instanceof karzhoul.jpa.engine.Ref ref) {
                 items[i] = new Asking.Ref(ref.number(), entries.get(ref));
             }
         }
-        return items;
     }
 
     @Override
@@ -127,17 +137,35 @@ final class Questions implements Asking {
         return context.within(() -> ((Long) ask("executeUpdate", text, parameters, null, null, null)[0].ok()).intValue());
     }
 
+    @Override
+    public void moved(List<Moved> all) {
+        try {
+            context.within(() -> {
+                all.forEach(it -> context.uniques().changed(it.unique(), it.key(), it.before(), it.after()));
+                context.uniques().settle();
+                context.hiddenRows().flush();
+                return null;
+            });
+        } catch (RuntimeException e) {
+            throw context.marked(e);
+        }
+    }
+
     private Reply[] ask(String call, String text, List<Parameter> parameters, Integer first, Integer max,
         Engine.Tail tail) {
         List<Object> pairs = new ArrayList<>();
         for (Parameter parameter : parameters) {
             pairs.add(parameter.name());
-            pairs.add(parameter.value() instanceof Asking.Ref ref
-                ? new karzhoul.jpa.engine.Ref(number((Entry) ref.held())) : parameter.value());
+            pairs.add(parameter.value() instanceof List<?> list ? list.stream().map(this::told).toList()
+                : told(parameter.value()));
         }
         int from = context.queue().count();
         context.queue().statement(call, context.manager(), text, pairs, first, max).about("\"" + text + "\"");
         return context.ask(from, tail);
+    }
+
+    private Object told(Object value) {
+        return value instanceof Asking.Ref ref ? new karzhoul.jpa.engine.Ref(number((Entry) ref.held())) : value;
     }
 
     private long number(Entry entry) {

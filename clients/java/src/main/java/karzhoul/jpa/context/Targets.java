@@ -38,7 +38,7 @@ final class Targets {
             key.add(column);
         }
         boolean isZero = key.size() == 1 && Long.valueOf(0).equals(key.get(0));
-        return isZero && model.key().generation() == KeyModel.Generation.COUNTER ? null : List.copyOf(key);
+        return isZero && model.key().generation() != KeyModel.Generation.ASSIGNED ? null : List.copyOf(key);
     }
 
     /**
@@ -55,6 +55,24 @@ final class Targets {
         }
         Entry known = context.identities().of(model, key);
         return known != null ? known : detached(model, instance, key);
+    }
+
+    /**
+     * What the context has of an instance's identity: what is managed, perhaps a proxy, which is read where it isn't
+     * here yet.
+     *
+     * @return null where the instance is new
+     */
+    Entry managed(EntityModel model, Object instance) {
+        List<Object> key = keyOf(model, instance);
+        if (key == null || !mayBeDetached(model, instance, false)) {
+            return null;
+        }
+        Entry known = context.identities().of(model, key);
+        if (known == null && Graph.isForeignProxy(instance) && Proxies.isPossible(model)) {
+            return context.proxyOf(model, key);
+        }
+        return known == null ? new Fill(context).found(model.root(), key) : known;
     }
 
     private static boolean mayBeDetached(EntityModel model, Object instance, boolean isPersisted) {
@@ -115,11 +133,19 @@ final class Targets {
         }
     }
 
-    /** Lets the program read a collection which an instance has replaced before it was read. */
+    /**
+     * Lets the program read a collection which an instance has replaced before it was read: it may be another's now,
+     * or a variable's, and has what it had.
+     */
     void read(Entry owner, Relation relation) {
+        Lazy unread = owner.unread(relation);
         int from = context.queue().count();
         context.queue().get(owner.number(), relation.member()).about(owner + "." + relation.path());
-        List<Object> refs = context.ask(from)[0].list();
-        owner.relations[relation.place()] = new Fill(context).entries(refs);
+        List<Entry> members = context.listOrders().sorted(owner, relation,
+            new Fill(context).entries(context.ask(from)[0].list()));
+        owner.relations[relation.place()] = members;
+        if (!unread.isRead()) {
+            unread.fill(Members.instances(members, relation));
+        }
     }
 }

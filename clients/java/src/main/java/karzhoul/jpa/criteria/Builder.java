@@ -162,10 +162,9 @@ public final class Builder extends ConditionBuilder {
         return (ListJoin<X, E>) this.<X, E>treated(join, type);
     }
 
-    /** Refused, since maps of entities aren't kept: there is no such join. */
     @Override
     public <X, K, T, V extends T> MapJoin<X, K, V> treat(MapJoin<X, K, T> join, Class<V> type) {
-        throw noMaps();
+        return (MapJoin<X, K, V>) this.<X, V>treated(join, type);
     }
 
     @Override

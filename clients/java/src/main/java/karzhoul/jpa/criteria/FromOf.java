@@ -203,7 +203,6 @@ abstract class FromOf<Z, X> extends PathOf<X> implements From<Z, X> {
         return joined(attribute(name), type, ListJoin.class);
     }
 
-    /** Refused, since maps of entities aren't kept: an IllegalArgumentException. */
     @Override
     public <A, K, V> MapJoin<A, K, V> joinMap(String name, JoinType type) {
         return joined(attribute(name), type, MapJoin.class);

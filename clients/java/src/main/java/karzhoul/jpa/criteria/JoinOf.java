@@ -6,6 +6,8 @@ import jakarta.persistence.criteria.From;
 import jakarta.persistence.criteria.Join;
 import jakarta.persistence.criteria.JoinType;
 import jakarta.persistence.criteria.ListJoin;
+import jakarta.persistence.criteria.MapJoin;
+import jakarta.persistence.criteria.Path;
 import jakarta.persistence.criteria.Predicate;
 import jakarta.persistence.criteria.SetJoin;
 import jakarta.persistence.metamodel.Attribute;
@@ -20,11 +22,12 @@ import jakarta.persistence.metamodel.SetAttribute;
 import jakarta.persistence.metamodel.SingularAttribute;
 import java.util.ArrayList;
 import java.util.List;
+import java.util.Map;
 import karzhoul.jpa.query.Tree;
 
 /**
- * A join along a relation (chapter 6.5.3). One along an embedded attribute is no join of its own: paths and joins from
- * it go through the attribute.
+ * A join along a relation or a collection of values (chapter 6.5.3). One along an embedded attribute is no join of its
+ * own: paths and joins from it go through the attribute.
  */
 @SuppressWarnings("unchecked")
 class JoinOf<Z, X> extends FromOf<Z, X> implements Join<Z, X> {
@@ -35,14 +38,14 @@ class JoinOf<Z, X> extends FromOf<Z, X> implements Join<Z, X> {
     private final List<EntityType<?>> treats = new ArrayList<>();
     private Condition on;
 
-    private JoinOf(FromOf<?, ?> parent, Attribute<?, ?> attribute, EntityOrEmbeddable type, JoinType joinType) {
-        super(parent, attribute, type.type(), type.type().getJavaType());
+    private JoinOf(FromOf<?, ?> parent, Attribute<?, ?> attribute, Target type, JoinType joinType) {
+        super(parent, attribute, type.type(), type.javaType());
         this.parent = (FromOf<?, Z>) parent;
         this.joinType = joinType;
         this.treated = null;
     }
 
-    private JoinOf(JoinOf<Z, X> outer, EntityOrEmbeddable type) {
+    private JoinOf(JoinOf<Z, X> outer, Target type) {
         super(outer, type.type());
         this.parent = outer.parent;
         this.joinType = outer.joinType;
@@ -56,15 +59,16 @@ class JoinOf<Z, X> extends FromOf<Z, X> implements Join<Z, X> {
         this.treated = treated;
     }
 
-    /** What a join leads to. */
-    private record EntityOrEmbeddable(ManagedType<?> type) {
-        static EntityOrEmbeddable of(Attribute<?, ?> attribute) {
-            var type = managed(attribute instanceof PluralAttribute<?, ?, ?> many ? many.getElementType()
-                    : ((SingularAttribute<?, ?>) attribute).getType());
-            if (type == null) {
+    /** What a join leads to: the type of a value has no attributes. */
+    private record Target(ManagedType<?> type, Class<?> javaType) {
+        static Target of(Attribute<?, ?> attribute) {
+            boolean isPlural = attribute instanceof PluralAttribute<?, ?, ?>;
+            var type = isPlural ? ((PluralAttribute<?, ?, ?>) attribute).getElementType()
+                    : ((SingularAttribute<?, ?>) attribute).getType();
+            if (managed(type) == null && !isPlural) {
                 throw new IllegalArgumentException("\"" + attribute.getName() + "\" is a value, and no relation");
             }
-            return new EntityOrEmbeddable(type);
+            return new Target(managed(type), type.getJavaType());
         }
     }
 
@@ -76,20 +80,15 @@ class JoinOf<Z, X> extends FromOf<Z, X> implements Join<Z, X> {
      */
     static JoinOf<?, ?> along(FromOf<?, ?> parent, Attribute<?, ?> attribute, JoinType type) {
         needServed(type);
-        if (attribute.getPersistentAttributeType() == Attribute.PersistentAttributeType.ELEMENT_COLLECTION) {
-            throw new IllegalArgumentException("a join along \"" + attribute.getName() + "\", a collection of values, isn't"
-                    + " served in criteria; ask it by a query in words");
-        } else if (attribute instanceof MapAttribute<?, ?, ?>) {
-            throw new IllegalArgumentException("a join along \"" + attribute.getName() + "\", a map, isn't served in"
-                    + " criteria; ask it by a query in words");
-        }
-        EntityOrEmbeddable target = EntityOrEmbeddable.of(attribute);
+        Target target = Target.of(attribute);
         if (attribute instanceof ListAttribute<?, ?>) {
             return new OfList<>(parent, attribute, target, type);
         } else if (attribute instanceof SetAttribute<?, ?>) {
             return new OfSet<>(parent, attribute, target, type);
         } else if (attribute instanceof CollectionAttribute<?, ?>) {
             return new OfCollection<>(parent, attribute, target, type);
+        } else if (attribute instanceof MapAttribute<?, ?, ?>) {
+            return new OfMap<>(parent, attribute, target, type);
         }
         return new JoinOf<>(parent, attribute, target, type);
     }
@@ -103,13 +102,15 @@ class JoinOf<Z, X> extends FromOf<Z, X> implements Join<Z, X> {
 
     /** A join of the query around a subquery. */
     static <Z, X> JoinOf<Z, X> correlated(JoinOf<Z, X> outer) {
-        EntityOrEmbeddable type = new EntityOrEmbeddable(outer.type(""));
+        Target type = new Target(outer.managedType(), outer.getJavaType());
         if (outer instanceof OfList<?, ?>) {
             return (JoinOf<Z, X>) new OfList<>((OfList<Z, X>) outer, type);
         } else if (outer instanceof OfSet<?, ?>) {
             return (JoinOf<Z, X>) new OfSet<>((OfSet<Z, X>) outer, type);
         } else if (outer instanceof OfCollection<?, ?>) {
             return (JoinOf<Z, X>) new OfCollection<>((OfCollection<Z, X>) outer, type);
+        } else if (outer instanceof OfMap<?, ?, ?>) {
+            return (JoinOf<Z, X>) new OfMap<>((OfMap<Z, ?, X>) outer, type);
         }
         return new JoinOf<>(outer, type);
     }
@@ -123,6 +124,8 @@ class JoinOf<Z, X> extends FromOf<Z, X> implements Join<Z, X> {
             return new OfSet<>(join, below);
         } else if (join instanceof OfCollection<?, ?>) {
             return new OfCollection<>(join, below);
+        } else if (join instanceof OfMap<?, ?, ?>) {
+            return new OfMap<>(join, below);
         }
         return new JoinOf<>(join, below);
     }
@@ -209,11 +212,11 @@ class JoinOf<Z, X> extends FromOf<Z, X> implements Join<Z, X> {
 
     /** Along a list. */
     static final class OfList<Z, E> extends JoinOf<Z, E> implements ListJoin<Z, E> {
-        private OfList(FromOf<?, ?> parent, Attribute<?, ?> attribute, EntityOrEmbeddable type, JoinType joinType) {
+        private OfList(FromOf<?, ?> parent, Attribute<?, ?> attribute, Target type, JoinType joinType) {
             super(parent, attribute, type, joinType);
         }
 
-        private OfList(OfList<Z, E> outer, EntityOrEmbeddable type) {
+        private OfList(OfList<Z, E> outer, Target type) {
             super(outer, type);
         }
 
@@ -238,20 +241,20 @@ class JoinOf<Z, X> extends FromOf<Z, X> implements Join<Z, X> {
             return (ListAttribute<? super Z, E>) (Object) attribute();
         }
 
-        /** Refused: lists have no order of their own (chapter 4.6.4). */
+        /** The place; a query with that of a list without {@code @OrderColumn} is refused. */
         @Override
         public Expression<Integer> index() {
-            throw new IllegalArgumentException("INDEX isn't served; keep the place as an attribute and ask for that");
+            return new PartOf<>(Integer.class, "INDEX", this);
         }
     }
 
     /** Along a set. */
     static final class OfSet<Z, E> extends JoinOf<Z, E> implements SetJoin<Z, E> {
-        private OfSet(FromOf<?, ?> parent, Attribute<?, ?> attribute, EntityOrEmbeddable type, JoinType joinType) {
+        private OfSet(FromOf<?, ?> parent, Attribute<?, ?> attribute, Target type, JoinType joinType) {
             super(parent, attribute, type, joinType);
         }
 
-        private OfSet(OfSet<Z, E> outer, EntityOrEmbeddable type) {
+        private OfSet(OfSet<Z, E> outer, Target type) {
             super(outer, type);
         }
 
@@ -279,12 +282,12 @@ class JoinOf<Z, X> extends FromOf<Z, X> implements Join<Z, X> {
 
     /** Along a collection. */
     static final class OfCollection<Z, E> extends JoinOf<Z, E> implements CollectionJoin<Z, E> {
-        private OfCollection(FromOf<?, ?> parent, Attribute<?, ?> attribute, EntityOrEmbeddable type,
+        private OfCollection(FromOf<?, ?> parent, Attribute<?, ?> attribute, Target type,
                 JoinType joinType) {
             super(parent, attribute, type, joinType);
         }
 
-        private OfCollection(OfCollection<Z, E> outer, EntityOrEmbeddable type) {
+        private OfCollection(OfCollection<Z, E> outer, Target type) {
             super(outer, type);
         }
 
@@ -307,6 +310,55 @@ class JoinOf<Z, X> extends FromOf<Z, X> implements Join<Z, X> {
         @Override
         public CollectionAttribute<? super Z, E> getModel() {
             return (CollectionAttribute<? super Z, E>) (Object) attribute();
+        }
+    }
+
+    /** Along a map; the join itself is of its values. */
+    static final class OfMap<Z, K, V> extends JoinOf<Z, V> implements MapJoin<Z, K, V> {
+        private OfMap(FromOf<?, ?> parent, Attribute<?, ?> attribute, Target type, JoinType joinType) {
+            super(parent, attribute, type, joinType);
+        }
+
+        private OfMap(OfMap<Z, K, V> outer, Target type) {
+            super(outer, type);
+        }
+
+        private OfMap(JoinOf<?, ?> treated, EntityType<V> below) {
+            super(treated, below);
+        }
+
+        @Override
+        public OfMap<Z, K, V> on(Expression<Boolean> restriction) {
+            super.on(restriction);
+            return this;
+        }
+
+        @Override
+        public OfMap<Z, K, V> on(Predicate... restrictions) {
+            super.on(restrictions);
+            return this;
+        }
+
+        @Override
+        public MapAttribute<? super Z, K, V> getModel() {
+            return (MapAttribute<? super Z, K, V>) (Object) attribute();
+        }
+
+        /** The key; a query with that of a map of entities is refused. */
+        @Override
+        public Path<K> key() {
+            return new PartOf<>(getModel().getKeyJavaType(), "KEY", this);
+        }
+
+        @Override
+        public Path<V> value() {
+            return this;
+        }
+
+        /** The entry, with which a query is refused: ask for the key and the value. */
+        @Override
+        public Expression<Map.Entry<K, V>> entry() {
+            return new PartOf<>(Map.Entry.class, "ENTRY", this);
         }
     }
 }

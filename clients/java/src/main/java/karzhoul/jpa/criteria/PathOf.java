@@ -62,7 +62,12 @@ class PathOf<X> extends Term<X> implements Path<X> {
         return attribute;
     }
 
-    ManagedType<X> type(String name) {
+    /** What it leads to, where that has attributes; else null. */
+    final ManagedType<X> managedType() {
+        return type;
+    }
+
+    private ManagedType<X> type(String name) {
         if (type == null) {
             throw new IllegalStateException(told() + " has no attributes, and \"" + name + "\" is asked of it");
         }

@@ -6,17 +6,14 @@ import jakarta.persistence.criteria.Expression;
 import jakarta.persistence.criteria.Order;
 import jakarta.persistence.criteria.ParameterExpression;
 import jakarta.persistence.criteria.Predicate;
-import jakarta.persistence.criteria.Root;
 import jakarta.persistence.criteria.Selection;
-import jakarta.persistence.criteria.Subquery;
-import jakarta.persistence.metamodel.EntityType;
 import java.util.ArrayList;
 import java.util.List;
 import java.util.Set;
 import karzhoul.jpa.criteria.Compound.Kind;
 
 /** A SELECT (chapter 6.5.1). */
-final class QueryOf<T> implements CriteriaQuery<T> {
+final class QueryOf<T> implements CriteriaQuery<T>, OverClauses<T> {
     private final Class<T> resultType;
     private final Clauses clauses;
     private Selection<?> selection;
@@ -27,7 +24,8 @@ final class QueryOf<T> implements CriteriaQuery<T> {
         this.clauses = clauses;
     }
 
-    Clauses clauses() {
+    @Override
+    public Clauses clauses() {
         return clauses;
     }
 
@@ -101,27 +99,7 @@ final class QueryOf<T> implements CriteriaQuery<T> {
         return this;
     }
 
-    @Override
-    public boolean isDistinct() {
-        return clauses.isDistinct;
-    }
-
-    // ---- FROM and WHERE
-
-    @Override
-    public <X> Root<X> from(Class<X> entity) {
-        return clauses.from(entity);
-    }
-
-    @Override
-    public <X> Root<X> from(EntityType<X> entity) {
-        return clauses.from(entity);
-    }
-
-    @Override
-    public Set<Root<?>> getRoots() {
-        return clauses.roots();
-    }
+    // ---- WHERE
 
     @Override
     public CriteriaQuery<T> where(Expression<Boolean> restriction) {
@@ -133,16 +111,6 @@ final class QueryOf<T> implements CriteriaQuery<T> {
     public CriteriaQuery<T> where(Predicate... restrictions) {
         clauses.where = restrictions.length == 0 ? null : Junction.all(restrictions);
         return this;
-    }
-
-    @Override
-    public Predicate getRestriction() {
-        return clauses.where;
-    }
-
-    @Override
-    public <U> Subquery<U> subquery(Class<U> type) {
-        return new SubqueryOf<>(type, this, new Clauses(clauses.metamodel));
     }
 
     // ---- GROUP BY, HAVING and ORDER BY
@@ -159,11 +127,6 @@ final class QueryOf<T> implements CriteriaQuery<T> {
     }
 
     @Override
-    public List<Expression<?>> getGroupList() {
-        return clauses.groupList();
-    }
-
-    @Override
     public CriteriaQuery<T> having(Expression<Boolean> restriction) {
         clauses.having = Condition.that(restriction);
         return this;
@@ -173,11 +136,6 @@ final class QueryOf<T> implements CriteriaQuery<T> {
     public CriteriaQuery<T> having(Predicate... restrictions) {
         clauses.having = restrictions.length == 0 ? null : Junction.all(restrictions);
         return this;
-    }
-
-    @Override
-    public Predicate getGroupRestriction() {
-        return clauses.having;
     }
 
     @Override

@@ -11,14 +11,13 @@ import jakarta.persistence.criteria.Predicate;
 import jakarta.persistence.criteria.Root;
 import jakarta.persistence.criteria.SetJoin;
 import jakarta.persistence.criteria.Subquery;
-import jakarta.persistence.metamodel.EntityType;
 import java.util.LinkedHashSet;
 import java.util.List;
 import java.util.Set;
 import karzhoul.jpa.query.Tree;
 
 /** A subquery (chapter 6.5.14). */
-final class SubqueryOf<T> extends Term<T> implements Subquery<T> {
+final class SubqueryOf<T> extends Term<T> implements Subquery<T>, OverClauses<T> {
     private final CommonAbstractCriteria around;
     private final Clauses clauses;
     private Term<?> selection;
@@ -29,7 +28,8 @@ final class SubqueryOf<T> extends Term<T> implements Subquery<T> {
         this.clauses = clauses;
     }
 
-    Clauses clauses() {
+    @Override
+    public Clauses clauses() {
         return clauses;
     }
 
@@ -111,10 +111,9 @@ final class SubqueryOf<T> extends Term<T> implements Subquery<T> {
         return (ListJoin<X, Y>) added(JoinOf.correlated((JoinOf<X, Y>) join));
     }
 
-    /** Refused, since maps of entities aren't kept: there is no such join. */
     @Override
     public <X, K, V> MapJoin<X, K, V> correlate(MapJoin<X, K, V> join) {
-        throw new IllegalArgumentException("maps of entities aren't kept, and so aren't joined");
+        return (MapJoin<X, K, V>) added(JoinOf.correlated((JoinOf<X, V>) join));
     }
 
     @Override
@@ -149,26 +148,6 @@ final class SubqueryOf<T> extends Term<T> implements Subquery<T> {
     }
 
     @Override
-    public <X> Root<X> from(Class<X> entity) {
-        return clauses.from(entity);
-    }
-
-    @Override
-    public <X> Root<X> from(EntityType<X> entity) {
-        return clauses.from(entity);
-    }
-
-    @Override
-    public Set<Root<?>> getRoots() {
-        return clauses.roots();
-    }
-
-    @Override
-    public <U> Subquery<U> subquery(Class<U> type) {
-        return new SubqueryOf<>(type, this, new Clauses(clauses.metamodel));
-    }
-
-    @Override
     public Subquery<T> where(Expression<Boolean> restriction) {
         clauses.where = Condition.that(restriction);
         return this;
@@ -181,11 +160,6 @@ final class SubqueryOf<T> extends Term<T> implements Subquery<T> {
     }
 
     @Override
-    public Predicate getRestriction() {
-        return clauses.where;
-    }
-
-    @Override
     public Subquery<T> groupBy(Expression<?>... expressions) {
         return groupBy(List.of(expressions));
     }
@@ -194,11 +168,6 @@ final class SubqueryOf<T> extends Term<T> implements Subquery<T> {
     public Subquery<T> groupBy(List<Expression<?>> expressions) {
         clauses.group(expressions);
         return this;
-    }
-
-    @Override
-    public List<Expression<?>> getGroupList() {
-        return clauses.groupList();
     }
 
     @Override
@@ -214,18 +183,8 @@ final class SubqueryOf<T> extends Term<T> implements Subquery<T> {
     }
 
     @Override
-    public Predicate getGroupRestriction() {
-        return clauses.having;
-    }
-
-    @Override
     public Subquery<T> distinct(boolean isDistinct) {
         clauses.isDistinct = isDistinct;
         return this;
-    }
-
-    @Override
-    public boolean isDistinct() {
-        return clauses.isDistinct;
     }
 }

@@ -107,6 +107,14 @@ final class Writing {
         return new Tree.Path(at, List.copyOf(path));
     }
 
+    /** KEY, INDEX or ENTRY of a join. */
+    Tree.MapPart part(String part, FromOf<?, ?> join) {
+        int at = at();
+        String name = name(join);
+        add(part + "(" + name + ")");
+        return new Tree.MapPart(at, part, name, List.of());
+    }
+
     // ---- parameters and constants
 
     Tree.Parameter parameter(ParameterOf<?> parameter) {

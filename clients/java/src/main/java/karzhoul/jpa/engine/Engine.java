@@ -117,9 +117,6 @@ public final class Engine implements AutoCloseable {
         } catch (IOException e) {
             end = e;
             throw ended(e, true);
-        } catch (PersistenceException e) {
-            close();
-            throw e;
         } finally {
             lock.unlock();
         }

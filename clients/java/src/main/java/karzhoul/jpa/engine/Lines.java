@@ -149,14 +149,8 @@ public final class Lines {
 
     /** Finds the object of a key, whose parts are as they are kept. */
     public Lines find(long manager, String entity, List<?> key) {
-        put("{\"call\":\"find\",\"em\":").put(manager).put(",\"entity\":\"").put(entity).put("\",\"key\":[");
-        for (int i = 0; i < key.size(); i++) {
-            if (i > 0) {
-                put(',');
-            }
-            value(key.get(i));
-        }
-        return put("]}").end();
+        put("{\"call\":\"find\",\"em\":").put(manager).put(",\"entity\":\"").put(entity).put("\",\"key\":");
+        return list(key).put('}').end();
     }
 
     public Lines get(long object, String member) {
@@ -197,7 +191,7 @@ public final class Lines {
         return put("]}").end();
     }
 
-    /** A statement; {@code call} is query or executeUpdate. Names and values of parameters go in pairs. */
+    /** A statement; {@code call} is query or executeUpdate. Names and values of parameters, which may be lists, go in pairs. */
     public Lines statement(String call, long manager, String text, List<?> parameters, Integer first, Integer max) {
         open(call, manager).put(",\"text\":").value(text);
         if (!parameters.isEmpty()) {
@@ -259,8 +253,21 @@ public final class Lines {
             return hex(some);
         } else if (value instanceof Ref ref) {
             return object(ref.number());
+        } else if (value instanceof List<?> list) {
+            return list(list);
         }
         throw new IllegalArgumentException("a value of " + value.getClass().getName() + " is none of the program's");
+    }
+
+    private Lines list(List<?> list) {
+        put('[');
+        for (int i = 0; i < list.size(); i++) {
+            if (i > 0) {
+                put(',');
+            }
+            value(list.get(i));
+        }
+        return put(']');
     }
 
     private Lines hex(byte[] some) {

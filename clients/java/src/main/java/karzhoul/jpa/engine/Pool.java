@@ -39,6 +39,7 @@ public final class Pool implements AutoCloseable {
     private final Deque<Session> free = new ArrayDeque<>();
     private final Set<Session> idle = new LinkedHashSet<>();
     private final Numbers numbers = new Numbers();
+    private final Sequences sequences = new Sequences();
     private Engine engine;
     private int run = 1;
     private int opened;
@@ -55,6 +56,11 @@ public final class Pool implements AutoCloseable {
     /** The numbers of new objects, of the present run. */
     public Numbers numbers() {
         return numbers;
+    }
+
+    /** The keys of sequences, of blocks that the present run gave. */
+    public Sequences sequences() {
+        return sequences;
     }
 
     /** The present run. */
@@ -280,6 +286,7 @@ public final class Pool implements AutoCloseable {
     private void forgetRun() {
         run++;
         numbers.forget();
+        sequences.forget();
         free.clear();
         idle.clear();
         opened = 0;

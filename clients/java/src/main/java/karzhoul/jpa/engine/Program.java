@@ -4,10 +4,13 @@ import jakarta.persistence.PersistenceException;
 import java.io.IOException;
 import java.nio.file.Files;
 import java.nio.file.Path;
+import java.util.ArrayList;
 import java.util.HashMap;
 import java.util.List;
 import java.util.Map;
 import java.util.function.Consumer;
+import karzhoul.jpa.model.Transition;
+import karzhoul.jpa.model.UnitModel;
 
 /**
  * The program of a store: the factories of one JVM that name the same store share it, as others share a database.
@@ -27,18 +30,19 @@ public final class Program {
     private final Pool pool;
     private int users;
 
-    private Program(String store, String program, String mapping, String description, Consumer<String> log) throws IOException {
+    private Program(String store, String program, UnitModel unit, Map<String, Object> properties, Consumer<String> log)
+            throws IOException {
         this.store = store;
-        this.mapping = mapping;
-        this.description = description;
+        this.mapping = unit.mapping();
+        this.description = unit.description();
         mappingFile = Files.createTempFile("karzhoul", ".json");
         Files.writeString(mappingFile, mapping);
         memory = store.equals(MEMORY) ? memoryFile() : null;
         String file = memory == null ? store : memory.toString();
-        List<String> command = List.of(program, "--mapping", mappingFile.toString(), "--db", file);
+        List<String> command = List.of(program, "--language", "wide", "--mapping", mappingFile.toString(), "--db", file);
         Journal journal = log == null ? null : new Journal(log);
         StoreDescription described = memory == null ? new StoreDescription(Path.of(store), description) : null;
-        pool = new Pool(() -> started(command, journal, described));
+        pool = new Pool(() -> started(command, journal, described, unit, properties));
     }
 
     private static PersistenceException notOpened(List<String> command, ProgramEnded ended) {
@@ -54,18 +58,59 @@ public final class Program {
         return new PersistenceException(words, ended);
     }
 
-    private static Engine started(List<String> command, Journal journal, StoreDescription described) {
+    private static Engine started(List<String> command, Journal journal, StoreDescription described, UnitModel unit,
+            Map<String, Object> properties) {
         if (described == null) {
             return new Engine(command, journal);
         }
         described.prepare();
+        try {
+            return opened(command, journal, described, unit);
+        } catch (PersistenceException refused) {
+            Transition transition = unit.transition(properties);
+            if (!described.isPlanned(transition)) {
+                throw refused;
+            }
+            change(command, journal, described, unit, transition);
+            return opened(command, journal, described, unit);
+        }
+    }
+
+    private static Engine opened(List<String> command, Journal journal, StoreDescription described, UnitModel unit) {
         Engine engine = new Engine(command, journal);
         try {
             engine.check(described);
+            if (described.isToBeWritten()) {
+                new StoreChange(engine, described).make(List.of(), unit.uniques());
+            }
+            described.isWritten();
         } catch (ProgramEnded ended) {
             throw described.explained(command.get(0), notOpened(command, ended));
+        } catch (PersistenceException refused) {
+            engine.close();
+            throw refused;
         }
         return engine;
+    }
+
+    /** Brings the store over by a mapping that has the columns of before and of now. */
+    private static void change(List<String> command, Journal journal, StoreDescription described, UnitModel unit,
+            Transition transition) {
+        try {
+            Path mapping = Files.createTempFile("karzhoul", ".json");
+            try {
+                Files.writeString(mapping, transition.mapping());
+                List<String> both = new ArrayList<>(command);
+                both.set(both.indexOf("--mapping") + 1, mapping.toString());
+                try (Engine engine = new Engine(both, journal)) {
+                    new StoreChange(engine, described).make(transition.statements(), unit.uniques());
+                }
+            } finally {
+                Files.delete(mapping);
+            }
+        } catch (IOException e) {
+            throw new PersistenceException("no file could be made for the mapping: " + e.getMessage(), e);
+        }
     }
 
     /**
@@ -73,22 +118,23 @@ public final class Program {
      *
      * @param url {@code karzhoul:FILE} or {@code karzhoul:memory}
      * @param program the executable
-     * @param mapping the mapping, as JSON
-     * @param description what the rows of the store mean
+     * @param unit the mapping, and what the rows of the store mean
+     * @param properties those that say how a store gets here from other classes
      * @param log takes each call with its answer, or null
      * @throws PersistenceException where the url is none, the program can't be started, it refuses the mapping or the
      *     store, or another unit of this JVM has the store open with another mapping
      */
-    public static Program open(String url, String program, String mapping, String description, Consumer<String> log) {
+    public static Program open(String url, String program, UnitModel unit, Map<String, Object> properties,
+            Consumer<String> log) {
         String store = storeOf(url);
         synchronized (OPEN) {
             Program shared = OPEN.get(store);
             if (shared == null) {
-                shared = start(store, program, mapping, description, log);
+                shared = start(store, program, unit, properties, log);
                 OPEN.put(store, shared);
-            } else if (!shared.mapping.equals(mapping) || !shared.description.equals(description)) {
+            } else if (!shared.mapping.equals(unit.mapping()) || !shared.description.equals(unit.description())) {
                 throw new PersistenceException(url + " is open in this JVM with another mapping: units that share a"
-                    + " store must have the same entities" + StoreDescription.differences(shared.description, description));
+                    + " store must have the same entities" + new Differences(shared.description, unit.description()).words());
             }
             shared.users++;
             return shared;
@@ -96,10 +142,10 @@ public final class Program {
     }
 
     private static Program start(
-            String store, String executable, String mapping, String description, Consumer<String> log) {
+            String store, String executable, UnitModel unit, Map<String, Object> properties, Consumer<String> log) {
         Program program;
         try {
-            program = new Program(store, executable, mapping, description, log);
+            program = new Program(store, executable, unit, properties, log);
         } catch (IOException e) {
             throw new PersistenceException("no file could be made for the mapping or the store: " + e.getMessage(), e);
         }

@@ -15,6 +15,8 @@ import karzhoul.jpa.model.Callbacks;
  */
 final class Replies {
     private static final Callbacks.Event[] KINDS = Callbacks.Event.values();
+    private static final byte[] NOTHING = "{\"events\":[],\"ok\":null}".getBytes(StandardCharsets.ISO_8859_1);
+    private static final Reply DONE = new Reply(null, null, null, List.of(), null);
 
     private final InputStream in;
     private byte[] bytes = new byte[1 << 16];
@@ -23,6 +25,9 @@ final class Replies {
     private int at;
     private long made;
     private boolean isRefused;
+    /** What the lists have that are being read, the outer ones first. */
+    private Object[] items = new Object[64];
+    private int itemCount;
 
     Replies(InputStream in) {
         this.in = in;
@@ -38,12 +43,12 @@ final class Replies {
         made = 0;
     }
 
-    /** The next line; what it is about is what its call said. */
+    /** The next line; what it is about is what its call said. Most of them tell nothing, and are one and the same. */
     Reply next(Object about) throws IOException {
         int end = line();
         at = start;
         start = end + 1;
-        return reply(about);
+        return Arrays.equals(bytes, at, end, NOTHING, 0, NOTHING.length) ? DONE : reply(about);
     }
 
     private int line() throws IOException {
@@ -170,11 +175,18 @@ final class Replies {
             at++;
             return List.of();
         }
-        List<Object> list = new ArrayList<>();
+        int from = itemCount;
         do {
-            list.add(value());
+            Object item = value();
+            if (itemCount == items.length) {
+                items = Arrays.copyOf(items, 2 * itemCount);
+            }
+            items[itemCount++] = item;
         } while (bytes[at++] == ',');
-        return list;
+        Object[] list = Arrays.copyOfRange(items, from, itemCount);
+        Arrays.fill(items, from, itemCount, null);
+        itemCount = from;
+        return Arrays.asList(list);
     }
 
     /** One of the objects of a reply, told by the first letter of its first member. */

@@ -9,7 +9,7 @@ import java.util.List;
  * @param error the refusal's name, or null where the call was done
  * @param why the refusal's detail, or null
  * @param events what came about, in its order
- * @param about what the line said it was about
+ * @param about what the line said it was about; null where nothing was told
  */
 public record Reply(Object ok, String error, String why, List<Event> events, Object about) {
     public boolean isRefused() {

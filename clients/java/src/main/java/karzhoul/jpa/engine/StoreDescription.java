@@ -13,13 +13,14 @@ import java.nio.charset.StandardCharsets;
 import java.nio.file.FileAlreadyExistsException;
 import java.nio.file.Files;
 import java.nio.file.Path;
+import java.util.ArrayList;
 import java.util.Arrays;
 import java.util.HexFormat;
 import java.util.List;
-import java.util.SortedMap;
-import java.util.TreeMap;
 import java.util.concurrent.TimeUnit;
 import karzhoul.jpa.model.StoredDescription;
+import karzhoul.jpa.model.Transition;
+import karzhoul.jpa.model.Unique;
 
 /**
  * What the rows of a store mean, kept in the store itself: it goes where the store goes. A store that was written with
@@ -33,12 +34,14 @@ public final class StoreDescription {
     private static final String MARK = ".new";
     private static final String NULL = "\"ok\":null}";
     private static final String REMEDY = "Keep the names of before, by @Entity, @Table, @Column, @JoinColumn, "
-            + "@JoinTable and @DiscriminatorValue; or take another file for a new store.";
+            + "@JoinTable and @DiscriminatorValue; say what becomes of columns, by karzhoul.defaults, karzhoul.dropped and "
+            + "karzhoul.moved; or take another file for a new store.";
 
     private final Path store;
     private final String description;
     private final Path mark;
     private boolean isNew;
+    private String before;
 
     /** @param description what the classes say, as {@link karzhoul.jpa.model.UnitModel#description()} */
     public StoreDescription(Path store, String description) {
@@ -70,8 +73,8 @@ public final class StoreDescription {
     }
 
     /**
-     * To be called first, on the pipes of the program that has opened the store: a new store is described, and any
-     * other one's description read. The program is as just begun afterwards.
+     * To be called first, on the pipes of the program that has opened the store: its description is read. The program is
+     * as just begun afterwards.
      *
      * @throws PersistenceException where the store was written with other classes, or by another door
      * @throws IOException where the program has ended
@@ -85,14 +88,55 @@ public final class StoreDescription {
                     + "one of a Java unit does: it is another client's. " + REMEDY);
         }
         if (stored == null) {
-            write(program);
+            before = "";
         } else if (!stored.equals(description)) {
-            throw refused(stored);
+            before = stored;
+            if (!new Differences(stored, description).areTaken()) {
+                throw otherClasses(stored);
+            }
         }
         program.ask("{\"call\":\"restart\"}");
-        if (isNew) {
+    }
+
+    /** Whether the store was written with other classes, and a transition leads from these to those of the unit. */
+    boolean isPlanned(Transition transition) {
+        return before != null && !before.isEmpty() && new Differences(before, description).arePlanned(transition);
+    }
+
+    /** Whether the store is new, or was written with classes of before, so that its description is to be written. */
+    boolean isToBeWritten() {
+        return before != null;
+    }
+
+    /** Whether the store has no rows yet of the values that are unique. */
+    boolean isNew(Unique unique) {
+        return new Differences(before, description).isNew(unique.description());
+    }
+
+    /** Why a store isn't brought over. */
+    PersistenceException refused(String why) {
+        return new PersistenceException("The store " + store + " was written with other classes, and isn't brought over to "
+                + "these:" + new Differences(before, description).words() + "\n" + why);
+    }
+
+    /** The description in parts, of which each is a row. */
+    List<byte[]> parts() {
+        byte[] all = description.getBytes(StandardCharsets.UTF_8);
+        List<byte[]> parts = new ArrayList<>();
+        for (int from = 0; from < all.length; from += PART_BYTES) {
+            parts.add(Arrays.copyOfRange(all, from, Math.min(from + PART_BYTES, all.length)));
+        }
+        return parts;
+    }
+
+    /** The store says what the classes say. */
+    void isWritten() {
+        try {
             Files.deleteIfExists(mark);
             isNew = false;
+            before = null;
+        } catch (IOException fault) {
+            throw new PersistenceException("The mark " + mark + " of a new store can't be deleted: " + fault, fault);
         }
     }
 
@@ -108,45 +152,17 @@ public final class StoreDescription {
                 return refused;
             }
             String stored = readAlone(program);
-            return stored == null || stored.equals(description) ? refused : refused(stored);
+            before = stored;
+            return stored == null || stored.equals(description) ? refused : otherClasses(stored);
         } catch (IOException | InterruptedException fault) {
             refused.addSuppressed(fault);
             return refused;
         }
     }
 
-    private PersistenceException refused(String stored) {
+    private PersistenceException otherClasses(String stored) {
         return new PersistenceException("The store " + store + " was written with other classes, and isn't opened:"
-                + differences(stored, description) + "\n" + REMEDY);
-    }
-
-    /** What differs between two descriptions, a line for each. */
-    static String differences(String stored, String present) {
-        SortedMap<String, String> before = lines(stored);
-        SortedMap<String, String> now = lines(present);
-        StringBuilder words = new StringBuilder();
-        before.forEach((name, meaning) -> {
-            String other = now.get(name);
-            if (other == null) {
-                words.append("\n- the store has ").append(name).append(", and the classes don't");
-            } else if (!other.equals(meaning)) {
-                words.append("\n- ").append(name).append(" is ").append(meaning).append(" in the store, and ")
-                        .append(other)
-                        .append(" by the classes");
-            }
-        });
-        now.keySet().stream().filter(name -> !before.containsKey(name))
-                .forEach(name -> words.append("\n- the classes have ").append(name).append(", and the store doesn't"));
-        return words.toString();
-    }
-
-    private static SortedMap<String, String> lines(String description) {
-        SortedMap<String, String> lines = new TreeMap<>();
-        for (String line : description.split("\n")) {
-            String[] halves = line.split("\t", 2);
-            lines.put(halves[0], halves.length == 2 ? halves[1] : "");
-        }
-        return lines;
+                + new Differences(stored, description).words() + "\n" + REMEDY);
     }
 
     private static String read(Dialogue program) throws IOException {
@@ -159,21 +175,6 @@ public final class StoreDescription {
             }
             bytes.write(hex(program.ask("{\"call\":\"get\",\"object\":" + part + ",\"name\":\"" + TEXT + "\"}")));
         }
-    }
-
-    private void write(Dialogue program) throws IOException {
-        byte[] all = description.getBytes(StandardCharsets.UTF_8);
-        program.ask("{\"call\":\"begin\",\"em\":1}");
-        for (int part = 1; (part - 1) * PART_BYTES < all.length; part++) {
-            byte[] bytes = Arrays.copyOfRange(all, (part - 1) * PART_BYTES, Math.min(part * PART_BYTES, all.length));
-            String object = "\"object\":" + part;
-            program.ask("{\"call\":\"new\",\"entity\":\"" + ENTITY + "\"}");
-            program.ask("{\"call\":\"set\"," + object + ",\"name\":\"" + PART + "\",\"value\":" + part + "}");
-            program.ask("{\"call\":\"set\"," + object + ",\"name\":\"" + TEXT + "\",\"value\":{\"hex\":\""
-                    + HexFormat.of().formatHex(bytes) + "\"}}");
-            program.ask("{\"call\":\"persist\",\"em\":1," + object + "}");
-        }
-        program.ask("{\"call\":\"commit\",\"em\":1}");
     }
 
     private static byte[] hex(String reply) throws IOException {

@@ -5,7 +5,6 @@ import jakarta.persistence.MappedSuperclass;
 import jakarta.persistence.NamedNativeQuery;
 import jakarta.persistence.NamedStoredProcedureQuery;
 import jakarta.persistence.SqlResultSetMapping;
-import jakarta.persistence.Table;
 import java.util.Arrays;
 
 /** What classes of a unit must be, and what annotations on them can't be kept. */
@@ -32,11 +31,6 @@ final class Classes {
         }
         if (javaClass.isAnnotationPresent(Embeddable.class) || javaClass.isAnnotationPresent(MappedSuperclass.class)) {
             faults.add(javaClass, "it is an entity, and an embeddable or a mapped superclass too", "Leave one of them");
-        }
-        Table table = javaClass.getAnnotation(Table.class);
-        if (table != null && table.uniqueConstraints().length > 0) {
-            faults.add(javaClass, "unique constraints aren't kept",
-                    "Leave uniqueConstraints out, or make the value the key");
         }
         if (javaClass.getAnnotationsByType(NamedNativeQuery.class).length > 0
                 || javaClass.getAnnotationsByType(NamedStoredProcedureQuery.class).length > 0

@@ -24,11 +24,19 @@ final class DescriptionWriter {
 
     private void entity(PlainEntity entity) {
         String table = entity.table();
+        if (entity.javaClass() == Unique.class || entity.javaClass() == ListOrder.class) {
+            put("the " + table, "number " + Names.number(table) + ", " + kept(entity.key()));
+            return;
+        } else if (entity.sequence() != null) {
+            put("the " + table, "number " + Names.number(table) + ", from " + entity.sequence().first() + " on, "
+                    + entity.sequence().size() + " at a time");
+            return;
+        }
         if (entity.above() == null) {
             KeyModel key = entity.key();
-            String parts = key.parts().stream().map(it -> kept(it.codec())).collect(Collectors.joining(", "));
-            put("the table " + table, "number " + Names.number(table) + ", with the key " + parts
+            put("the table " + table, "number " + Names.number(table) + ", with the key " + kept(key)
                     + (key.generation() == KeyModel.Generation.COUNTER ? ", generated" : "")
+                    + key.sequence().map(it -> ", given by " + it.mappedName()).orElse("")
                     + (entity.version().isPresent() ? ", versioned" : ""));
             entity.version().ifPresent(it -> column(table, (PlainAttribute) it));
         }
@@ -56,7 +64,11 @@ final class DescriptionWriter {
         }
     }
 
-    private static String kept(Codec codec) {
+    private static String kept(KeyModel key) {
+        return key.parts().stream().map(it -> kept(it.codec())).collect(Collectors.joining(", "));
+    }
+
+    static String kept(Codec codec) {
         return codec.sort().name().toLowerCase(Locale.ROOT) + " (" + codec.meaning() + ")";
     }
 
@@ -64,7 +76,7 @@ final class DescriptionWriter {
         lines.put(inOneLine(name), inOneLine(meaning));
     }
 
-    private static String inOneLine(String words) {
+    static String inOneLine(String words) {
         return words.replace('\t', ' ').replace('\n', ' ').replace('\r', ' ');
     }
 }

@@ -232,8 +232,9 @@ final class ElementReader {
         column.ifPresent(it -> memberCheck.check(member, it));
         String name = column.map(Column::name).filter(it -> !it.isEmpty()).orElse(last(path));
         boolean isRequired = column.filter(it -> !it.nullable()).isPresent();
+        boolean isUnique = column.filter(Column::unique).isPresent();
         codec.ifPresent(it -> draft.parts.add(new ElementShape.Part(
-                draft.has("#element", ELEMENT, it, isRequired, name), null)));
+                draft.has("#element", ELEMENT, it, isRequired, name).unique(isUnique), null)));
     }
 
     private void part(Member member, Way way, String path, Scope scope, String inScope, Draft draft, int depth) {
@@ -257,8 +258,9 @@ final class ElementReader {
             boolean isRequired = column.filter(it -> !it.nullable()).isPresent()
                     || member.find(Basic.class).filter(it -> !it.optional()).isPresent();
             String name = column.map(Column::name).filter(it -> !it.isEmpty()).orElse(path);
+            boolean isUnique = column.filter(Column::unique).isPresent();
             codecs.of(member, scope, inScope, column).ifPresent(it -> draft.parts.add(new ElementShape.Part(
-                    draft.has(path, path, it, isRequired, name), way)));
+                    draft.has(path, path, it, isRequired, name).unique(isUnique), way)));
         }
     }
 }

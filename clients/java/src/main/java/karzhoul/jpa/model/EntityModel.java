@@ -38,6 +38,9 @@ public interface EntityModel {
     /** What reads the columns of relations: superclass first. */
     List<KeyCopy> copies();
 
+    /** What no two of its objects have alike: superclass first. */
+    List<Unique> uniques();
+
     Callbacks callbacks();
 
     /** What the collection of values has, of whose rows this is; empty of an entity of the application. */

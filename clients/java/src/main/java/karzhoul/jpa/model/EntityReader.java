@@ -29,7 +29,8 @@ final class EntityReader {
     static final int MOST_NESTED = 8;
 
     /** An attribute that is neither inserted nor updated; its place is found once the relations were read. */
-    private record Unwritten(Member member, Way way, String path, Codec codec, boolean isRequired, String column) {}
+    private record Unwritten(Member member, Way way, String path, Codec codec, boolean isRequired, String column,
+            boolean isUnique) {}
 
     private final Faults faults;
     private final Members members;
@@ -186,10 +187,12 @@ final class EntityReader {
         if (codec.isEmpty()) {
             return;
         } else if (!isInserted && !isUpdated) {
-            unwritten.add(new Unwritten(member, way, path, codec.get(), isRequired, columnName(column, path)));
+            unwritten.add(new Unwritten(member, way, path, codec.get(), isRequired, columnName(column, path),
+                    column.map(Column::unique).orElse(false)));
         } else {
             entity.has(new PlainAttribute(path, names.give(path), Attribute.Role.PLAIN, codec.get(), isRequired, way,
-                    entity.columnOf(columnName(column, path))).written(isInserted, isUpdated));
+                    entity.columnOf(columnName(column, path))).written(isInserted, isUpdated)
+                    .unique(column.map(Column::unique).orElse(false)));
         }
     }
 
@@ -197,6 +200,10 @@ final class EntityReader {
     private void readUnwritten(Unwritten it) {
         Optional<PlainRelation> relation = entity.joinedBy(it.column());
         if (relation.isPresent()) {
+            if (it.isUnique()) {
+                faults.add(it.member(), "it reads the column of a relation, and says that it is unique",
+                        "Say so at the @JoinColumn");
+            }
             entity.has(new KeyCopy(it.member(), it.path(), it.codec(), it.way(), relation.get()));
             return;
         }
@@ -205,7 +212,7 @@ final class EntityReader {
                     "Leave insertable and updatable out, or give it the column of a relation");
         }
         entity.has(new PlainAttribute(it.path(), names.give(it.path()), Attribute.Role.PLAIN, it.codec(),
-                it.isRequired(), it.way(), entity.columnOf(it.column())).written(false, false));
+                it.isRequired(), it.way(), entity.columnOf(it.column())).written(false, false).unique(it.isUnique()));
     }
 
     /** Columns of a class below the root are its own, whatever classes beside it have; so are those of other tables. */

@@ -3,49 +3,93 @@ package karzhoul.jpa.model;
 import jakarta.persistence.SequenceGenerator;
 import jakarta.persistence.TableGenerator;
 import java.lang.reflect.AnnotatedElement;
+import java.util.ArrayList;
 import java.util.HashMap;
+import java.util.LinkedHashMap;
+import java.util.List;
 import java.util.Map;
 
 /**
- * The generators that have a name (chapter 11.1.20). The program counts for each hierarchy from 1, so one that begins
- * elsewhere, or that hierarchies share, is refused.
+ * The generators that have a name (chapter 11.1.20). One that begins at 1 for a single hierarchy is the program's own
+ * counter of that hierarchy; any other one is a {@link Sequence}.
  */
 final class Generators {
-    private static final String REMEDY = "Leave out the generator, or give the keys yourself";
+    /**
+     * What a generator says.
+     *
+     * @param counter what it counts in: generators that name one sequence, or one row of a table, count together
+     */
+    private record Said(String counter, long first, int size) {}
+
+    /** Who asks a counter for keys. */
+    private record Use(Member member, PlainEntity entity, Said said) {}
 
     private final Faults faults;
-    private final Map<String, Integer> begins = new HashMap<>();
-    private final Map<String, Member> users = new HashMap<>();
+    private final Names entityNames;
+    private final Map<String, Said> defined = new HashMap<>();
+    private final Map<String, List<Use>> uses = new LinkedHashMap<>();
 
-    Generators(Faults faults) {
+    /** @param entityNames the names that entities of the mapping have already */
+    Generators(Faults faults, Names entityNames) {
         this.faults = faults;
+        this.entityNames = entityNames;
     }
 
     /** Takes what a class, a member or a package defines. */
     void define(AnnotatedElement element) {
-        for (SequenceGenerator generator : element.getAnnotationsByType(SequenceGenerator.class)) {
-            begins.put(generator.name(), generator.initialValue());
+        for (SequenceGenerator it : element.getAnnotationsByType(SequenceGenerator.class)) {
+            String sequence = it.sequenceName().isEmpty() ? it.name() : it.sequenceName();
+            defined.put(it.name(), new Said("sequence " + RelationReader.qualified(it.catalog(), it.schema(), sequence),
+                    it.initialValue(), it.allocationSize()));
         }
-        for (TableGenerator generator : element.getAnnotationsByType(TableGenerator.class)) {
-            begins.put(generator.name(), generator.initialValue() + 1);
+        for (TableGenerator it : element.getAnnotationsByType(TableGenerator.class)) {
+            String row = it.pkColumnValue().isEmpty() ? it.name() : it.pkColumnValue();
+            String table = RelationReader.qualified(it.catalog(), it.schema(), it.table());
+            // a table has the number that was given last
+            defined.put(it.name(), new Said("row " + row + (table.isEmpty() ? "" : " of the table " + table), it.initialValue() + 1L,
+                    it.allocationSize()));
         }
     }
 
-    /** Takes what a key of this member names; the empty name is no one's. */
-    void use(Member member, String name) {
+    /** Takes what the key of an entity names; the empty name is no one's. */
+    void use(Member member, PlainEntity entity, String name) {
         define(member.annotated());
+        Said said = defined.getOrDefault(name, new Said("sequence " + name, 1, 1));
         if (name.isEmpty()) {
             return;
+        } else if (said.size() < 1) {
+            faults.add(member, "the generator " + name + " takes " + said.size() + " keys at a time",
+                    "Give it an allocationSize of at least 1");
         }
-        Member other = users.putIfAbsent(name, member);
-        if (other != null && !other.equals(member)) {
-            faults.add(member, "the generator " + name + " is that of " + other.declaring().getName()
-                    + " too, and each counts alone", REMEDY);
-        }
-        int begin = begins.getOrDefault(name, 1);
-        if (begin > 1) {
-            faults.add(member, "the generator " + name + " begins at " + begin + ", and keys are counted from 1",
-                    REMEDY);
+        uses.computeIfAbsent(said.counter(), none -> new ArrayList<>()).add(new Use(member, entity, said));
+    }
+
+    /** Gives keys their sequences; answers the entities of the mapping that these need. */
+    List<PlainEntity> sequences() {
+        List<PlainEntity> all = new ArrayList<>();
+        uses.forEach((counter, users) -> {
+            Use first = users.get(0);
+            boolean isShared = users.stream().anyMatch(use -> !use.member().equals(first.member()));
+            users.stream().filter(use -> !use.said().equals(first.said())).findFirst().ifPresent(other ->
+                    faults.add(other.member(), "its generator counts in the " + counter + " as that of "
+                            + first.entity().javaClass().getName() + ", and begins or allocates otherwise",
+                            "Give both the same initialValue and allocationSize"));
+            if (isShared || first.said().first() > 1) {
+                PlainEntity blocks = Sequence.blocks("generator " + counter, entityNames.give("generator_" + counter),
+                        first.entity().javaClass().getName());
+                Sequence sequence = new Sequence(blocks.mappedName(), Sequence.KEY, first.said().first(),
+                        first.said().size());
+                users.forEach(use -> give(use.entity(), sequence, blocks));
+                all.add(blocks);
+            }
+        });
+        return all;
+    }
+
+    private static void give(PlainEntity entity, Sequence sequence, PlainEntity blocks) {
+        if (entity.plainKey() != null) {
+            entity.plainKey().isGivenBy(sequence);
+            blocks.isSequence(sequence);
         }
     }
 }

@@ -5,8 +5,11 @@ import java.util.Optional;
 
 /** The key of an entity (chapter 2.4): one attribute, an embedded id, or an id class. */
 public interface KeyModel {
-    /** Who gives the key of a new object. */
-    enum Generation { ASSIGNED, COUNTER, UUID }
+    /**
+     * Who gives the key of a new object: the application, the program by the hierarchy's own counter, or the door by a
+     * UUID or out of a {@link #sequence()}.
+     */
+    enum Generation { ASSIGNED, COUNTER, UUID, SEQUENCE }
 
     /** A key, or a part of it, that is the key of another entity (chapter 2.4.1: derived identities). */
     record Derived(Relation from, List<Attribute> parts) {}
@@ -15,6 +18,9 @@ public interface KeyModel {
     List<Attribute> parts();
 
     Generation generation();
+
+    /** Out of what keys are given, where that is a sequence. */
+    Optional<Sequence> sequence();
 
     /** The class of what {@code find} takes. */
     Class<?> javaClass();

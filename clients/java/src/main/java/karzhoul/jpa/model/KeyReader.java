@@ -31,8 +31,10 @@ final class KeyReader {
      * @param leaf its name within the key
      * @param inHolder where it stands in the embedded id or the id class; null where there is none
      * @param column the name by which relations refer to it
+     * @param isUnique whether its column is unique by itself
      */
-    private record Part(String path, String leaf, Codec codec, Place where, Place inHolder, String column) {}
+    private record Part(String path, String leaf, Codec codec, Place where, Place inHolder, String column,
+            boolean isUnique) {}
 
     /** What an entity's reader has left for its key. */
     record Draft(PlainEntity entity, EntityReader reader, Names names) {}
@@ -116,7 +118,7 @@ final class KeyReader {
                 Scope scope = new Scope(null, "", holder.annotated());
                 codec(part, scope).ifPresent(codec -> parts.add(new Part(before + part.name(), before + part.name(),
                         codec,
-                        partWay, partInHolder, columnOf(part, scope))));
+                        partWay, partInHolder, columnOf(part, scope), isUnique(part, scope))));
             }
         }
     }
@@ -140,6 +142,10 @@ final class KeyReader {
                 .filter(it -> !it.isEmpty()).orElse(member.name());
     }
 
+    private static boolean isUnique(Member member, Scope scope) {
+        return scope.column(member.name()).or(() -> member.find(Column.class)).filter(Column::unique).isPresent();
+    }
+
     private void readPlain(Draft draft, List<Member> members) {
         Optional<Class<?>> idClass = idClass(draft.entity().javaClass());
         if (members.size() > 1 && idClass.isEmpty()) {
@@ -158,14 +164,14 @@ final class KeyReader {
                 Scope scope = new Scope(null, "", member.annotated());
                 codec(member, scope).ifPresent(codec -> parts.add(new Part(member.name(), member.name(), codec,
                         Way.to(member),
-                        inHolder.orElse(null), columnOf(member, scope))));
+                        inHolder.orElse(null), columnOf(member, scope), isUnique(member, scope))));
             }
         }
         if (parts.isEmpty()) {
             return;
         }
         Member only = members.get(0);
-        Generation generation = generation(members);
+        Generation generation = generation(draft, members);
         PlainKey.Holder holder = constructor.isPresent() ? holder(idClass.orElseThrow(), constructor.get(), parts)
                 : RelationReader.isRelation(only) ? derivedHolder(draft, only) : null;
         boolean isZeroNone = generation == Generation.COUNTER && only.javaType().isPrimitive();
@@ -215,7 +221,7 @@ final class KeyReader {
             }
             String path = member.name() + "." + theirs.get(i).path();
             parts.add(new Part(path, path, theirs.get(i).codec(), new KeyOfTarget(relation.get(), theirs.get(i)), part,
-                    member.name()));
+                    member.name(), false));
         }
     }
 
@@ -242,7 +248,7 @@ final class KeyReader {
         return Optional.ofNullable(other.entity().plainKey());
     }
 
-    private Generation generation(List<Member> members) {
+    private Generation generation(Draft draft, List<Member> members) {
         Member only = members.get(0);
         Optional<GeneratedValue> generated = members.stream().flatMap(it -> it.find(GeneratedValue.class).stream())
                 .findFirst();
@@ -260,7 +266,7 @@ final class KeyReader {
             faults.add(only, "a generated number is no " + type.getName(),
                     "Declare it as Long, or use GenerationType.UUID");
         } else if (!isUuid) {
-            generators.use(only, generated.get().generator());
+            generators.use(only, draft.entity(), generated.get().generator());
         }
         return isUuid ? Generation.UUID : Generation.COUNTER;
     }
@@ -293,7 +299,7 @@ final class KeyReader {
             String member = isNamed ? keyName + "." + leaf : leaf;
             parts.add(new PlainAttribute(before + part.path(), member, Attribute.Role.KEY, part.codec(), true,
                     part.where(),
-                    part.column()));
+                    part.column()).unique(part.isUnique()));
         }
         Place embeddedAt = embedded == null ? null : Way.to(embedded);
         entity.isKnownBy(new PlainKey(parts, generation, holder, embedded == null ? null : embedded.name(), embeddedAt,

@@ -5,21 +5,40 @@ import java.util.ArrayList;
 import java.util.List;
 import java.util.Locale;
 import java.util.Map;
+import java.util.Set;
 
 /** Writes the mapping that the program is given. */
 final class MappingWriter {
     private static final int ALL_CASCADES = CascadeType.values().length - 1;
 
-    private MappingWriter() {}
+    private final Map<PlainEntity, List<Map<String, Object>>> more;
+    private final Set<PlainAttribute> nullable;
+
+    private MappingWriter(Map<PlainEntity, List<Map<String, Object>>> more, Set<PlainAttribute> nullable) {
+        this.more = more;
+        this.nullable = nullable;
+    }
 
     static String write(List<PlainEntity> entities) {
+        return write(entities, Map.of(), Set.of());
+    }
+
+    /**
+     * The mapping of a {@link Transition}.
+     *
+     * @param more attributes that entities have beside their own
+     * @param nullable attributes that may be null here
+     */
+    static String write(List<PlainEntity> entities, Map<PlainEntity, List<Map<String, Object>>> more,
+            Set<PlainAttribute> nullable) {
+        MappingWriter writer = new MappingWriter(more, nullable);
         List<Object> all = new ArrayList<>();
-        entities.forEach(entity -> all.add(entity(entity)));
+        entities.forEach(entity -> all.add(writer.entity(entity)));
         all.add(StoredDescription.mapped());
         return Json.write(Json.object("revision", 1, "entities", all));
     }
 
-    private static Map<String, Object> entity(PlainEntity entity) {
+    private Map<String, Object> entity(PlainEntity entity) {
         Map<String, Object> written = Json.object("name", entity.mappedName());
         if (entity.above() != null) {
             written.put("extends", entity.above().mappedName());
@@ -32,8 +51,10 @@ final class MappingWriter {
         if (!entity.discriminator().equals(entity.mappedName())) {
             written.put("discriminator", entity.discriminator());
         }
-        if (!entity.ownAttributes().isEmpty()) {
-            written.put("attributes", entity.ownAttributes().stream().map(MappingWriter::attribute).toList());
+        List<Map<String, Object>> attributes = new ArrayList<>(more.getOrDefault(entity, List.of()));
+        entity.ownAttributes().forEach(it -> attributes.add(attribute(it)));
+        if (!attributes.isEmpty()) {
+            written.put("attributes", attributes);
         }
         if (!entity.ownRelations().isEmpty()) {
             written.put("relations", entity.ownRelations().stream().map(MappingWriter::relation).toList());
@@ -54,10 +75,10 @@ final class MappingWriter {
         }
     }
 
-    private static Map<String, Object> attribute(PlainAttribute attribute) {
+    private Map<String, Object> attribute(PlainAttribute attribute) {
         Map<String, Object> written = Json.object(
                 "name", attribute.member(), "type", type(attribute), "column", attribute.column());
-        if (attribute.isRequired()) {
+        if (attribute.isRequired() && !nullable.contains(attribute)) {
             written.put("required", true);
         }
         return written;

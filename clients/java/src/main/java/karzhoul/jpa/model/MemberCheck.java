@@ -68,16 +68,10 @@ final class MemberCheck {
                         "Let the relation be written, and the attribute beside it be insertable = false and"
                                 + " updatable = false; or add @Transient");
             }
-            if (column.unique() && !member.has(OneToOne.class)) {
-                faults.add(member, "unique isn't kept", "Leave it out, or use @OneToOne");
-            }
         }
     }
 
     void check(Member member, Column column) {
-        if (column.unique()) {
-            faults.add(member, "unique isn't kept", "Leave it out, or make it the key");
-        }
         if (!column.insertable() && column.updatable()) {
             faults.add(member, "a column that is updated, and isn't inserted, isn't kept",
                     "Write updatable = false too, leave insertable out, or add @Transient");

@@ -47,8 +47,10 @@ final class NumberCheck {
         if (all.size() > MOST_ENTITIES) {
             PlainEntity last = all.get(MOST_ENTITIES);
             boolean hasRows = all.stream().anyMatch(NumberCheck::isRows);
+            boolean hasUnique = all.stream().anyMatch(entity -> entity.javaClass() == Unique.class);
             faults.add(last.declaredAt(), "it is one of " + all.size() + " entities"
-                    + (hasRows ? " and collections of values" : "") + ", and a unit has at most " + MOST_ENTITIES,
+                    + (hasRows ? " and collections of values" : "") + (hasUnique ? " and unique columns" : "")
+                    + ", and a unit has at most " + MOST_ENTITIES,
                     "Divide the unit");
         }
     }

@@ -11,6 +11,7 @@ final class PlainAttribute implements Attribute {
     private final String columnName;
     private boolean isInsertable = true;
     private boolean isUpdatable = true;
+    private boolean isUnique;
     private int place = -1;
 
     /**
@@ -41,6 +42,16 @@ final class PlainAttribute implements Attribute {
         this.isInsertable = isInsertable;
         this.isUpdatable = isUpdatable;
         return this;
+    }
+
+    /** Says whether its column is unique by itself. */
+    PlainAttribute unique(boolean isUnique) {
+        this.isUnique = isUnique;
+        return this;
+    }
+
+    boolean isUnique() {
+        return isUnique;
     }
 
     void stands(int place) {

@@ -23,6 +23,7 @@ final class PlainEntity implements EntityModel {
     private final List<PlainAttribute> ownAttributes = new ArrayList<>();
     private final List<PlainRelation> ownRelations = new ArrayList<>();
     private final List<KeyCopy> ownCopies = new ArrayList<>();
+    private final List<Unique> ownUniques = new ArrayList<>();
     private List<Attribute> attributes = List.of();
     private List<Relation> relations = List.of();
     private List<KeyCopy> copies = List.of();
@@ -33,6 +34,7 @@ final class PlainEntity implements EntityModel {
     private MethodHandle constructor;
     private Elements elements;
     private String declaredAt;
+    private Sequence sequence;
 
     PlainEntity(Class<?> javaClass, String name, String mappedName, PlainEntity above, String table,
             String discriminator) {
@@ -80,6 +82,10 @@ final class PlainEntity implements EntityModel {
         ownCopies.add(copy);
     }
 
+    void has(Unique unique) {
+        ownUniques.add(unique);
+    }
+
     void tells(Callbacks callbacks) {
         this.callbacks = callbacks;
     }
@@ -87,10 +93,25 @@ final class PlainEntity implements EntityModel {
     /** @param declared the class and the member of the collection */
     void isRowsOf(Elements collection, String declared) {
         elements = collection;
+        isDeclaredAt(declared);
+    }
+
+    /** @param declared the class and the member for which it is there */
+    void isDeclaredAt(String declared) {
         declaredAt = declared;
     }
 
-    /** Where it is declared: its class, or the collection whose rows it has. */
+    /** Its keys are the blocks of this one, and it has no rows. */
+    void isSequence(Sequence sequence) {
+        this.sequence = sequence;
+    }
+
+    /** Whose blocks its keys are; null of an entity that has rows. */
+    Sequence sequence() {
+        return sequence;
+    }
+
+    /** Where it is declared: its class, the collection whose rows it has, or the first member that is unique. */
     String declaredAt() {
         return declaredAt == null ? javaClass.getName() : declaredAt;
     }
@@ -251,6 +272,11 @@ final class PlainEntity implements EntityModel {
     @Override
     public List<KeyCopy> copies() {
         return copies;
+    }
+
+    @Override
+    public List<Unique> uniques() {
+        return above == null ? ownUniques : Stream.concat(above.uniques().stream(), ownUniques.stream()).toList();
     }
 
     @Override

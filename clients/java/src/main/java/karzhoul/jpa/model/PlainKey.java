@@ -17,7 +17,8 @@ final class PlainKey implements KeyModel {
 
     private final List<PlainAttribute> parts;
     private final List<Attribute> asAttributes;
-    private final Generation generation;
+    private Generation generation;
+    private Sequence sequence;
     private final Holder holder;
     private final Place embeddedAt;
     private final String embedded;
@@ -41,6 +42,12 @@ final class PlainKey implements KeyModel {
         this.isZeroNone = isZeroNone;
     }
 
+    /** Its keys are no longer counted for the hierarchy alone. */
+    void isGivenBy(Sequence sequence) {
+        this.generation = Generation.SEQUENCE;
+        this.sequence = sequence;
+    }
+
     void derives(Derived from) {
         derived = Stream.concat(derived.stream(), Stream.of(from)).toList();
     }
@@ -62,6 +69,11 @@ final class PlainKey implements KeyModel {
     @Override
     public Generation generation() {
         return generation;
+    }
+
+    @Override
+    public Optional<Sequence> sequence() {
+        return Optional.ofNullable(sequence);
     }
 
     @Override
@@ -108,15 +120,22 @@ final class PlainKey implements KeyModel {
             throw new IllegalArgumentException("the key is " + given + ", where one of " + javaClass().getName()
                     + " belongs");
         }
+        if (holder == null) {
+            return List.of(column(0, key));
+        }
         List<Object> columns = new ArrayList<>(parts.size());
         for (int i = 0; i < parts.size(); i++) {
-            Object column = parts.get(i).codec().toColumn(holder == null ? key : holder.places().get(i).get(key));
-            if (column == null) {
-                throw new IllegalArgumentException("the key's part " + parts.get(i).path() + " is null");
-            }
-            columns.add(column);
+            columns.add(column(i, holder.places().get(i).get(key)));
         }
         return columns;
+    }
+
+    private Object column(int place, Object value) {
+        Object column = parts.get(place).codec().toColumn(value);
+        if (column == null) {
+            throw new IllegalArgumentException("the key's part " + parts.get(place).path() + " is null");
+        }
+        return column;
     }
 
     @Override

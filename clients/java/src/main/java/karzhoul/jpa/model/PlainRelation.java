@@ -1,6 +1,7 @@
 package karzhoul.jpa.model;
 
 import jakarta.persistence.CascadeType;
+import jakarta.persistence.MapKey;
 import java.util.List;
 import java.util.Optional;
 import java.util.Set;
@@ -21,6 +22,7 @@ final class PlainRelation implements Relation {
     private EntityModel target;
     private PlainRelation owner;
     private List<Order> orders = List.of();
+    private ListOrder listOrder;
     private int place = -1;
 
     /**
@@ -65,6 +67,10 @@ final class PlainRelation implements Relation {
         if (where instanceof ElementPlace elements) {
             elements.isSorted();
         }
+    }
+
+    void isOrderedBy(ListOrder order) {
+        listOrder = order;
     }
 
     void stands(int place) {
@@ -139,6 +145,16 @@ final class PlainRelation implements Relation {
     @Override
     public Optional<Elements> elements() {
         return where instanceof ElementPlace elements ? Optional.of(elements) : Optional.empty();
+    }
+
+    @Override
+    public Optional<String> mapKey() {
+        return Optional.ofNullable(map()).map(it -> said.declared.find(MapKey.class).map(MapKey::name).orElse(""));
+    }
+
+    @Override
+    public Optional<ListOrder> listOrder() {
+        return Optional.ofNullable(listOrder);
     }
 
     @Override

@@ -8,19 +8,24 @@ import java.util.Map;
 final class PlainUnit implements UnitModel {
     private final List<EntityModel> entities;
     private final List<EntityModel> hidden;
+    private final List<Unique> uniques;
     private final Map<Class<?>, EntityModel> byClass = new HashMap<>();
     private final Map<String, EntityModel> byName = new HashMap<>();
     private final Map<String, Named> namedQueries;
+    private final List<PlainEntity> stored;
     private final String mapping;
     private final String description;
 
-    PlainUnit(List<PlainEntity> entities, List<PlainEntity> hidden, Map<String, Named> namedQueries, String mapping,
-            String description) {
+    /** @param stored all that the mapping has */
+    PlainUnit(List<PlainEntity> entities, List<PlainEntity> hidden, List<Unique> uniques,
+            Map<String, Named> namedQueries, List<PlainEntity> stored) {
         this.hidden = List.copyOf(hidden);
+        this.uniques = List.copyOf(uniques);
         this.entities = List.copyOf(entities);
         this.namedQueries = Map.copyOf(namedQueries);
-        this.mapping = mapping;
-        this.description = description;
+        this.stored = stored;
+        this.mapping = MappingWriter.write(stored);
+        this.description = DescriptionWriter.write(stored);
         for (PlainEntity entity : entities) {
             byClass.put(entity.javaClass(), entity);
             byName.put(entity.name(), entity);
@@ -38,9 +43,16 @@ final class PlainUnit implements UnitModel {
     }
 
     @Override
+    public List<Unique> uniques() {
+        return uniques;
+    }
+
+    @Override
     public EntityModel of(Class<?> javaClass) {
-        boolean isProxy = javaClass != null && ProxyClass.class.isAssignableFrom(javaClass);
-        EntityModel found = byClass.get(isProxy ? javaClass.getSuperclass() : javaClass);
+        EntityModel found = byClass.get(javaClass);
+        if (found == null && javaClass != null && ProxyClass.class.isAssignableFrom(javaClass)) {
+            found = byClass.get(javaClass.getSuperclass());
+        }
         if (found == null) {
             throw new IllegalArgumentException(javaClass == null ? "null is no entity class"
                     : javaClass.getName() + " is no entity class of this persistence unit");
@@ -61,6 +73,11 @@ final class PlainUnit implements UnitModel {
     @Override
     public String description() {
         return description;
+    }
+
+    @Override
+    public Transition transition(Map<String, Object> properties) {
+        return new Transition(stored, properties);
     }
 
     @Override

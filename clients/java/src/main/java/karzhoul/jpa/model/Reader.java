@@ -21,10 +21,10 @@ public final class Reader {
     private final Faults faults = new Faults();
     private final Converters converters = new Converters(faults);
     private final Codecs codecs = new Codecs(faults, converters);
-    private final Generators generators = new Generators(faults);
     private final Map<Class<?>, PlainEntity> entities = new LinkedHashMap<>();
     private final Map<Class<?>, KeyReader.Draft> roots = new LinkedHashMap<>();
     private final Names entityNames = new Names();
+    private final Generators generators = new Generators(faults, entityNames);
     private final List<PlainEntity> hidden = new ArrayList<>();
 
     private Reader() {
@@ -66,15 +66,18 @@ public final class Reader {
         List<PlainEntity> visible = List.copyOf(entities.values());
         List<PlainEntity> all = Stream.concat(visible.stream(), hidden.stream()).toList();
         new Joiner(faults, entities).join(all);
-        new NumberCheck(faults).check(all);
+        List<Unique> uniques = new UniqueReader(faults, entityNames).read(all);
+        List<PlainEntity> stored = Stream.of(all, uniques.stream().map(Unique::keys).toList(), generators.sequences(),
+                new OrderReader(faults, entityNames).read(all)).flatMap(List::stream).toList();
+        new NumberCheck(faults).check(stored);
         Map<String, UnitModel.Named> queries = new NamedQueryReader(faults).read(classes);
         CallbackReader callbacks = new CallbackReader(faults);
         all.forEach(it -> it.tells(callbacks.read(it.javaClass())));
         if (!faults.found().isEmpty()) {
             return null;
         }
-        all.forEach(PlainEntity::order);
-        return new PlainUnit(visible, hidden, queries, MappingWriter.write(all), DescriptionWriter.write(all));
+        stored.forEach(PlainEntity::order);
+        return new PlainUnit(visible, hidden, uniques, queries, stored);
     }
 
     private void readEntity(Class<?> javaClass) {

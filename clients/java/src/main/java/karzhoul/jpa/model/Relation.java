@@ -57,8 +57,21 @@ public interface Relation {
 
     List<Order> orders();
 
+    /** Where the order of a list of entities is kept; empty where it has none of its own. */
+    default Optional<ListOrder> listOrder() {
+        return Optional.empty();
+    }
+
     /** What a collection of values has, whose rows this leads to; empty of a relation to entities. */
     default Optional<Elements> elements() {
+        return Optional.empty();
+    }
+
+    /**
+     * Of a map of entities, by what of its members it is kept: the path of an attribute, or empty for their key; nothing
+     * of any other relation.
+     */
+    default Optional<String> mapKey() {
         return Optional.empty();
     }
 

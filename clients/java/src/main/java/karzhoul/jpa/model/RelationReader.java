@@ -13,7 +13,6 @@ import jakarta.persistence.MapKeyColumn;
 import jakarta.persistence.MapKeyJoinColumn;
 import jakarta.persistence.OneToMany;
 import jakarta.persistence.OneToOne;
-import jakarta.persistence.OrderColumn;
 import java.util.Arrays;
 import java.util.Collection;
 import java.util.EnumSet;
@@ -128,10 +127,6 @@ final class RelationReader {
                     "Let an attribute of the members be the key, with @MapKey(name)");
         } else if (member.has(MapKey.class) && container != Container.MAP) {
             faults.add(member, "it has @MapKey, and is no map", "Declare it as Map");
-        }
-        if (member.has(OrderColumn.class)) {
-            faults.add(member, "@OrderColumn isn't kept",
-                    "Sort the list by an attribute of its members, with @OrderBy");
         }
         if (isMany != (container != Container.ONE)) {
             faults.add(member,

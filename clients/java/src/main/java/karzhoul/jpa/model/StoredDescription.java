@@ -14,6 +14,9 @@ public final class StoredDescription {
     /** Its attribute: the part's bytes of UTF-8. */
     public static final String TEXT = "text";
 
+    /** How the lines of a description begin that tell of rows which the door makes of what the others tell. */
+    public static final List<String> HIDDEN = List.of("the unique ", "the order ");
+
     private static final int TABLE = 1_000_000;
 
     private StoredDescription() {}

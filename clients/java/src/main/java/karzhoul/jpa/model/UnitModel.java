@@ -13,6 +13,9 @@ public interface UnitModel {
     /** Those of which the rows of collections of values are; no application sees them. */
     List<EntityModel> hidden();
 
+    /** What no two objects of an entity have alike. */
+    List<Unique> uniques();
+
     /**
      * The entity of a class, also of a proxy's.
      *
@@ -31,6 +34,9 @@ public interface UnitModel {
      * units may share a store where this is the same.
      */
     String description();
+
+    /** How a store gets to this from other classes, as a unit's properties say. */
+    Transition transition(Map<String, Object> properties);
 
     Map<String, Named> namedQueries();
 }

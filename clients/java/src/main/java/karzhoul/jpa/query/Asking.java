@@ -6,6 +6,7 @@ import java.util.List;
 import karzhoul.jpa.graph.RootGraph;
 import karzhoul.jpa.model.EntityModel;
 import karzhoul.jpa.model.Relation;
+import karzhoul.jpa.model.Unique;
 import karzhoul.jpa.model.UnitModel;
 
 /** What queries need of the entity manager that they belong to. The context implements it. */
@@ -38,15 +39,33 @@ public interface Asking {
 
     /**
      * The rows of a statement of the program's language. An item is null, a Long, a String, a byte[] or a {@link Ref}.
-     * A parameter is one of these, by its name or its number in the text.
+     * A parameter is one of these, or a list of them, by its name or its number in the text.
      *
      * @param findsOne whether one object is expected at most: then it is read in the same trip
      * @throws jakarta.persistence.PersistenceException or IllegalArgumentException, as the program's refusal says
      */
     List<Object[]> rows(String text, List<Parameter> parameters, Integer first, Integer max, boolean findsOne);
 
+    /**
+     * The rows of a SELECT of the object with this key, read in one trip; null where an instance of the key is known here,
+     * so that what is stored may be another.
+     *
+     * @param entity the root of its hierarchy
+     */
+    List<Object[]> unknown(EntityModel entity, List<Object> key);
+
     /** How many objects an UPDATE or a DELETE concerned. */
     int update(String text, List<Parameter> parameters);
+
+    /** A unique value that a statement moved; its columns are null where the object had none, or has none now. */
+    record Moved(Unique unique, List<Object> key, List<Object> before, List<Object> after) {}
+
+    /**
+     * Takes what a statement has moved.
+     *
+     * @throws jakarta.persistence.PersistenceException where two objects would have one value; the transaction is marked
+     */
+    void moved(List<Moved> all);
 
     /** A parameter: a name (a text) or a number, and its value. */
     record Parameter(Object name, Object value) {}

@@ -3,6 +3,7 @@ package karzhoul.jpa.query;
 import jakarta.persistence.PersistenceException;
 import java.nio.ByteBuffer;
 import java.util.ArrayList;
+import java.util.Collection;
 import java.util.HashMap;
 import java.util.IdentityHashMap;
 import java.util.List;
@@ -72,10 +73,10 @@ final class Binding {
 
     /** Refuses a text that is too long for the program, in words. */
     void checkLength(String text) {
-        if (text.length() > SelectPlan.LONGEST) {
-            throw new IllegalArgumentException("the statement has " + text.length()
-                    + " letters with the values of its lists,"
-                    + " and at most " + SelectPlan.LONGEST + " are served; give it fewer values at a time");
+        int most = Grammar.PROGRAM.bytes();
+        if (text.length() > most) {
+            throw new IllegalArgumentException("the statement has " + text.length() + " letters as the program is asked it, and"
+                    + " at most " + most + " are served; write fewer values in it, or give them as a parameter of IN");
         }
     }
 
@@ -133,11 +134,24 @@ final class Binding {
     /** A parameter of the program; one for each value. */
     String parameter(Object column) {
         Object key = column instanceof byte[] bytes ? ByteBuffer.wrap(bytes) : column;
-        return names.computeIfAbsent(key == null ? "null" : List.of(key), k -> {
-            String name = "p" + names.size();
-            bound.add(new Asking.Parameter(name, column));
-            return ":" + name;
-        });
+        return names.computeIfAbsent(key == null ? "null" : List.of(key), k -> bind(column));
+    }
+
+    private String bind(Object value) {
+        String name = "p" + bound.size();
+        bound.add(new Asking.Parameter(name, value));
+        return ":" + name;
+    }
+
+    /** Parameters of the program that have these values together, one at least; each as many as a list may have. */
+    List<String> lists(Collection<Object> columns) {
+        List<Object> all = new ArrayList<>(columns);
+        List<String> lists = new ArrayList<>();
+        int most = Grammar.PROGRAM.list();
+        for (int from = 0; from == 0 || from < all.size(); from += most) {
+            lists.add(bind(all.subList(from, Math.min(all.size(), from + most))));
+        }
+        return lists;
     }
 
     /** What a codec keeps of a value that stands beside its attribute. */
@@ -150,6 +164,21 @@ final class Binding {
             throw e;
         } catch (RuntimeException e) {
             throw new PersistenceException(told(source) + ": " + e.getMessage(), e);
+        }
+    }
+
+    /**
+     * A number that is computed with, as a whole one of so many decimal places.
+     *
+     * @throws Inexact where it has more of them or is beyond 64 bits, and stands among decimals
+     * @throws IllegalArgumentException where it isn't among the whole numbers, and stands among these
+     */
+    Long exact(Value source, Object value, int scale, boolean isDecimal) {
+        try {
+            return Decimals.exact(value, scale);
+        } catch (IllegalArgumentException e) {
+            String reason = told(source) + ": " + e.getMessage();
+            throw isDecimal ? new Inexact(reason, e) : new IllegalArgumentException(reason, e);
         }
     }
 

@@ -13,10 +13,12 @@ import karzhoul.jpa.query.Tree.Value;
 /** Writes FROM, and the blocks that stand in EXISTS. */
 final class BlockWriter {
     final Names names = new Names();
-    final ValueWriter values = new ValueWriter(names);
+    final ValueWriter values;
     final ConditionWriter conditions;
 
-    BlockWriter(UnitModel unit) {
+    /** One that writes parameters among decimals, or leaves them to the door. */
+    BlockWriter(UnitModel unit, boolean isExact) {
+        this.values = new ValueWriter(names, isExact);
         this.conditions = new ConditionWriter(unit, values, this);
     }
 

@@ -1,15 +1,24 @@
 package karzhoul.jpa.query;
 
 import java.util.ArrayList;
+import java.util.HashSet;
 import java.util.List;
+import java.util.Set;
+import java.util.function.Function;
+import karzhoul.jpa.model.Attribute;
+import karzhoul.jpa.model.EntityModel;
 import karzhoul.jpa.model.UnitModel;
+import karzhoul.jpa.query.ChangePlan.ByKeys;
+import karzhoul.jpa.query.ChangePlan.Texts;
 import karzhoul.jpa.query.Tree.Assignment;
 import karzhoul.jpa.query.Tree.Condition;
 import karzhoul.jpa.query.Tree.Delete;
+import karzhoul.jpa.query.Tree.Item;
 import karzhoul.jpa.query.Tree.Literal;
 import karzhoul.jpa.query.Tree.Parameter;
 import karzhoul.jpa.query.Tree.Range;
 import karzhoul.jpa.query.Tree.Reference;
+import karzhoul.jpa.query.Tree.Select;
 import karzhoul.jpa.query.Tree.Statement;
 import karzhoul.jpa.query.Tree.Update;
 import karzhoul.jpa.query.Tree.Value;
@@ -17,60 +26,107 @@ import karzhoul.jpa.query.ValueWriter.Written;
 
 /** Makes plans of UPDATE and DELETE (chapter 4.10). */
 final class ChangePlanner {
+    private final UnitModel unit;
     private final String text;
     private final Planner planner;
     private final BlockWriter writer;
     private final Blocks blocks;
 
     ChangePlanner(UnitModel unit, String text, Planner planner) {
+        this.unit = unit;
         this.text = text;
         this.planner = planner;
-        this.writer = new BlockWriter(unit);
+        this.writer = new BlockWriter(unit, false);
         this.blocks = new Blocks(text);
     }
 
     ChangePlan plan(Statement statement) {
         if (statement instanceof Delete delete) {
-            String range = range(delete.range());
-            Text where = where(delete.where());
-            return new ChangePlan(Text.of("DELETE FROM " + range).add(where), null, planner.asked(blocks.asked()),
-                    RowsGone.of(delete.range().variable().entity, writer.names.of(delete.range().variable()), where));
+            return plan(delete.range(), delete.where(), deleting(delete.range()));
         }
         Update update = (Update) statement;
+        return plan(update.range(), update.where(), updating(update));
+    }
+
+    private ChangePlan plan(Range range, Condition where, Function<Text, Texts> of) {
+        Text kept = where(where);
+        return new ChangePlan(kept == null ? null : of.apply(kept), kept == null ? byKeys(range, where, of) : null,
+                new Inexact.Instead<>(() -> byKeys(range, where, of)), planner.asked(blocks.asked()));
+    }
+
+    private Function<Text, Texts> deleting(Range range) {
+        String of = range(range);
+        String name = writer.names.of(range.variable());
+        EntityModel entity = range.variable().entity;
+        return where -> new Texts(Text.of("DELETE FROM " + of).add(where), null, RowsGone.of(entity, name, where),
+                UniquesMoved.of(entity, name, where, unique -> true));
+    }
+
+    private Function<Text, Texts> updating(Update update) {
         String range = range(update.range());
+        String name = writer.names.of(update.range().variable());
         List<Text> assignments = new ArrayList<>();
         List<Text> checks = new ArrayList<>();
+        Set<Object> changed = new HashSet<>();
         for (Assignment assignment : update.assignments()) {
             assignments.add(assignment(assignment, checks));
+            changed.add(changed((Reference) assignment.path()));
         }
-        Text where = where(update.where());
-        Text whole = Text.of("UPDATE " + range + " SET ").add(Text.joined(", ", assignments)).add(where);
-        Text check = null;
-        if (!checks.isEmpty()) {
-            String name = writer.names.of(update.range().variable());
-            check = Text.of("SELECT COUNT(" + name + ") FROM " + range).add(where)
-                    .add(update.where() == null ? " WHERE (" : " AND (").add(Text.joined(" OR ", checks)).add(")");
-        }
-        return new ChangePlan(whole, check, planner.asked(blocks.asked()), List.of());
+        Text set = Text.joined(", ", assignments);
+        Text beyond = checks.isEmpty() ? null : Text.joined(" OR ", checks);
+        return where -> new Texts(Text.of("UPDATE " + range + " SET ").add(set).add(where),
+                beyond == null ? null : Text.of("SELECT COUNT(" + name + ") FROM " + range).add(where)
+                        .add(where.isEmpty() ? " WHERE (" : " AND (").add(beyond).add(")"), List.of(),
+                UniquesMoved.of(update.range().variable().entity, name, where, unique -> unique.parts().stream()
+                        .anyMatch(part -> changed.contains(part.attribute()) || changed.contains(part.relation()))));
+    }
+
+    /** What an assignment changes: an attribute, or the relation at the end of its path. */
+    private static Object changed(Reference path) {
+        return path.attribute() != null ? path.attribute() : path.steps().get(path.steps().size() - 1);
     }
 
     private String range(Range range) {
         return range.variable().entity.mappedName() + " " + writer.names.of(range.variable());
     }
 
+    /** WHERE in the program's words; null where it can't say it. */
     private Text where(Condition where) {
         if (where == null) {
             return new Text();
         }
+        try {
+            where(where, new Blocks(text), new BlockWriter(unit, false));
+        } catch (NotKept e) {
+            return null;
+        } catch (QueryFault e) {
+            if (e.isRefusal()) {
+                return null;
+            }
+            throw e;
+        }
+        return where(where, blocks, writer);
+    }
+
+    private Text where(Condition where, Blocks blocks, BlockWriter writer) {
         Condition lowered = new Joins(text, true).condition(blocks.filter(new WholeKeys().condition(
                 new Treats(text).filter(new Negation().condition(where)))));
-        try {
-            return Text.of(" WHERE ").add(writer.conditions.condition(lowered));
-        } catch (NotKept e) {
-            throw QueryFault.refusal(text, e.at, e.getMessage()
-                    + "; in UPDATE and DELETE the door decides no condition: "
-                    + "select the objects, and change or remove them");
+        return Text.of(" WHERE ").add(writer.conditions.condition(lowered));
+    }
+
+    /** The keys of those for which WHERE is true are asked for, by a SELECT with what the door decides. */
+    private ByKeys byKeys(Range range, Condition where, Function<Text, Texts> of) {
+        List<Attribute> parts = range.variable().entity.key().parts();
+        List<Item> items = new ArrayList<>();
+        List<String> paths = new ArrayList<>();
+        for (Attribute part : parts) {
+            Reference path = new Reference(range.at(), range.variable(), List.of(), part, false);
+            items.add(new Item(path, null));
+            paths.add(writer.values.path(path));
         }
+        SelectPlan keys = planner.select(new Select(range.at(), false, items, List.of(range), where, List.of(), null,
+                List.of()));
+        return new ByKeys(keys, parts, paths, of);
     }
 
     private Text assignment(Assignment assignment, List<Text> checks) {
@@ -91,9 +147,20 @@ final class ChangePlanner {
         if (Binding.isConstant(value)) {
             return to.add(constant(path, value));
         }
-        Written written = writer.values.in(value, unit);
+        Written written = writer.values.in(unit instanceof Unit.Whole ? decimal(value) : value, unit);
         check(path, value, written, checks);
         return to.add(written.text());
+    }
+
+    /** With literals as the decimals that stand there, since a decimal or a whole number is set. */
+    private static Value decimal(Value value) {
+        return new Rewriting() {
+            @Override
+            Value value(Value part) {
+                return part instanceof Literal literal && literal.value() instanceof Number number
+                        ? new Literal(part.at(), Conversions.decimal(number)) : valueWithin(part);
+            }
+        }.value(value);
     }
 
     /** A constant as the attribute's codec keeps it. */

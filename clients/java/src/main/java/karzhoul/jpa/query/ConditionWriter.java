@@ -84,14 +84,14 @@ final class ConditionWriter {
     private Text compared(Compare compare) {
         boolean isLeft = Binding.isConstant(compare.left());
         boolean isRight = Binding.isConstant(compare.right());
-        if (isLeft && !isRight) {
+        if (!isRight && (isLeft || Leaves.isFixed(compare.left()) && !Leaves.isFixed(compare.right()))) {
             return compared(new Compare(compare.at(), turned(compare.sign()), compare.right(), compare.left()));
         }
         Written left = isLeft && isRight ? firstOfTwo(compare) : values.value(compare.left());
         if (left.unit() instanceof Whole whole && isRight) {
             return bounded(compare, left, whole);
         }
-        Written right = isRight ? values.in(compare.right(), left.unit()) : values.value(compare.right());
+        Written right = isRight ? values.in(compare.right(), left.unit()) : values.beside(compare.right(), left.unit());
         if (left.unit() instanceof Whole && right.unit() instanceof Whole) {
             Written[] both = ValueWriter.aligned(left, right);
             left = both[0];
@@ -180,74 +180,86 @@ final class ConditionWriter {
     private Text among(In in) {
         Written value = values.value(in.value());
         List<Text> all = new ArrayList<>();
+        boolean isKnown = true;
         for (Value item : in.values()) {
-            if (value.unit() instanceof Whole whole && item instanceof Literal literal
-                    && !Decimals.isExact(Decimals.decimal(literal.value()), whole.scale())) {
-                continue;
+            if (!(value.unit() instanceof Whole whole) || !Binding.isConstant(item)) {
+                all.add(values.in(item, value.unit()).within(0));
+            } else if (!(item instanceof Literal literal)) {
+                isKnown = false;
+                all.add(listed(item, whole));
+            } else if (Decimals.isExact(Decimals.decimal(literal.value()), whole.scale())) {
+                all.add(values.in(item, whole).within(0));
             }
-            all.add(values.in(item, value.unit()).within(0));
         }
-        if (all.isEmpty()) {
-            Text text = value.within(0);
-            return new Text().add((binding, out) -> {
-                String written = text.written(binding);
-                out.append(in.isNot() ? written + " IS NOT NULL" : never(written));
-            });
+        Text left = value.within(0);
+        if (isKnown && !all.isEmpty()) {
+            return new Text().add(left).add(in.isNot() ? " NOT IN (" : " IN (").add(Text.joined(", ", all)).add(")");
         }
-        return new Text().add(value.within(0)).add(in.isNot() ? " NOT IN (" : " IN (")
-                .add(Text.joined(", ", all)).add(")");
+        return new Text().add((binding, out) -> {
+            String written = left.written(binding);
+            String items = String.join(", ", all.stream().map(item -> item.written(binding))
+                    .filter(item -> !item.isEmpty()).toList());
+            out.append(!items.isEmpty() ? written + (in.isNot() ? " NOT IN (" : " IN (") + items + ")"
+                    : in.isNot() ? written + " IS NOT NULL" : never(written));
+        });
+    }
+
+    /** A parameter among the items of IN as a whole number; nothing where it lies between two of them. */
+    private static Text listed(Value item, Whole whole) {
+        return new Text().add((binding, out) -> {
+            Object value = binding.constant(item);
+            BigDecimal number = value == null ? null : number(item, value);
+            if (number == null || Decimals.isExact(number, whole.scale())) {
+                out.append(binding.parameter(number == null ? null : Decimals.exact(number, whole.scale())));
+            }
+        });
     }
 
     private Text amongAll(InParameter in) {
         Written value = values.value(in.value());
         Text left = value.within(0);
         return new Text().add((binding, text) -> {
-            Set<String> all = new LinkedHashSet<>();
+            Set<Object> all = new LinkedHashSet<>();
             boolean isInexact = false;
             for (Object one : list(binding, in.list())) {
-                String written = listed(binding, in.list(), one, value.unit());
-                isInexact |= written == null;
-                if (written != null) {
-                    all.add(written);
+                Object column = one == null ? null : listed(binding, in.list(), one, value.unit());
+                isInexact |= one != null && column == null;
+                if (one == null || column != null) {
+                    all.add(column);
                 }
             }
             String written = left.written(binding);
-            if (!all.isEmpty()) {
-                text.append(written).append(in.isNot() ? " NOT IN (" : " IN (")
-                        .append(String.join(", ", all)).append(')');
-            } else if (in.isNot()) {
-                text.append(isInexact ? written + " IS NOT NULL"
-                        : "(" + written + " IS NULL OR " + written + " IS NOT NULL)");
-            } else {
-                text.append(never(written));
-            }
+            // what is equal to none of them is unknown for null, and NOT IN of nothing is true
+            text.append(all.isEmpty() && isInexact && in.isNot() ? written + " IS NOT NULL"
+                    : among(binding, written, in.isNot(), all));
         });
     }
 
-    /** An element of a list as it is written; null where no value of the unit is equal to it. */
-    private static String listed(Binding binding, Parameter list, Object one, Unit unit) {
-        Object column = one == null ? null : column(binding, list, one, unit);
-        if (one == null) {
-            return binding.parameter(null);
-        } else if (unit instanceof Unit.Thing) {
-            return binding.parameter(binding.thing(list, one));
-        }
-        return column == null ? null : binding.written(column);
+    /** IN of a list; of one with more values than the program takes in one, IN of each part. */
+    static String among(Binding binding, String written, boolean isNot, Collection<Object> all) {
+        List<String> tests = binding.lists(all).stream().map(list -> written + (isNot ? " NOT IN " : " IN ") + list)
+                .toList();
+        return tests.size() == 1 ? tests.get(0) : "(" + String.join(isNot ? " AND " : " OR ", tests) + ")";
+    }
+
+    /** An element of a list as the program has it; null where no value of the unit is equal to it. */
+    private static Object listed(Binding binding, Parameter list, Object one, Unit unit) {
+        return unit instanceof Unit.Thing ? binding.thing(list, one) : column(binding, list, one, unit);
     }
 
     /** What the program has of an element, the number of an object; null where no value of the unit is equal to it. */
-    static Object column(Binding binding, Parameter list, Object one, Unit unit) {
+    static Object column(Binding binding, Value source, Object one, Unit unit) {
         if (unit instanceof Unit.Thing) {
-            return binding.thing(list, one).number();
+            return binding.thing(source, one).number();
         } else if (unit instanceof Whole whole) {
-            BigDecimal number = number(list, one);
+            BigDecimal number = number(source, one);
             return Decimals.isExact(number, whole.scale()) ? Decimals.exact(number, whole.scale()) : null;
         } else if (unit instanceof Unit.Kept kept) {
-            return binding.kept(kept.codec(), list, one);
+            return binding.kept(kept.codec(), source, one);
         } else if (one instanceof String || one instanceof Character) {
             return one.toString();
         }
-        throw new IllegalArgumentException("the parameter " + list + ": a text is expected, and " + one + " is of "
+        throw new IllegalArgumentException("the parameter " + source + ": a text is expected, and " + one + " is of "
                 + one.getClass().getName());
     }
 
@@ -273,9 +285,7 @@ final class ConditionWriter {
             }
             text.add((binding, out) -> {
                 String one = String.valueOf(binding.constant(escape));
-                if (one.codePointCount(0, one.length()) != 1) {
-                    throw new IllegalArgumentException("ESCAPE takes one character, and is given \"" + one + "\"");
-                }
+                Functions.checkOne("ESCAPE takes", one);
                 out.append(" ESCAPE '").append(one.replace("'", "''")).append('\'');
             });
         }

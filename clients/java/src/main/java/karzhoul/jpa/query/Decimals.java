@@ -15,12 +15,14 @@ final class Decimals {
      * @throws IllegalArgumentException where it is no number, has more places, or is beyond 64 bits
      */
     static Long exact(Object value, int scale) {
-        try {
-            return near(decimal(value)).setScale(scale, RoundingMode.UNNECESSARY).unscaledValue().longValueExact();
-        } catch (ArithmeticException e) {
-            throw new IllegalArgumentException(value + " isn't among the numbers beside it, of " + scale
-                    + " decimal places and 64 bits", e);
+        BigDecimal number = near(decimal(value));
+        if (number.stripTrailingZeros().scale() > scale) {
+            throw new IllegalArgumentException(scale == 0 ? value + " is no whole number, as is computed with there"
+                    : value + " has more than the " + scale + " decimal places that are computed with there");
+        } else if (!isWithin(number, scale)) {
+            throw new IllegalArgumentException(value + " with " + scale + " decimal places is beyond 64 bits");
         }
+        return number.setScale(scale, RoundingMode.UNNECESSARY).unscaledValue().longValueExact();
     }
 
     /** The number itself. */

@@ -134,7 +134,7 @@ final class Evaluator {
         return at;
     }
 
-    private static Object decoded(Leaves.Column column, Object raw) {
+    static Object decoded(Leaves.Column column, Object raw) {
         try {
             return column.unit().decoded(raw, column.type());
         } catch (ArithmeticException e) {
@@ -153,9 +153,10 @@ final class Evaluator {
         } else if (value instanceof Call of) {
             List<Object> given = new ArrayList<>();
             of.arguments().forEach(argument -> given.add(value(argument, frame)));
-            return Functions.call(of.function(), given);
+            return of.function() == Function.COALESCE ? joined(of, Functions.call(of.function(), given))
+                    : Functions.call(of.function(), given);
         } else if (value instanceof Case of) {
-            return choice(of, frame);
+            return joined(of, choice(of, frame));
         } else if (value instanceof Average of) {
             Number count = (Number) value(of.count(), frame);
             return count == null || count.longValue() == 0 ? null
@@ -171,6 +172,15 @@ final class Evaluator {
             return of.entity().javaClass();
         }
         throw new IllegalStateException("no way to compute " + value);
+    }
+
+    /** The number of one branch as one of the type that holds those of all, whichever a row has. */
+    private static Object joined(Value of, Object chosen) {
+        try {
+            return Types.of(of).isNumber() ? Conversions.to(Types.of(of).java(), chosen) : chosen;
+        } catch (IllegalArgumentException e) {
+            throw new IllegalArgumentException(ValueWriter.told(of) + ": " + e.getMessage(), e);
+        }
     }
 
     private Object choice(Case of, Frame frame) {

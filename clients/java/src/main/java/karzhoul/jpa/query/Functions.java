@@ -79,9 +79,7 @@ final class Functions {
     }
 
     private static String trim(String side, String character, String text) {
-        if (character.codePointCount(0, character.length()) != 1) {
-            throw new IllegalArgumentException("TRIM takes off one character, and is given \"" + character + "\"");
-        }
+        checkOne("TRIM takes off", character);
         int from = 0;
         int end = text.length();
         while (!side.equals("TRAILING") && text.startsWith(character, from) && from < end) {
@@ -92,6 +90,14 @@ final class Functions {
             end -= character.length();
         }
         return text.substring(from, end);
+    }
+
+    /** Refuses what is given and isn't one character (chapters 4.6.10 and 4.7.2). */
+    static void checkOne(String what, Object given) {
+        String text = String.valueOf(given);
+        if (given != null && text.codePointCount(0, text.length()) != 1) {
+            throw new IllegalArgumentException(what + " one character, and is given \"" + text + "\"");
+        }
     }
 
     // ---- numbers

@@ -107,7 +107,7 @@ final class Joins extends Rewriting {
     }
 
     private static boolean isComputedByDoor(Value value) {
-        return value instanceof Case || value instanceof Call call && !call.function().isKept
+        return value instanceof Case || value instanceof Call call && !call.function().isKept()
                 || value instanceof Arithmetic arithmetic && arithmetic.sign() == '/';
     }
 

@@ -46,6 +46,14 @@ final class Leaves {
         return places.get(value);
     }
 
+    /** The column of a value that is no path, which gets one where the program can say it; else null. */
+    Integer placeOfWhole(Value value) {
+        if (!places.containsKey(value) && !(value instanceof Reference) && !Binding.isConstant(value)) {
+            addWhole(value);
+        }
+        return places.get(value);
+    }
+
     /** The question of a block that is asked for each row. */
     RowBlocks.Block block(Select select) {
         return blocks.get(select);
@@ -106,7 +114,7 @@ final class Leaves {
     }
 
     /** Whether no path and no aggregate stands in it. */
-    private static boolean isFixed(Value value) {
+    static boolean isFixed(Value value) {
         return !Visiting.has(value, part -> part instanceof Reference || part instanceof Aggregate);
     }
 

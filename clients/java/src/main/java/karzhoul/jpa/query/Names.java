@@ -9,16 +9,10 @@ import karzhoul.jpa.query.Tree.Variable;
 
 /** The names of variables in the program's text: those of the query where they can stand there, each once. */
 final class Names {
-    private static final Set<String> KEYWORDS = Set.of("select", "distinct", "from", "where", "group", "by",
-            "having", "order", "as", "inner", "left", "outer", "join", "on", "asc", "desc", "update", "set",
-            "null", "delete", "or", "and", "not", "between", "in", "like", "escape", "is", "empty", "member",
-            "of", "exists", "type", "length", "concat", "substring", "locate", "abs", "mod", "size",
-            "coalesce", "nullif", "count", "sum", "min", "max", "upper", "lower", "trim", "leading",
-            "trailing", "both", "case", "when", "then", "else", "end", "all", "any", "some");
     private static final int LONGEST = 24;
 
     private final Map<Variable, String> given = new IdentityHashMap<>();
-    private final Set<String> taken = new HashSet<>(KEYWORDS);
+    private final Set<String> taken = new HashSet<>(Grammar.PROGRAM.keywords());
 
     String of(Variable variable) {
         return given.computeIfAbsent(variable, v -> fresh(v.name));

@@ -20,6 +20,8 @@ final class Numbers {
         try {
             if (java == Double.class) {
                 return doubles(sign, a.doubleValue(), b.doubleValue());
+            } else if (java == Float.class) {
+                return doubles(sign, a.floatValue(), b.floatValue()).floatValue();
             } else if (java == BigDecimal.class) {
                 return decimals(sign, Conversions.decimal(a), Conversions.decimal(b));
             } else if (java == BigInteger.class) {

@@ -9,7 +9,6 @@ import karzhoul.jpa.query.Tree.Asked;
 import karzhoul.jpa.query.Tree.ByRows;
 import karzhoul.jpa.query.Tree.Condition;
 import karzhoul.jpa.query.Tree.Delete;
-import karzhoul.jpa.query.Tree.InParameter;
 import karzhoul.jpa.query.Tree.Item;
 import karzhoul.jpa.query.Tree.ItemName;
 import karzhoul.jpa.query.Tree.Key;
@@ -24,15 +23,14 @@ import karzhoul.jpa.query.Tree.Value;
  * program can say as its text, and the rest of a SELECT by the door.
  */
 final class Planner {
-    private static final int MOST_VARIABLES = 8;
-    private static final int MOST_PARENTHESES = 32;
-
     private final UnitModel unit;
     private final String text;
+    private final boolean isExact;
 
-    private Planner(UnitModel unit, String text) {
+    private Planner(UnitModel unit, String text, boolean isExact) {
         this.unit = unit;
         this.text = text;
+        this.isExact = isExact;
     }
 
     /**
@@ -41,7 +39,7 @@ final class Planner {
      * @throws QueryFault where it can't be answered as the standard says
      */
     static Plan plan(UnitModel unit, String text, Statement statement) {
-        Planner planner = new Planner(unit, text);
+        Planner planner = new Planner(unit, text, false);
         try {
             if (statement instanceof Select select) {
                 return planner.select(select);
@@ -62,30 +60,23 @@ final class Planner {
 
     /** A SELECT, or a block that is a question of its own. */
     SelectPlan select(Select typed) {
-        SelectPlan withoutLists = null;
-        if (Planner.conjuncts(typed.where()).stream().anyMatch(Planner::isList)) {
-            withoutLists = select(typed, Planner::isList, null);
-        }
-        return select(typed, test -> false, withoutLists);
+        return select(typed, test -> false);
     }
 
     /** A SELECT in which the door decides these tests of WHERE, whether the program could or not. */
     static SelectPlan select(UnitModel unit, String text, Select typed, Predicate<Condition> byDoor) {
-        return new Planner(unit, text).select(typed, byDoor, null);
+        return new Planner(unit, text, false).select(typed, byDoor);
     }
 
-    private static boolean isList(Condition condition) {
-        return condition instanceof InParameter;
-    }
-
-    private SelectPlan select(Select typed, Predicate<Condition> byDoor, SelectPlan withoutLists) {
+    private SelectPlan select(Select typed, Predicate<Condition> byDoor) {
         Fetches.Split split = Fetches.of(text, typed);
         Blocks blocks = new Blocks(text);
         Select decided = byRows(new WholeKeys().select(new Treats(text).select(new Negation().select(split.select()))));
         Select lowered = blocks.select(decided);
         lowered = new Averages().select(new Joins(text, false).select(lowered));
-        Parts parts = new Parts(lowered, asked(blocks.asked()), split.fetches(), withoutLists);
-        BlockWriter writer = new BlockWriter(unit);
+        Parts parts = new Parts(lowered, asked(blocks.asked()), split.fetches(),
+                new Inexact.Instead<>(() -> new Planner(unit, text, true).select(typed, byDoor)));
+        BlockWriter writer = new BlockWriter(unit, isExact);
         Text from = writer.from(lowered.sources());
         List<Text> kept = new ArrayList<>();
         List<Condition> filters = new ArrayList<>();
@@ -141,7 +132,7 @@ final class Planner {
             Blocks blocks = new Blocks(text);
             Select alone = new Joins(text, false).select(blocks.select(new Select(select.at(), false, List.of(),
                     select.sources(), where, select.groups(), having, List.of())));
-            BlockWriter writer = new BlockWriter(unit);
+            BlockWriter writer = new BlockWriter(unit, isExact);
             writer.from(alone.sources());
             conjuncts(alone.where()).forEach(writer.conditions::condition);
             return true;
@@ -156,9 +147,9 @@ final class Planner {
     }
 
     /** What all plans of one SELECT share. */
-    private record Parts(Select select, List<SelectPlan> asked, List<Fetches.Fetch> fetches, SelectPlan withoutLists) {
+    private record Parts(Select select, List<SelectPlan> asked, List<Fetches.Fetch> fetches, Inexact.Instead<SelectPlan> instead) {
         Parts with(Select other) {
-            return new Parts(other, asked, fetches, withoutLists);
+            return new Parts(other, asked, fetches, instead);
         }
     }
 
@@ -167,10 +158,11 @@ final class Planner {
     }
 
     void checkVariables(Select select, Names names) {
-        if (names.count() > MOST_VARIABLES) {
+        int most = Grammar.PROGRAM.variables();
+        if (names.count() > most) {
             throw QueryFault.refusal(text, select.at(), "the statement takes " + names.count()
                     + " variables, those of its "
-                    + "subqueries and of its joins over several steps too, and there are at most " + MOST_VARIABLES);
+                    + "subqueries and of its joins over several steps too, and there are at most " + most);
         }
     }
 
@@ -181,9 +173,10 @@ final class Planner {
             depth += c == '(' ? 1 : c == ')' ? -1 : 0;
             deepest = Math.max(deepest, depth);
         }
-        if (deepest > MOST_PARENTHESES) {
+        int most = Grammar.PROGRAM.parentheses();
+        if (deepest > most) {
             throw QueryFault.refusal(text, select.at(), "the statement takes " + deepest + " parentheses within one "
-                    + "another, and there are at most " + MOST_PARENTHESES);
+                    + "another, and there are at most " + most);
         }
     }
 
@@ -294,7 +287,7 @@ final class Planner {
 
         private Text key(Leaves leaves, Value value) {
             Value sorted = value instanceof ItemName name ? select.items().get(name.place()).value() : value;
-            Integer place = leaves.place(sorted);
+            Integer place = select.isDistinct() ? leaves.place(sorted) : leaves.placeOfWhole(sorted);
             if (place != null) {
                 return Text.of("c" + place);
             }
@@ -330,7 +323,7 @@ final class Planner {
             }
             return new SelectPlan(whole, leaves, select.items(), filters, groups, having,
                     select.isDistinct() && !isDistinctByProgram, sorted, parts.asked(), parts.fetches(),
-                    parts.withoutLists(), Blocks.isOneRow(select));
+                    Blocks.isOneRow(select), OneByKey.of(select), parts.instead());
         }
 
         /** The keys by which the door sorts. */

@@ -1,17 +1,24 @@
 package karzhoul.jpa.query;
 
+import java.util.AbstractMap;
 import java.util.ArrayList;
 import java.util.HashSet;
+import java.util.IdentityHashMap;
 import java.util.List;
+import java.util.Map;
 import java.util.Optional;
 import java.util.Set;
 import karzhoul.jpa.model.Attribute;
 import karzhoul.jpa.model.Elements;
 import karzhoul.jpa.model.EntityModel;
+import karzhoul.jpa.model.KeyModel;
+import karzhoul.jpa.model.Relation;
 import karzhoul.jpa.model.UnitModel;
+import karzhoul.jpa.query.Tree.Aggregate;
 import karzhoul.jpa.query.Tree.Assignment;
 import karzhoul.jpa.query.Tree.Compare;
 import karzhoul.jpa.query.Tree.Condition;
+import karzhoul.jpa.query.Tree.Construct;
 import karzhoul.jpa.query.Tree.Delete;
 import karzhoul.jpa.query.Tree.Derived;
 import karzhoul.jpa.query.Tree.Downcast;
@@ -44,6 +51,7 @@ final class Resolver extends Rewriting {
     private final String text;
     private final Paths paths;
     private final List<Downcast> downcasts = new ArrayList<>();
+    private final Map<Variable, Relation> along = new IdentityHashMap<>();
     private Scope scope;
     /** The variable of an UPDATE or DELETE that may be left out before a path. */
     private Variable implied;
@@ -95,10 +103,27 @@ final class Resolver extends Rewriting {
     @Override
     Select select(Select select) {
         scope = new Scope(scope);
-        Select found = selectWithin(select.order().isEmpty() ? select : named(select));
+        Select found = selectWithin(entries(select.order().isEmpty() ? select : named(select)));
         checkNames(select);
         scope = scope.outer;
-        return found;
+        return TreatedRanges.inClauses(found);
+    }
+
+    /** With objects of a key and a value in the places of ENTRY, which stands in SELECT alone (chapter 4.8). */
+    private static Select entries(Select select) {
+        return new Select(select.at(), select.isDistinct(), each(select.items(), Resolver::entry), select.sources(),
+                select.where(), select.groups(), select.having(), select.order());
+    }
+
+    private static Item entry(Item item) {
+        if (!(item.value() instanceof MapPart part) || !part.part().equals("ENTRY")) {
+            return item;
+        }
+        List<Item> parts = new ArrayList<>();
+        for (String name : List.of("KEY", "VALUE")) {
+            parts.add(new Item(new MapPart(part.at(), name, part.variable(), part.names()), null));
+        }
+        return new Item(new Construct(part.at(), AbstractMap.SimpleImmutableEntry.class.getName(), parts), item.name());
     }
 
     private void checkNames(Select select) {
@@ -147,18 +172,21 @@ final class Resolver extends Rewriting {
                         + "\" is joined: JOIN " + path);
             }
             Variable variable = declared(derived.at(), derived.name(), treatedEntity(derived.path(), path));
+            along.put(variable, last(path));
             return new Derived(derived.at(), derived.isMember(), path, derived.name(), variable);
         }
         Join join = (Join) source;
         Reference path = related(treatedPath(join.path()));
         EntityModel entity = treatedEntity(join.path(), path);
-        if (join.isFetch() && entity != path.entity()) {
-            throw QueryFault.refusal(text, join.at(), "a fetch join of TREAT isn't served: it reads the whole relation");
-        }
         Variable variable = join.name() == null ? new Variable("fetched", entity)
                 : declared(join.at(), join.name(), entity);
+        along.put(variable, last(path));
         return new Join(join.at(), join.isLeft(), join.isFetch(), path, join.name(), variable,
                 conditionOrNull(join.on()));
+    }
+
+    private static Relation last(Reference path) {
+        return path.steps().get(path.steps().size() - 1);
     }
 
     /** The path that a join of TREAT is along. */
@@ -216,10 +244,22 @@ final class Resolver extends Rewriting {
         if (value instanceof Treated treated) {
             return downcast(treated);
         }
-        return valueWithin(value);
+        Value within = valueWithin(value);
+        return within instanceof Aggregate of && of.kind() == Aggregate.Kind.COUNT
+                && of.operand() instanceof Embedded whole && whole.isElement() ? counted(of, whole) : within;
     }
 
-    /** KEY, VALUE and INDEX of a variable along a collection of values (chapters 4.4.2.1 and 4.6.17.2.2). */
+    /** COUNT of embeddables of a collection counts their rows; what of them is distinct isn't asked (chapter 4.8.5). */
+    private Value counted(Aggregate count, Embedded whole) {
+        if (count.isDistinct()) {
+            throw QueryFault.refusal(text, whole.at(), "COUNT(DISTINCT " + whole + ") isn't served: \"" + whole
+                    + "\" is an embeddable, of which the standard has no DISTINCT in COUNT; count an attribute of it");
+        }
+        return new Aggregate(count.at(), count.kind(), false,
+                new Reference(whole.at(), whole.parts().get(0).variable(), List.of(), null, false));
+    }
+
+    /** KEY, VALUE and INDEX of a variable along a collection (chapters 4.4.2.1 and 4.6.17.2.2). */
     private Value mapPart(MapPart part) {
         List<String> names = new ArrayList<>(List.of(part.variable()));
         names.addAll(part.names());
@@ -236,11 +276,33 @@ final class Resolver extends Rewriting {
         if (asked.isPresent() && part.names().isEmpty()) {
             return new Reference(part.at(), variable, List.of(), asked.get(), false);
         }
-        throw part.part().equals("ENTRY") ? QueryFault.refusal(text, part.at(),
-                "ENTRY isn't served; ask for KEY(" + part.variable() + ") and VALUE(" + part.variable() + ")")
-                : QueryFault.at(text, part.at(), part.part() + " takes a variable along "
-                        + (part.part().equals("KEY") ? "a Map of values; of a map of entities ask for the attribute that @MapKey names" : "a List of values with @OrderColumn")
-                        + ", and \"" + part.variable() + "\" is of " + variable.entity.name());
+        Optional<String> mapKey = part.part().equals("KEY") && along.containsKey(variable) ? along.get(variable).mapKey()
+                : Optional.empty();
+        if (mapKey.isPresent()) {
+            return keyOf(part, variable, mapKey.get());
+        }
+        throw QueryFault.at(text, part.at(), switch (part.part()) {
+            case "ENTRY" -> "ENTRY is an item of SELECT, and stands nowhere else";
+            case "KEY" -> "KEY takes a variable along a Map, and \"" + part.variable() + "\" is of " + variable.entity.name();
+            default -> "INDEX takes a variable along a List of values with @OrderColumn, and \"" + part.variable()
+                    + "\" is of " + variable.entity.name();
+        });
+    }
+
+    /** The key of a map of entities, which is an attribute of a member or its own key. */
+    private Value keyOf(MapPart part, Variable variable, String attribute) {
+        KeyModel key = variable.entity.key();
+        boolean isWhole = attribute.isEmpty() && key.embedded().isEmpty() && key.parts().size() > 1;
+        if (isWhole && part.names().isEmpty()) {
+            return new Reference(part.at(), variable, List.of(), null, true);
+        }
+        List<String> names = new ArrayList<>();
+        if (!isWhole) {
+            String own = key.embedded().orElseGet(() -> key.parts().get(0).path());
+            names.addAll(List.of((attribute.isEmpty() ? own : attribute).split("[.]")));
+        }
+        names.addAll(part.names());
+        return path(part.at(), variable, names);
     }
 
     @Override

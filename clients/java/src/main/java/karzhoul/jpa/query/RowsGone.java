@@ -2,19 +2,17 @@ package karzhoul.jpa.query;
 
 import java.util.ArrayList;
 import java.util.List;
-import java.util.stream.Collectors;
 import karzhoul.jpa.model.EntityModel;
 import karzhoul.jpa.model.Relation;
 
 /**
  * The rows of one collection of values, which go with what a DELETE deletes.
  *
+ * @param entity of which the rows are
  * @param keys a SELECT of the keys of those that will go
- * @param delete the beginning of what deletes some, up to their keys
+ * @param delete what deletes some, up to their key
  */
-record RowsGone(Text keys, String delete) {
-    private static final int MOST_KEYS = 500;
-
+record RowsGone(EntityModel entity, Text keys, String delete) {
     /**
      * Those of an entity and of the entities below it.
      *
@@ -37,9 +35,9 @@ record RowsGone(Text keys, String delete) {
     private static RowsGone of(EntityModel entity, Relation relation, String name, Text where) {
         String key = relation.target().key().parts().get(0).member();
         String row = "row_of_" + name;
-        return new RowsGone(Text.of("SELECT " + row + "." + key + " FROM " + entity.mappedName() + " " + name + " JOIN " + name
+        return new RowsGone(relation.target(), Text.of("SELECT " + row + "." + key + " FROM " + entity.mappedName() + " " + name + " JOIN " + name
                 + "." + relation.member() + " " + row).add(where),
-                "DELETE FROM " + relation.target().mappedName() + " r WHERE r." + key + " IN ");
+                "DELETE FROM " + relation.target().mappedName() + " r WHERE r." + key);
     }
 
     /** The keys of those that will go. */
@@ -52,10 +50,11 @@ record RowsGone(Text keys, String delete) {
     }
 
     void delete(Binding binding, List<Object> found) {
-        for (int from = 0; from < found.size(); from += MOST_KEYS) {
-            List<Object> some = found.subList(from, Math.min(found.size(), from + MOST_KEYS));
-            binding.asking.update(delete + some.stream().map(Object::toString).collect(Collectors.joining(", ", "(", ")")),
-                    List.of());
+        int most = Grammar.PROGRAM.list();
+        for (int from = 0; from < found.size(); from += most) {
+            binding.clear();
+            String some = ConditionWriter.among(binding, delete, false, found.subList(from, Math.min(found.size(), from + most)));
+            binding.asking.update(some, binding.parameters());
         }
     }
 }

@@ -31,15 +31,13 @@ import karzhoul.jpa.query.Tree.Value;
  * @param order by what it sorts; empty where it doesn't
  * @param asked the blocks that are asked before, by their numbers
  * @param fetches what is read of the results' instances
- * @param withoutLists how it is answered where its lists make the text too long; null where no list stands in WHERE
  * @param isOne whether it has one row at most
+ * @param byKey what it asks where that is one entity by its key; else null
+ * @param instead the plan for parameters that the program has no equal of
  */
 record SelectPlan(Text text, Leaves leaves, List<Item> items, List<Condition> filters, List<Value> groups,
         Condition having, boolean isDistinct, List<Sorted> order, List<SelectPlan> asked,
-        List<Fetches.Fetch> fetches, SelectPlan withoutLists, boolean isOne) implements Plan {
-    /** The most bytes of a text; a parameter's name has one for each letter. */
-    static final int LONGEST = 16_384;
-
+        List<Fetches.Fetch> fetches, boolean isOne, OneByKey byKey, Inexact.Instead<SelectPlan> instead) implements Plan {
     /** A key by which the door sorts. */
     record Sorted(Value value, boolean isDescending) {}
 
@@ -66,14 +64,57 @@ record SelectPlan(Text text, Leaves leaves, List<Item> items, List<Condition> fi
 
     /** The rows: a value for each item, an object of NEW for each argument of it in its place. */
     List<Object[]> rows(Binding binding, Integer first, Integer max) {
-        return instances(binding, computed(binding, first, max).stream().map(Row::items).toList());
+        try {
+            return asPlanned(binding, first, max);
+        } catch (Inexact e) {
+            return instead.of(e).rows(binding, first, max);
+        }
+    }
+
+    private List<Object[]> asPlanned(Binding binding, Integer first, Integer max) {
+        answerBlocks(binding);
+        if (!areItemsColumns()) {
+            return instances(binding, computed(binding, first, max).stream().map(Row::items).toList());
+        }
+        List<Object[]> rows = found(binding, first, max);
+        for (Object[] row : rows) {
+            for (int place = 0; place < row.length; place++) {
+                row[place] = Evaluator.decoded(leaves.columns().get(place), row[place]);
+            }
+        }
+        return instances(binding, rows);
+    }
+
+    /** Whether a row of the program is one of the query's: nothing is left out of it, put together or computed. */
+    private boolean areItemsColumns() {
+        boolean isSame = isCutByProgram() && leaves.columns().size() == items.size();
+        for (int place = 0; isSame && place < items.size(); place++) {
+            Integer column = leaves.place(items.get(place).value());
+            isSame = column != null && column == place;
+        }
+        return isSame;
+    }
+
+    private void answerBlocks(Binding binding) {
+        for (int number = 0; number < asked.size(); number++) {
+            binding.answer(number, asked.get(number).single(binding));
+        }
     }
 
     /** What a block of one item answers; objects stay as the program names them. */
     List<Answer> answers(Binding binding, Integer max) {
+        try {
+            return answered(binding, max);
+        } catch (Inexact e) {
+            return instead.of(e).answers(binding, max);
+        }
+    }
+
+    private List<Answer> answered(Binding binding, Integer max) {
         Value item = items.get(0).value();
         Integer place = leaves.place(item);
         List<Answer> answers = new ArrayList<>();
+        answerBlocks(binding);
         for (Row row : computed(binding, null, max)) {
             boolean isColumn = place != null && row.frame().row() != null;
             answers.add(new Answer(row.items()[0], isColumn ? row.frame().row()[place] : null));
@@ -88,23 +129,8 @@ record SelectPlan(Text text, Leaves leaves, List<Item> items, List<Condition> fi
     }
 
     private List<Row> computed(Binding binding, Integer first, Integer max) {
-        for (int number = 0; number < asked.size(); number++) {
-            binding.answer(number, asked.get(number).single(binding));
-        }
-        return answered(binding, first, max);
-    }
-
-    private List<Row> answered(Binding binding, Integer first, Integer max) {
-        binding.clear();
-        String written = text.written(binding);
-        if (written.length() > LONGEST && withoutLists != null) {
-            return withoutLists.answered(binding, first, max);
-        }
-        binding.checkLength(written);
-        binding.deadline.check();
         boolean isCut = isCutByProgram();
-        List<Object[]> found = binding.asking.rows(written, binding.parameters(), isCut ? first : null,
-                isCut ? max : null, isCut && findsOne(max));
+        List<Object[]> found = found(binding, isCut ? first : null, isCut ? max : null);
         Evaluator evaluator = new Evaluator(leaves, binding);
         List<Row> rows = new ArrayList<>();
         for (Frame frame : frames(evaluator, found)) {
@@ -115,6 +141,19 @@ record SelectPlan(Text text, Leaves leaves, List<Item> items, List<Condition> fi
             rows.sort(this::compare);
         }
         return isCut ? rows : cut(rows, first, max);
+    }
+
+    /** The program's rows. */
+    private List<Object[]> found(Binding binding, Integer first, Integer max) {
+        List<Object[]> one = byKey == null || first != null || max != null && max == 0 ? null : byKey.rows(binding);
+        if (one != null) {
+            return one;
+        }
+        binding.clear();
+        String written = text.written(binding);
+        binding.checkLength(written);
+        binding.deadline.check();
+        return binding.asking.rows(written, binding.parameters(), first, max, isCutByProgram() && findsOne(max));
     }
 
     /** The one value of a block of its own; null of no row. */
@@ -232,14 +271,16 @@ record SelectPlan(Text text, Leaves leaves, List<Item> items, List<Condition> fi
 
     /** The rows with instances in the place of objects, all of them filled in one trip. */
     private List<Object[]> instances(Binding binding, List<Object[]> rows) {
-        List<Asking.Ref> refs = new ArrayList<>();
-        for (Object[] row : rows) {
-            collect(row, refs);
-        }
-        List<Object> instances = refs.isEmpty() ? List.of() : binding.asking.instances(refs);
-        int[] next = {0};
-        for (Object[] row : rows) {
-            replace(row, instances, next);
+        if (columns() > 0) {
+            List<Asking.Ref> refs = new ArrayList<>();
+            for (Object[] row : rows) {
+                collect(row, refs);
+            }
+            List<Object> instances = refs.isEmpty() ? List.of() : binding.asking.instances(refs);
+            int[] next = {0};
+            for (Object[] row : rows) {
+                replace(row, instances, next);
+            }
         }
         fetch(binding.asking, rows);
         return rows;
@@ -275,7 +316,8 @@ record SelectPlan(Text text, Leaves leaves, List<Item> items, List<Condition> fi
             for (Relation relation : fetch.relations()) {
                 owners = asking.fetch(owners, relation);
             }
-            known.put(fetch.target(), owners);
+            Class<?> target = fetch.target().entity.javaClass();
+            known.put(fetch.target(), owners.stream().filter(target::isInstance).toList());
         }
     }
 

@@ -45,6 +45,10 @@ final class Text {
         return this;
     }
 
+    boolean isEmpty() {
+        return parts.isEmpty() && fixed.isEmpty();
+    }
+
     private void flush() {
         if (!fixed.isEmpty()) {
             parts.add(new Fixed(fixed.toString()));

@@ -1,9 +1,7 @@
 package karzhoul.jpa.query;
 
 import java.util.ArrayList;
-import java.util.IdentityHashMap;
 import java.util.List;
-import java.util.Map;
 import karzhoul.jpa.model.EntityModel;
 import karzhoul.jpa.query.Tree.And;
 import karzhoul.jpa.query.Tree.Compare;
@@ -27,7 +25,8 @@ import karzhoul.jpa.query.Tree.Variable;
 /**
  * Downcasts (chapter 4.4.9). A join of TREAT is one along the relation, and a range over the class below that is the
  * same object. A test with a TREAT asks whether there is such an object for which it is true; {@link Negation} has
- * passed before, so that for an object of another class neither the test nor its opposite is.
+ * passed before, so that for an object of another class neither the test nor its opposite is. In the other clauses there is
+ * none any more: {@link TreatedRanges} has passed.
  */
 final class Treats extends Rewriting {
     private final String text;
@@ -53,11 +52,6 @@ final class Treats extends Rewriting {
         Condition where = conditionOrNull(select.where());
         where = with(where);
         moved = outer;
-        select.items().forEach(item -> check(item.value()));
-        select.order().forEach(key -> check(key.value()));
-        if (select.having() != null && hasDowncast(select.having())) {
-            throw refused(select.having().at(), "HAVING");
-        }
         return new Select(select.at(), select.isDistinct(), each(select.items(), this::item), sources, where,
                 select.groups(), conditionOrNull(select.having()), select.order());
     }
@@ -75,22 +69,6 @@ final class Treats extends Rewriting {
         return all.size() == 1 ? all.get(0) : new And(all.get(0).at(), all);
     }
 
-    private void check(Value value) {
-        if (hasDowncast(value)) {
-            throw refused(value.at(), "SELECT and ORDER BY");
-        }
-    }
-
-    private QueryFault refused(int at, String clause) {
-        return QueryFault.refusal(text, at, "TREAT stands in FROM and WHERE, and isn't served in " + clause
-                + "; join it, as JOIN TREAT(p.relation AS Entity) v, or let a variable range over the entity, and ask"
-                + " that variable");
-    }
-
-    private static boolean hasDowncast(Value value) {
-        return Visiting.has(value, Downcast.class::isInstance);
-    }
-
     private static boolean hasDowncast(Condition condition) {
         return Visiting.has(condition, Downcast.class::isInstance);
     }
@@ -102,7 +80,8 @@ final class Treats extends Rewriting {
             Reference path = (Reference) join.path();
             if (join.variable().entity == path.entity()) {
                 if (join.on() != null && join.isLeft() && hasDowncast(join.on())) {
-                    throw refused(join.on().at(), "the ON of a LEFT JOIN");
+                    throw QueryFault.refusal(text, join.on().at(), "TREAT isn't served in the ON of a LEFT JOIN; join it, as"
+                            + " LEFT JOIN TREAT(p.relation AS Entity) v, or ask EXISTS of a variable over the entity");
                 }
                 sources.add(join.on() != null && hasDowncast(join.on()) ? withoutOn(join) : sourceWithin(join));
             } else if (join.isLeft()) {
@@ -183,7 +162,7 @@ final class Treats extends Rewriting {
         if (!isTest || !hasOwnDowncast(condition)) {
             return conditionWithin(condition);
         }
-        Ranges ranges = new Ranges();
+        TreatedRanges ranges = new TreatedRanges(this::move);
         Condition asked = conditionWithin(ranges.condition(condition));
         List<Condition> all = new ArrayList<>(ranges.same);
         all.add(asked);
@@ -211,42 +190,10 @@ final class Treats extends Rewriting {
         return isFound[0];
     }
 
-    /** Puts the paths of variables over the classes below in the places of downcasts. */
-    private final class Ranges extends Rewriting {
-        private final List<Source> sources = new ArrayList<>();
-        private final List<Condition> same = new ArrayList<>();
-        private final Map<Variable, Variable> copies = new IdentityHashMap<>();
-
-        @Override
-        Value value(Value value) {
-            if (value instanceof Downcast of) {
-                Variable below = copies.get(of.path().variable());
-                if (below == null) {
-                    below = new Variable(of.path().variable().name, of.path().variable().entity);
-                    copies.put(of.path().variable(), below);
-                    sources.add(new Range(of.at(), below.entity.name(), below.name, below));
-                    same.add(new Compare(of.at(), "=", itself(of.at(), below), of.of()));
-                    move(of.of());
-                }
-                return new Reference(of.path().at(), below, of.path().steps(), of.path().attribute(),
-                        of.path().isWholeKey());
-            } else if (value instanceof Reference path) {
-                move(path);
-            }
-            return valueWithin(value);
-        }
-
-        @Override
-        Select select(Select select) {
-            return select;
-        }
-
-        /** What goes into the block leaves a test behind, where a null link on it leaves the row out. */
-        private void move(Reference path) {
-            if (path.canDrop()) {
-                moved.add(new Or(path.at(), List.of(new IsNull(path.at(), false, path),
-                        new IsNull(path.at(), true, path))));
-            }
+    /** What goes into the block leaves a test behind, where a null link on it leaves the row out. */
+    private void move(Reference path) {
+        if (path.canDrop()) {
+            moved.add(new Or(path.at(), List.of(new IsNull(path.at(), false, path), new IsNull(path.at(), true, path))));
         }
     }
 }

@@ -188,8 +188,16 @@ public interface Tree {
 
     /** A path to an embedded object as a whole: its attributes, and the names that lead to it from the last entity. */
     record Embedded(int at, Class<?> java, List<String> names, List<Reference> parts) implements Value {
+        /** Whether it is what a variable along a collection stands for. */
+        boolean isElement() {
+            return names.isEmpty();
+        }
+
         @Override
         public String toString() {
+            if (isElement()) {
+                return parts.get(0).variable().name;
+            }
             String part = parts.get(0).toString();
             return part.substring(0, part.length() - parts.get(0).attribute().path().length()) + String.join(".", names);
         }

@@ -105,7 +105,7 @@ record Type(Kind kind, Class<?> java, EntityModel entity) {
         for (Class<?> java : new Class<?>[] {Double.class, Float.class, BigDecimal.class, BigInteger.class,
                 Long.class}) {
             if (a.java == java || b.java == java) {
-                return java == Float.class ? DOUBLE : new Type(Kind.NUMBER, java, null);
+                return new Type(Kind.NUMBER, java, null);
             }
         }
         return INTEGER;

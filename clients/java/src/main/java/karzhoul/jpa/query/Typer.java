@@ -156,6 +156,9 @@ final class Typer {
             throw fault(value.at(), "\"" + path(value)
                     + "\" is a collection, which is no value: join it, or ask for SIZE,"
                     + " IS EMPTY or MEMBER OF");
+        } else if (value instanceof Embedded element && element.isElement()) {
+            throw QueryFault.refusal(text, element.at(), "\"" + element + "\" is an embeddable of a collection, which is served"
+                    + " as a whole in SELECT, COUNT and IS NULL; name its attributes, as \"" + element.parts().get(0) + "\"");
         } else if (value instanceof Embedded whole) {
             throw Paths.notWhole(text, whole.at(), String.join(".", whole.names()), whole.parts().get(0).entity(),
                     whole.parts().get(0).attribute());

@@ -31,10 +31,28 @@ final class ValueWriter {
         }
     }
 
-    private final Names names;
+    /** What a parameter is written by: how many decimal places it is to have, and whether it stands among decimals. */
+    private record Beside(int places, boolean isDecimal) {
+        static final Beside NOTHING = new Beside(0, false);
 
-    ValueWriter(Names names) {
+        static Beside of(Unit unit) {
+            return unit instanceof Whole whole && whole.scale() > 0 ? new Beside(whole.scale(), true) : NOTHING;
+        }
+
+        /** Of an operand, beside another one of so many places: a product has those of both together. */
+        Beside operand(Arithmetic of, int other) {
+            return new Beside(of.sign() == '*' ? Math.max(0, places - other) : Math.max(places, other),
+                    isDecimal || Types.of(of).java() == BigDecimal.class);
+        }
+    }
+
+    private final Names names;
+    private final boolean isExact;
+
+    /** One that takes parameters among decimals as such of so many places, or none, where the door is to compute exactly. */
+    ValueWriter(Names names, boolean isExact) {
         this.names = names;
+        this.isExact = isExact;
     }
 
     /**
@@ -43,15 +61,19 @@ final class ValueWriter {
      * @throws NotKept where the program can't say it
      */
     Written value(Value value) {
+        return value(value, Beside.NOTHING);
+    }
+
+    private Written value(Value value, Beside beside) {
         if (value instanceof Reference reference) {
             return new Written(Text.of(path(reference)), unit(reference), 2);
         } else if (value instanceof Signed signed) {
-            Written of = whole(signed.value());
+            Written of = whole(signed.value(), beside);
             return new Written(Text.of(signed.isMinus() ? "-" : "+").add(of.within(2)), of.unit(), 1);
         } else if (value instanceof Arithmetic arithmetic) {
-            return arithmetic(arithmetic);
+            return arithmetic(arithmetic, beside);
         } else if (value instanceof Call call) {
-            return call(call);
+            return call(call, beside);
         } else if (value instanceof Aggregate aggregate) {
             return aggregate(aggregate);
         } else if (Binding.isConstant(value)) {
@@ -60,13 +82,22 @@ final class ValueWriter {
         throw new NotKept(value.at(), told(value) + " isn't among what the program computes");
     }
 
+    /** The same beside what has this unit. */
+    Written beside(Value value, Unit unit) {
+        return value(value, Beside.of(unit));
+    }
+
     /** A value in this unit: a constant in any unit that has its equal. */
     Written in(Value value, Unit unit) {
         if (Binding.isConstant(value)) {
             return constant(value, unit);
         }
-        Written written = value(value);
-        if (unit instanceof Whole wanted && written.unit() instanceof Whole has && has.scale() < wanted.scale()) {
+        Written written = beside(value, unit);
+        if (unit instanceof Whole wanted && written.unit() instanceof Whole has) {
+            if (has.scale() > wanted.scale()) {
+                throw new NotKept(value.at(), told(value) + " has " + has.scale()
+                        + " decimal places, and what it stands beside " + wanted.scale());
+            }
             return scaled(written, wanted.scale());
         }
         if (!written.unit().isSame(unit)) {
@@ -125,16 +156,22 @@ final class ValueWriter {
 
     // ---- arithmetic
 
-    /** A value that is computed with: a whole number of some decimal places. */
-    private Written whole(Value value) {
-        if (value instanceof Literal literal && literal.value() instanceof Number number
-                && Types.isExact(Types.of(value))) {
-            return constant(value, new Whole(Math.max(0, Conversions.decimal(number).scale())));
+    /** A value that is computed with: a whole number of some decimal places; a parameter has those that what is beside it tells. */
+    private Written whole(Value value, Beside beside) {
+        if (value instanceof Literal literal && literal.value() instanceof Number && Types.isExact(Types.of(value))) {
+            return constant(value, new Whole(places(literal)));
         }
         if (Binding.isConstant(value)) {
-            return constant(value, Unit.INTEGERS);
+            Type type = Types.of(value);
+            if (type.isKnown() && !Types.isExact(type)) {
+                throw new NotKept(value.at(), told(value) + " is a " + type.java().getSimpleName()
+                        + ", and the program computes with whole numbers and decimals");
+            }
+            Unit own = value instanceof Tree.Outer outer ? unit(outer.path()) : null;
+            return own instanceof Whole ? constant(value, own, false)
+                    : constant(value, new Whole(beside.places()), beside.isDecimal());
         }
-        Written written = value(value);
+        Written written = value(value, beside);
         if (!(written.unit() instanceof Whole)) {
             throw new NotKept(value.at(), "the program computes with whole numbers and decimals, and "
                     + told(value) + " is kept in another way");
@@ -142,13 +179,13 @@ final class ValueWriter {
         return written;
     }
 
-    private Written arithmetic(Arithmetic arithmetic) {
+    private Written arithmetic(Arithmetic arithmetic, Beside beside) {
         if (arithmetic.sign() == '/') {
             throw new NotKept(arithmetic.at(), "\"/\" isn't among what the program computes");
         }
-        Written left = whole(arithmetic.left());
-        Written right = whole(arithmetic.right());
+        Written left = whole(arithmetic.left(), beside.operand(arithmetic, places(arithmetic.right())));
         int a = ((Whole) left.unit()).scale();
+        Written right = whole(arithmetic.right(), beside.operand(arithmetic, a));
         int b = ((Whole) right.unit()).scale();
         if (arithmetic.sign() == '*') {
             checkPlaces(arithmetic, a + b);
@@ -160,13 +197,33 @@ final class ValueWriter {
         return new Written(text, new Whole(scale), 0);
     }
 
+    /** How many decimal places a value has by itself; none where it is no decimal, or takes those of what is beside it. */
+    private static int places(Value value) {
+        if (value instanceof Reference path) {
+            return unit(path) instanceof Whole whole ? whole.scale() : 0;
+        } else if (value instanceof Literal literal && literal.value() instanceof Number number
+                && Types.isExact(Types.of(value))) {
+            return Math.max(0, Conversions.decimal(number).scale());
+        } else if (value instanceof Tree.Outer outer) {
+            return places(outer.path());
+        } else if (value instanceof Signed signed) {
+            return places(signed.value());
+        } else if (value instanceof Arithmetic of) {
+            return of.sign() == '*' ? places(of.left()) + places(of.right())
+                    : Math.max(places(of.left()), places(of.right()));
+        } else if (value instanceof Aggregate of) {
+            return of.kind() == Aggregate.Kind.COUNT ? 0 : places(of.operand());
+        }
+        return value instanceof Call call ? call.arguments().stream().mapToInt(ValueWriter::places).max().orElse(0) : 0;
+    }
+
     private static void checkPlaces(Value value, int places) {
         if (places > MOST_PLACES) {
             throw new NotKept(value.at(), "a product of " + places + " decimal places doesn't fit into 64 bits");
         }
     }
 
-    private static Written scaled(Value value, Written written, int scale) {
+    private Written scaled(Value value, Written written, int scale) {
         return value instanceof Literal ? constant(value, new Whole(scale)) : scaled(written, scale);
     }
 
@@ -187,51 +244,76 @@ final class ValueWriter {
 
     // ---- functions
 
-    private Written call(Call call) {
-        if (!call.function().isKept) {
+    private Written call(Call call, Beside beside) {
+        List<Value> given = call.arguments();
+        if (!call.function().isKept()) {
             throw new NotKept(call.at(), call.function() + " isn't among what the program computes");
         }
-        List<Value> given = call.arguments();
         return switch (call.function()) {
-            case LENGTH -> called(call, Unit.INTEGERS, Unit.TEXTS);
-            case CONCAT -> called(call, Unit.TEXTS, Unit.TEXTS);
-            case SUBSTRING -> called(call, Unit.TEXTS, Unit.TEXTS, Unit.INTEGERS);
-            case LOCATE -> called(call, Unit.INTEGERS, Unit.TEXTS, Unit.TEXTS, Unit.INTEGERS);
-            case MOD -> called(call, Unit.INTEGERS, Unit.INTEGERS);
             case SIZE -> new Written(Text.of("SIZE(" + path((Reference) given.get(0)) + ")"), Unit.INTEGERS, 2);
             case ABS -> {
-                Written of = whole(given.get(0));
+                Written of = whole(given.get(0), beside);
                 yield new Written(Text.of("ABS(").add(of.text()).add(")"), of.unit(), 2);
             }
-            default -> alike(call);
+            case TRIM -> trimmed(call);
+            default -> called(call, Grammar.PROGRAM.function(call.function().name()));
         };
     }
 
-    private Written called(Call call, Unit result, Unit... units) {
+    private Written called(Call call, Grammar.Called function) {
+        if (call.arguments().size() > function.most()) {
+            throw new NotKept(call.at(), call.function() + " of so many values isn't among what the program computes");
+        }
+        Unit alike = function.kinds().contains("any") ? alike(call) : null;
         List<Text> arguments = new ArrayList<>();
         for (Value argument : call.arguments()) {
-            arguments.add(in(argument, units[Math.min(arguments.size(), units.length - 1)]).text());
+            arguments.add(in(argument, unit(function.kind(arguments.size()), alike)).text());
         }
-        return new Written(Text.of(call.function() + "(").add(Text.joined(", ", arguments)).add(")"), result, 2);
+        return new Written(Text.of(call.function() + "(").add(Text.joined(", ", arguments)).add(")"),
+                unit(function.result(), alike), 2);
     }
 
-    /** COALESCE and NULLIF. */
-    private Written alike(Call call) {
-        Unit unit = null;
+    private static Unit unit(String kind, Unit alike) {
+        return switch (kind) {
+            case "text" -> Unit.TEXTS;
+            case "integer" -> Unit.INTEGERS;
+            default -> alike;
+        };
+    }
+
+    /** The unit of the values of COALESCE and NULLIF. */
+    private Unit alike(Call call) {
         for (Value argument : call.arguments()) {
-            if (unit == null && !Binding.isConstant(argument)) {
-                unit = value(argument).unit();
+            if (!Binding.isConstant(argument)) {
+                return value(argument).unit();
             }
         }
-        return called(call, unit == null ? noUnit(call) : unit, unit);
+        return noUnit(call);
+    }
+
+    /** TRIM, whose words stand before FROM where they say more than blanks of both sides. */
+    private Written trimmed(Call call) {
+        String side = (String) ((Literal) call.arguments().get(0)).value();
+        Value character = call.arguments().get(1);
+        if (!Binding.isConstant(character)) {
+            throw new NotKept(character.at(), "TRIM takes off a literal or a parameter");
+        }
+        boolean isBlank = character instanceof Literal literal && " ".equals(literal.value());
+        Text text = Text.of("TRIM(").add(side.equals("BOTH") && isBlank ? "" : side + " ");
+        if (!isBlank) {
+            text.add((binding, to) -> Functions.checkOne("TRIM takes off", binding.constant(character)))
+                    .add(constant(character, Unit.TEXTS).text()).add(" ");
+        }
+        text.add(side.equals("BOTH") && isBlank ? "" : "FROM ").add(in(call.arguments().get(2), Unit.TEXTS).text()).add(")");
+        return new Written(text, Unit.TEXTS, 2);
     }
 
     private Written aggregate(Aggregate aggregate) {
-        if (aggregate.kind() == Aggregate.Kind.AVG) {
-            throw new NotKept(aggregate.at(), "AVG isn't among what the program computes");
+        if (!Grammar.PROGRAM.hasAggregate(aggregate.kind().name())) {
+            throw new NotKept(aggregate.at(), aggregate.kind() + " isn't among what the program computes");
         }
         boolean isCount = aggregate.kind() == Aggregate.Kind.COUNT;
-        Written operand = aggregate.kind() == Aggregate.Kind.SUM ? whole(aggregate.operand())
+        Written operand = aggregate.kind() == Aggregate.Kind.SUM ? whole(aggregate.operand(), Beside.NOTHING)
                 : value(aggregate.operand());
         Text text = Text.of(aggregate.kind() + (aggregate.isDistinct() ? "(DISTINCT "
                 : "(")).add(operand.text()).add(")");
@@ -241,7 +323,11 @@ final class ValueWriter {
     // ---- constants
 
     /** A constant in a unit; a literal is judged at once. */
-    private static Written constant(Value value, Unit unit) {
+    private Written constant(Value value, Unit unit) {
+        return constant(value, unit, unit instanceof Whole whole && whole.scale() > 0);
+    }
+
+    private Written constant(Value value, Unit unit, boolean isDecimal) {
         if (unit instanceof Unit.Thing) {
             if (!(value instanceof Parameter || value instanceof Tree.Asked || value instanceof Tree.Outer)) {
                 throw new NotKept(value.at(), "an entity is compared with entities and parameters");
@@ -258,23 +344,26 @@ final class ValueWriter {
             return new Written(new Text().add((binding, text) -> text.append(binding.written(column))), unit,
                     isNegative ? 1 : 2);
         }
+        if (isExact && isDecimal) {
+            throw new NotKept(value.at(), told(value) + " has another number of decimal places than what is beside it");
+        }
         return new Written(new Text().add((binding, text) -> text.append(
-                binding.parameter(column(binding, value, unit)))), unit, 2);
+                binding.parameter(column(binding, value, unit, isDecimal)))), unit, 2);
     }
 
     private static Object column(Literal literal, Unit unit) {
         try {
-            return column(null, literal, literal.value(), unit);
+            return column(null, literal, literal.value(), unit, false);
         } catch (RuntimeException e) {
             throw new NotKept(literal.at(), e.getMessage());
         }
     }
 
-    private static Object column(Binding binding, Value value, Unit unit) {
-        return column(binding, value, binding.constant(value), unit);
+    private static Object column(Binding binding, Value value, Unit unit, boolean isDecimal) {
+        return column(binding, value, binding.constant(value), unit, isDecimal);
     }
 
-    private static Object column(Binding binding, Value source, Object value, Unit unit) {
+    private static Object column(Binding binding, Value source, Object value, Unit unit, boolean isDecimal) {
         if (value == null) {
             return null;
         }
@@ -283,7 +372,8 @@ final class ValueWriter {
                     : binding.kept(kept.codec(), source, value);
         }
         if (unit instanceof Whole whole) {
-            return Decimals.exact(value, whole.scale());
+            return binding == null ? Decimals.exact(value, whole.scale())
+                    : binding.exact(source, value, whole.scale(), isDecimal);
         }
         if (value instanceof String || value instanceof Character) {
             return value.toString();

@@ -1,8 +1,18 @@
 package karzhoul.jpa.context;
 
 import static org.junit.jupiter.api.Assertions.assertEquals;
+import static org.junit.jupiter.api.Assertions.assertTrue;
 
 import jakarta.persistence.EntityManager;
+import jakarta.persistence.Query;
+import jakarta.persistence.criteria.CriteriaBuilder;
+import jakarta.persistence.criteria.CriteriaQuery;
+import jakarta.persistence.criteria.Join;
+import jakarta.persistence.criteria.JoinType;
+import jakarta.persistence.criteria.ListJoin;
+import jakarta.persistence.criteria.MapJoin;
+import jakarta.persistence.criteria.Root;
+import jakarta.persistence.criteria.Subquery;
 import java.io.BufferedReader;
 import java.io.IOException;
 import java.io.InputStreamReader;
@@ -14,7 +24,9 @@ import java.util.Collections;
 import java.util.List;
 import java.util.Map;
 import java.util.Set;
+import java.util.function.BiConsumer;
 import java.util.function.Consumer;
+import java.util.function.Function;
 import karzhoul.jpa.context.Page.Mark;
 import karzhoul.jpa.context.Page.Spot;
 import org.junit.jupiter.api.AfterEach;
@@ -69,8 +81,12 @@ class ElementsPeerTest {
     }
 
     private String rows(String text) {
+        return rows(manager -> manager.createQuery(text));
+    }
+
+    private String rows(Function<EntityManager, Query> query) {
         try (EntityManager manager = factory.createEntityManager()) {
-            List<?> found = manager.createQuery(text).getResultList();
+            List<?> found = query.apply(manager).getResultList();
             return String.join("; ", found.stream().map(ElementsPeerTest::told).sorted().toList());
         } catch (RuntimeException e) {
             return e.toString();
@@ -92,6 +108,72 @@ class ElementsPeerTest {
         }
         assertEquals(List.of(), wrong);
         assertEquals(31, count);
+    }
+
+    private String built(BiConsumer<CriteriaQuery<Object>, Root<Page>> build) {
+        CriteriaQuery<Object> query = factory.getCriteriaBuilder().createQuery(Object.class);
+        build.accept(query, query.from(Page.class));
+        return rows(manager -> manager.createQuery(query));
+    }
+
+    /** The rows of elements.tsv, of the same queries in criteria. */
+    @Test
+    void criteriaHaveTheRowsOfAnotherProvider() {
+        CriteriaBuilder cb = factory.getCriteriaBuilder();
+        assertEquals("a; b; z", built((query, p) -> query.select(p.join("words")).distinct(true)));
+        assertEquals("p|a; p|b; p|b; q|a; q|z; r|null",
+            built((query, p) -> query.multiselect(p, p.joinList("words", JoinType.LEFT))));
+        assertEquals("a|2; b|2; z|1", built((query, p) -> {
+            Join<Page, String> word = p.join("words");
+            query.multiselect(word, cb.count(word)).groupBy(word);
+        }));
+        assertEquals("BLUE; RED", built((query, p) -> query.select(p.joinSet("marks"))));
+        assertEquals("x; z", built((query, p) -> {
+            Join<Page, Spot> spot = p.joinList("spots");
+            query.select(spot.get("word")).where(cb.equal(spot.get("left"), 1));
+        }));
+        assertEquals("4", built((query, p) -> query.select(cb.sum(p.joinList("spots").<Integer>get("left")))));
+        assertEquals("r", built((query, p) -> query.select(p).where(p.joinList("spots", JoinType.LEFT).get("left").isNull())));
+        assertEquals("q", built((query, p) -> {
+            Subquery<String> found = query.subquery(String.class);
+            Join<Page, String> word = found.correlate(p).join("words");
+            query.select(p).where(cb.exists(found.select(word).where(cb.equal(word, "z"))));
+        }));
+    }
+
+    /** As those, by KEY, VALUE and INDEX. */
+    @Test
+    void criteriaHaveTheKeysAndPlacesOfAnotherProvider() {
+        CriteriaBuilder cb = factory.getCriteriaBuilder();
+        assertEquals("de|Blatt; de|Seite; en|page", built((query, p) -> {
+            MapJoin<Page, String, String> title = p.joinMap("titles");
+            query.multiselect(title.key(), title.value());
+        }));
+        assertEquals("p|Seite; q|Blatt", built((query, p) -> {
+            MapJoin<Page, String, String> title = p.joinMap("titles");
+            query.multiselect(p.get("name"), title).where(cb.equal(title.key(), "de"));
+        }));
+        assertEquals("p|a; p|b; p|b", built((query, p) -> {
+            Join<Page, String> word = p.join("words");
+            MapJoin<Page, String, String> title = p.joinMap("titles");
+            query.multiselect(p.get("name"), word).where(cb.equal(title.key(), "en"));
+        }));
+        assertEquals("GREEN|7", built((query, p) -> {
+            MapJoin<Page, Mark, Spot> place = p.joinMap("places");
+            query.multiselect(place.key(), place.get("left"));
+        }));
+        assertEquals("one|0; three|2; two|0; two|1", built((query, p) -> {
+            ListJoin<Page, String> step = p.joinList("steps");
+            query.multiselect(step, step.index());
+        }));
+        assertEquals("three; two", built((query, p) -> {
+            ListJoin<Page, String> step = p.joinList("steps");
+            query.select(step).where(cb.gt(step.index(), 0));
+        }));
+        assertEquals("de=Blatt; de=Seite; en=page",
+            built((query, p) -> query.select(p.<Page, String, String>joinMap("titles").entry())));
+        assertTrue(built((query, p) -> query.select(p.joinList("words").index()))
+            .contains("INDEX takes a variable along a List of values with @OrderColumn"));
     }
 
     /** There each of these raised the version by one, but for the last two, which change nothing. */

@@ -7,6 +7,8 @@ import static org.junit.jupiter.api.Assertions.assertThrows;
 import static org.junit.jupiter.api.Assertions.assertTrue;
 
 import jakarta.persistence.EntityManager;
+import jakarta.persistence.criteria.CriteriaBuilder;
+import jakarta.persistence.criteria.CriteriaQuery;
 import jakarta.persistence.OptimisticLockException;
 import jakarta.persistence.PersistenceException;
 import jakarta.persistence.RollbackException;
@@ -30,6 +32,7 @@ import karzhoul.jpa.context.Page.Spot;
 import org.junit.jupiter.api.AfterEach;
 import org.junit.jupiter.api.BeforeEach;
 import org.junit.jupiter.api.Test;
+import org.junit.jupiter.api.function.Executable;
 
 /** Collections of values: they live with their owner, and raise its version (chapters 2.6, 2.7, 3.2, 11.1.14). */
 class ElementsTest {
@@ -332,11 +335,41 @@ class ElementsTest {
         Page fetched = (Page) asked(manager, "SELECT DISTINCT p FROM Page p JOIN FETCH p.words WHERE p.name = 'p'").get(0);
         assertTrue(factory.getPersistenceUnitUtil().isLoaded(fetched, "words"));
         assertEquals(1L, asked(manager, "SELECT COUNT(p) FROM Page p WHERE EXISTS (SELECT w FROM p.words w WHERE w = 'z')").get(0));
-        for (String refused : List.of("SELECT r FROM Page__words r", "SELECT ENTRY(t) FROM Page p JOIN p.titles t",
+        for (String refused : List.of("SELECT r FROM Page__words r", "SELECT NEW java.util.ArrayList(ENTRY(t)) FROM Page p JOIN p.titles t",
+            "SELECT t FROM Page p JOIN p.titles t ORDER BY ENTRY(t)", "SELECT ENTRY(t).key FROM Page p JOIN p.titles t",
             "SELECT INDEX(w) FROM Page p JOIN p.words w", "SELECT KEY(w) FROM Page p JOIN p.words w",
             "SELECT p FROM Page p WHERE ?1 MEMBER OF p.spots", "SELECT w.x FROM Page p JOIN p.words w")) {
             assertThrows(IllegalArgumentException.class, () -> manager.createQuery(refused), refused);
         }
+    }
+
+    /** As EclipseLink 2.7 counts them. */
+    @Test
+    void embeddablesAreCountedByTheirRows() {
+        Page second = new Page("q");
+        second.spots.addAll(List.of(new Spot(1, "x"), new Spot(1, "x"), new Spot(2, null)));
+        second.places.put(Mark.RED, new Spot(1, "r"));
+        commit(other -> List.of(second, new Page("r")).forEach(other::persist));
+        assertEquals(List.of(3L), asked(manager, "SELECT COUNT(s) FROM Page p JOIN p.spots s"));
+        assertEquals(List.of(List.of("q", 3L), List.of("r", 0L)),
+            asked(manager, "SELECT p.name, COUNT(s) FROM Page p LEFT JOIN p.spots s GROUP BY p.name ORDER BY p.name"));
+        assertEquals(List.of("q"), asked(manager, "SELECT p.name FROM Page p JOIN p.spots s GROUP BY p.name HAVING COUNT(s) > 2"));
+        assertEquals(List.of("q"), asked(manager, "SELECT p.name FROM Page p WHERE (SELECT COUNT(s) FROM p.spots s) = 3"));
+        assertEquals(List.of(List.of(1L, 1L)), asked(manager, "SELECT COUNT(VALUE(s)), COUNT(KEY(s)) FROM Page p JOIN p.places s"));
+        assertEquals(List.of(List.of(1.0, 3L)), asked(manager, "SELECT MIN(SQRT(s.left)), COUNT(s) FROM Page p JOIN p.spots s"));
+        CriteriaBuilder cb = factory.getCriteriaBuilder();
+        CriteriaQuery<Long> counting = cb.createQuery(Long.class);
+        counting.select(cb.count(counting.from(Page.class).join("spots")));
+        assertEquals(3L, manager.createQuery(counting).getSingleResult());
+        counting.select(cb.countDistinct(counting.getRoots().iterator().next().getJoins().iterator().next()));
+        for (Executable refused : List.<Executable>of(() -> asked(manager, "SELECT COUNT(DISTINCT s) FROM Page p JOIN p.spots s"),
+                () -> manager.createQuery(counting))) {
+            String words = assertThrows(IllegalArgumentException.class, refused).getMessage();
+            assertTrue(words.matches("(?s).*COUNT\\(DISTINCT \\w+\\) isn't served: \"\\w+\" is an embeddable, .*"), words);
+        }
+        String words = assertThrows(IllegalArgumentException.class,
+            () -> asked(manager, "SELECT s FROM Page p JOIN p.spots s ORDER BY s")).getMessage();
+        assertTrue(words.contains("\"s\" is an embeddable of a collection") && words.contains("name its attributes, as \"s.left\""), words);
     }
 
     @Test

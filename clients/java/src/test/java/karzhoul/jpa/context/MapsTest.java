@@ -17,7 +17,11 @@ import jakarta.persistence.ManyToOne;
 import jakarta.persistence.MapKey;
 import jakarta.persistence.OneToMany;
 import jakarta.persistence.PersistenceException;
+import jakarta.persistence.criteria.CriteriaQuery;
+import jakarta.persistence.criteria.MapJoin;
+import java.util.AbstractMap;
 import java.util.HashMap;
+import java.util.List;
 import java.util.Map;
 import java.util.Set;
 import java.util.function.Consumer;
@@ -116,6 +120,31 @@ class MapsTest {
             manager.remove(shelf);
         });
         commit(manager -> assertEquals(0L, manager.createQuery("SELECT COUNT(t) FROM Tome t").getSingleResult()));
+    }
+
+    /** KEY is the attribute of the member by which it is kept, VALUE the member, ENTRY both (chapter 4.4.2.1). */
+    @Test
+    void queriesAskForKeysAndEntries() {
+        store();
+        commit(manager -> {
+            Shelf shelf = manager.find(Shelf.class, 1L);
+            assertEquals(List.of("a", "b"), manager.createQuery("SELECT KEY(t) FROM Shelf s JOIN s.tomes t ORDER BY KEY(t)").getResultList());
+            assertEquals(List.of(2L), manager.createQuery("SELECT VALUE(t).id FROM Shelf s, IN (s.tomes) t WHERE KEY(t) = 'b'").getResultList());
+            assertEquals(List.of(2L), manager.createQuery("SELECT KEY(b) FROM Shelf s JOIN s.beside b").getResultList());
+            assertEquals(List.of(Map.entry(2L, manager.find(Shelf.class, 2L))),
+                manager.createQuery("SELECT ENTRY(b) FROM Shelf s JOIN s.beside b").getResultList());
+            List<Map.Entry> entries = manager.createQuery("SELECT DISTINCT ENTRY(t) FROM Shelf s JOIN s.tomes t WHERE s.id = 1", Map.Entry.class)
+                .getResultList();
+            assertEquals(shelf.tomes.entrySet(), Set.copyOf(entries));
+            assertSame(shelf.tomes.get("a"), entries.get(0).getValue());
+            Object[] row = (Object[]) manager.createQuery("SELECT s.id, ENTRY(t) FROM Shelf s LEFT JOIN s.tomes t WHERE s.id = 2").getSingleResult();
+            assertEquals(2L, row[0]);
+            assertEquals(new AbstractMap.SimpleEntry<>(null, null), row[1]);
+            CriteriaQuery<Object> query = manager.getCriteriaBuilder().createQuery();
+            MapJoin<Shelf, String, Tome> tome = query.from(Shelf.class).joinMap("tomes");
+            query.select(tome.entry()).where(manager.getCriteriaBuilder().equal(tome.key(), "b"));
+            assertEquals(List.of(Map.entry("b", shelf.tomes.get("b"))), manager.createQuery(query).getResultList());
+        });
     }
 
     @Test

@@ -184,17 +184,18 @@ class CriteriaRefusalsTest extends OverShop {
         argument("FUNCTION isn't served", q -> cb.function("soundex", String.class));
         argument("maps of entities aren't kept", q -> cb.keys(Map.of("a", 1)));
         argument("maps of entities aren't kept", q -> cb.values(Map.of("a", 1)));
-        argument("INDEX isn't served", q -> q.from(Person.class).joinList("orders").index());
+        argument("INDEX takes a variable along a List of values with @OrderColumn",
+                q -> q.select(q.from(Person.class).joinList("orders").index()));
         argument("joined by another method", q -> q.from(Person.class).joinMap("orders"));
         argument("isn't below", q -> cb.treat((Root) q.from(Shop.Vip.class), Person.class));
-        argument("UPPER isn't among what the program computes", q -> {
+        argument("SQRT isn't among what the program computes", q -> {
             Root<Person> p = q.from(Person.class);
             Join<Person, Person> boss = p.join("boss", JoinType.LEFT);
-            q.select(p).where(cb.isNotNull(boss.on(cb.equal(cb.upper(boss.get("name")), "ADA"))));
+            q.select(p).where(cb.isNotNull(boss.on(cb.equal(cb.sqrt(boss.get("age")), 6))));
         });
-        argument("TREAT stands in FROM and WHERE", q -> {
+        argument("TREAT isn't served in the ON of a LEFT JOIN", q -> {
             Root<Person> p = q.from(Person.class);
-            q.select(cb.treat(p, Shop.Vip.class).get("discount"));
+            p.join("boss", JoinType.LEFT).on(cb.equal(cb.treat(p, Shop.Vip.class).get("discount"), 1));
         });
         argument("a join is along a path of a variable", q -> {
             Root<Person> p = q.from(Person.class);

@@ -3,6 +3,7 @@ package karzhoul.jpa.engine;
 import static org.junit.jupiter.api.Assertions.assertEquals;
 import static org.junit.jupiter.api.Assertions.assertThrows;
 
+import java.util.Arrays;
 import java.util.List;
 import org.junit.jupiter.api.Test;
 
@@ -14,7 +15,8 @@ class LinesTest {
             .set(3, "number", Long.MIN_VALUE).set(3, "number", 1_234_567_890L).set(3, "bytes", new byte[] {10, -1})
             .link(3, "person", 0).link(3, "person", 4).add(1, "orders", 2).takeOut(1, "orders", 2)
             .find(1, "Person", List.of(1L, "x")).values(new long[] {9, 10, 11}, 1, 3).lock(1, 2, "READ").pending(1)
-            .statement("query", 1, "SELECT", List.of("n", 5L, 1, new Ref(2)), 3, null).restart();
+            .statement("query", 1, "SELECT", List.of("n", 5L, 1, new Ref(2), "l", Arrays.asList(1L, null, new Ref(3))), 3, null)
+            .statement("query", 1, "SELECT", List.of("l", List.of()), null, 1).restart();
         assertEquals("""
             {"call":"createEntityManager"}
             {"call":"begin","em":1}
@@ -31,7 +33,8 @@ class LinesTest {
             {"call":"values","objects":[10,11]}
             {"call":"lock","em":1,"object":2,"mode":"READ"}
             {"call":"pending","em":1}
-            {"call":"query","em":1,"text":"SELECT","params":{"n":5,"1":{"object":2}},"first":3}
+            {"call":"query","em":1,"text":"SELECT","params":{"n":5,"1":{"object":2},"l":[1,null,{"object":3}]},"first":3}
+            {"call":"query","em":1,"text":"SELECT","params":{"l":[]},"max":1}
             {"call":"restart"}
             """, lines.toString());
     }

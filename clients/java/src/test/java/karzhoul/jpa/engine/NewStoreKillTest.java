@@ -11,6 +11,7 @@ import java.net.URI;
 import java.nio.file.Files;
 import java.nio.file.Path;
 import java.util.List;
+import java.util.Map;
 import java.util.concurrent.TimeUnit;
 import karzhoul.jpa.model.Programs;
 import karzhoul.jpa.model.Reader;
@@ -29,7 +30,7 @@ class NewStoreKillTest {
 
         public static void main(String[] words) {
             UnitModel unit = Reader.read("test", List.of(Item.class));
-            Program.open("karzhoul:" + words[0], Programs.path(), unit.mapping(), unit.description(), null);
+            Program.open("karzhoul:" + words[0], Programs.path(), unit, Map.of(), null);
         }
     }
 
@@ -53,7 +54,7 @@ class NewStoreKillTest {
         TimeUnit.MILLISECONDS.sleep(500);
         UnitModel unit = Reader.read("test", List.of(Item.class));
         for (int i = 0; i < 2; i++) {
-            Program.open("karzhoul:" + store, Programs.path(), unit.mapping(), unit.description(), null).close();
+            Program.open("karzhoul:" + store, Programs.path(), unit, Map.of(), null).close();
             assertFalse(Files.exists(mark));
         }
         assertEquals(List.of(), leftOver());

@@ -7,6 +7,7 @@ import static org.junit.jupiter.api.Assertions.assertThrows;
 import static org.junit.jupiter.api.Assertions.assertTrue;
 
 import jakarta.persistence.Column;
+import jakarta.persistence.ElementCollection;
 import jakarta.persistence.Entity;
 import jakarta.persistence.EntityManager;
 import jakarta.persistence.EntityManagerFactory;
@@ -14,9 +15,12 @@ import jakarta.persistence.EnumType;
 import jakarta.persistence.Enumerated;
 import jakarta.persistence.GeneratedValue;
 import jakarta.persistence.Id;
+import jakarta.persistence.ManyToMany;
+import jakarta.persistence.ManyToOne;
 import jakarta.persistence.PersistenceException;
 import jakarta.persistence.Table;
 import java.io.IOException;
+import java.lang.reflect.Proxy;
 import java.nio.charset.StandardCharsets;
 import java.nio.file.Files;
 import java.nio.file.Path;
@@ -64,6 +68,40 @@ class StoreDescriptionTest {
     @Entity(name = "Person") @Table(name = "persons")
     static class OtherKey { @Id @GeneratedValue UUID id; String name; LocalDate born; @Enumerated Mood mood; }
 
+    @Entity(name = "Person") @Table(name = "persons")
+    static class More {
+        @Id @GeneratedValue Long id;
+        String name;
+        LocalDate born;
+        @Enumerated Mood mood;
+        int visits;
+        @ManyToOne House house;
+        @ManyToMany List<House> owned = new ArrayList<>();
+        @ElementCollection List<String> words = new ArrayList<>();
+    }
+
+    @Entity static class Guest extends More { @Column(nullable = false) String room; }
+
+    @Entity static class House { @Id int number; @Column(nullable = false) String street; }
+
+    @Entity(name = "Person") @Table(name = "persons")
+    static class Needed {
+        @Id @GeneratedValue Long id;
+        String name;
+        LocalDate born;
+        @Enumerated Mood mood;
+        @Column(nullable = false) String family;
+    }
+
+    @Entity(name = "Person") @Table(name = "persons")
+    static class Less {
+        @Id @GeneratedValue Long id;
+        String name;
+        LocalDate born;
+        @Enumerated Mood mood;
+        String family;
+    }
+
     @TempDir Path folder;
     private Path store;
 
@@ -96,7 +134,8 @@ class StoreDescriptionTest {
     private String worded(String differences) {
         return "The store " + store + " was written with other classes, and isn't opened:\n" + differences
                 + "\nKeep the names of before, by @Entity, @Table, @Column, @JoinColumn, @JoinTable and @DiscriminatorValue; "
-                + "or take another file for a new store.";
+                + "say what becomes of columns, by karzhoul.defaults, karzhoul.dropped and karzhoul.moved; or take another file for a "
+                + "new store.";
     }
 
     @Test
@@ -131,6 +170,44 @@ class StoreDescriptionTest {
         assertEquals(worded("""
                 - the store has the column name of the table persons, and the classes don't
                 - the classes have the column fullName of the table persons, and the store doesn't"""), refused(OtherColumn.class));
+    }
+
+    @Test
+    void whatAStoreTakesAsItIsIsOpened() throws IOException {
+        write();
+        for (int i = 0; i < 2; i++) {
+            try (EntityManagerFactory factory = open(More.class, Guest.class, House.class);
+                    EntityManager manager = factory.createEntityManager()) {
+                More person = manager.find(More.class, 1L);
+                assertEquals(0, person.visits);
+                assertEquals(i, person.words.size());
+                manager.getTransaction().begin();
+                House house = new House();
+                house.number = i;
+                house.street = "Mill Lane";
+                Guest guest = new Guest();
+                guest.room = "blue";
+                person.house = house;
+                person.owned.add(house);
+                person.words.add("word");
+                List.of(house, guest).forEach(manager::persist);
+                manager.getTransaction().commit();
+            }
+        }
+        String words = refused(Person.class);
+        assertTrue(words.contains("- the store has the column visits of the table persons, and the classes don't"), words);
+        assertTrue(words.contains("- the store has the join table persons_owned, and the classes don't"), words);
+    }
+
+    @Test
+    void aColumnOfRowsThatAreThereMayBeNull() throws IOException {
+        write();
+        assertEquals(worded("- the classes have the column family of the table persons, and the store doesn't"),
+                refused(Needed.class));
+        store = folder.resolve("other.db");
+        open(Needed.class).close();
+        open(Less.class).close();
+        assertTrue(refused(Needed.class).contains("never null by the classes"));
     }
 
     @Test
@@ -200,7 +277,7 @@ class StoreDescriptionTest {
     void aProgramThatDoesNotStartLeavesNoMark() {
         UnitModel unit = Reader.read("test", List.of(Person.class));
         assertThrows(PersistenceException.class,
-                () -> Program.open("karzhoul:" + store, "/bin/false", unit.mapping(), unit.description(), null));
+                () -> Program.open("karzhoul:" + store, "/bin/false", unit, Map.of(), null));
         assertFalse(Files.exists(folder.resolve("shop.db.new")));
     }
 
@@ -211,14 +288,19 @@ class StoreDescriptionTest {
         write();
     }
 
+    private static UnitModel described(String description) {
+        UnitModel unit = Reader.read("test", List.of(Person.class));
+        return (UnitModel) Proxy.newProxyInstance(UnitModel.class.getClassLoader(), new Class<?>[] {UnitModel.class},
+                (proxy, method, arguments) -> method.getName().equals("description") ? description : method.invoke(unit, arguments));
+    }
+
     @Test
     void aDescriptionOfManyParts() {
         String description = "the table x\t" + "\u00e9".repeat(100_000) + "\n";
-        String mapping = Reader.read("test", List.of(Person.class)).mapping();
-        Program.open("karzhoul:" + store, Programs.path(), mapping, description, null).close();
-        Program.open("karzhoul:" + store, Programs.path(), mapping, description, null).close();
+        Program.open("karzhoul:" + store, Programs.path(), described(description), Map.of(), null).close();
+        Program.open("karzhoul:" + store, Programs.path(), described(description), Map.of(), null).close();
         String words = assertThrows(PersistenceException.class,
-                () -> Program.open("karzhoul:" + store, Programs.path(), mapping, description + "more", null)).getMessage();
+                () -> Program.open("karzhoul:" + store, Programs.path(), described(description + "more"), Map.of(), null)).getMessage();
         assertTrue(words.contains("- the classes have more, and the store doesn't"), words);
     }
 

@@ -25,6 +25,7 @@ import jakarta.persistence.GenerationType;
 import jakarta.persistence.Id;
 import jakarta.persistence.IdClass;
 import jakarta.persistence.JoinColumn;
+import jakarta.persistence.JoinColumns;
 import jakarta.persistence.ManyToOne;
 import jakarta.persistence.MapKey;
 import jakarta.persistence.MapKeyColumn;
@@ -81,7 +82,13 @@ class RefusedClassesTest {
     @Entity static class Above { @Id int id; }
     @Entity static class Below extends Above { int more; }
     @Entity @DiscriminatorValue("Above") static class SameValue extends Above { }
-    @Entity @Table(uniqueConstraints = @UniqueConstraint(columnNames = "a")) static class Unique { @Id int id; int a; }
+    @Entity @Table(uniqueConstraints = @UniqueConstraint(columnNames = {"a", "c"})) static class UniqueOfNone { @Id int id; int a; }
+    @Entity @Table(uniqueConstraints = @UniqueConstraint(columnNames = {"a", "b", "c", "d", "e"}))
+    static class UniqueOfFive { @Id int id; int a; int b; int c; int d; int e; }
+    @Entity static class UniqueMap { @Id int id; @Column(unique = true) java.util.HashMap<String, String> names; }
+    @Entity @Table(uniqueConstraints = @UniqueConstraint(columnNames = {"left", "right"})) static class Trunk { @Id int id; }
+    @Entity static class LeftBough extends Trunk { int left; }
+    @Entity static class RightBough extends Trunk { int right; }
     @Entity @NamedNativeQuery(name = "n", query = "SELECT 1") static class Native { @Id int id; }
     @Entity @NamedQuery(name = "q", query = "x") static class Query1 { @Id int id; }
     @Entity @NamedQuery(name = "q", query = "y") static class Query2 { @Id int id; }
@@ -107,7 +114,10 @@ class RefusedClassesTest {
     @Entity static class KeyedByGood { @Id int id; @ElementCollection Map<Good, String> tags; }
     @Entity static class ElementsTable { @Id int id; @ElementCollection @CollectionTable(name = "Good") Set<String> tags; }
     @Entity static class SameColumn { @Id int id; String name; @Column(name = "NAME") String other; }
-    @Entity static class UniqueColumn { @Id int id; @Column(unique = true) String name; }
+    @Entity static class UniqueCopy {
+        @Id int id; @ManyToOne @JoinColumn(name = "good") Good good;
+        @Column(name = "good", unique = true, insertable = false, updatable = false) int number;
+    }
     @Entity static class ReadOnly { @Id int id; @Column(insertable = false) String name; }
     @Entity static class NeverWritten { @Id int id; @Column(insertable = false, updatable = false, nullable = false) String name; }
     @Entity static class CopyOfOther { @Id int id; @ManyToOne @JoinColumn(name = "good_id") Good good;
@@ -150,9 +160,11 @@ class RefusedClassesTest {
     @Entity static class VersionBelow extends Above { @Version int version; }
     @Entity static class TwoVersions { @Id int id; @Version int one; @Version int two; }
     @Entity static class VersionOfTime { @Id int id; @Version LocalDateTime at; }
-    @Entity static class BeginsElsewhere { @Id @GeneratedValue(generator = "g") @SequenceGenerator(name = "g", initialValue = 100) int id; }
-    @Entity static class SharesOne { @Id @GeneratedValue(generator = "shared") @TableGenerator(name = "shared") int id; }
-    @Entity static class SharesToo { @Id @GeneratedValue(generator = "shared") int id; }
+    @Entity static class TakesNone { @Id @GeneratedValue(generator = "g") @SequenceGenerator(name = "g", allocationSize = 0) int id; }
+    @Entity static class SharesOne { @Id @GeneratedValue(generator = "one") @TableGenerator(name = "one", pkColumnValue = "x") int id; }
+    @Entity static class SharesToo {
+        @Id @GeneratedValue(generator = "two") @TableGenerator(name = "two", pkColumnValue = "x", initialValue = 7) int id;
+    }
     @Entity static class WrongMapsId { @Id String id; @MapsId @OneToOne Good good; }
     @Entity static class GeneratedMapsId { @Id @GeneratedValue int id; @MapsId @OneToOne Good good; }
     @Entity static class Egg { @Id @OneToOne Hen hen; }
@@ -169,12 +181,14 @@ class RefusedClassesTest {
     @Entity static class OfMap { @Id int id; @OneToMany @MapKeyColumn Map<String, Good> goods; }
     @Entity static class NoMapKey { @Id int id; @OneToMany @MapKey(name = "nam") Map<String, Good> goods; }
     @Entity static class KeyedList { @Id int id; @OneToMany @MapKey List<Good> goods; }
-    @Entity static class InPlaces { @Id int id; @OneToMany @OrderColumn List<Good> goods; }
+    @Entity static class InPlaces { @Id int id; @OneToMany @OrderColumn Set<Good> goods; }
+    @Entity static class InTwoOrders { @Id int id; @OneToMany @OrderColumn @OrderBy("id") List<Good> goods; }
     @Entity static class InArrayList { @Id int id; @OneToMany ArrayList<Good> goods; }
     @SuppressWarnings("rawtypes") @Entity static class RawList { @Id int id; @OneToMany List goods; }
     @Entity static class WrongOrder { @Id int id; @OneToMany @OrderBy("nam DESC") List<Good> goods; }
     @Entity static class ByOtherColumn { @Id int id; @ManyToOne @JoinColumn(referencedColumnName = "name") Good good; }
-    @Entity static class UniqueJoin { @Id int id; @ManyToOne @JoinColumn(unique = true) Good good; }
+    @Entity static class UniqueJoin { @Id int id; @ManyToOne @JoinColumns({
+        @JoinColumn(name = "a", unique = true), @JoinColumn(name = "b")}) Good good; }
     @Entity static class ReadOnlyJoin { @Id int id; @ManyToOne @JoinColumn(updatable = false) Good good; }
     @Entity static class TwoSorts { @Id int id; @ManyToOne @OneToOne Good good; }
     @Entity static class OldOneToOne { @Id int id; @OneToOne @PrimaryKeyJoinColumn Good good; }
@@ -218,7 +232,13 @@ class RefusedClassesTest {
                         "Add it as <class> to persistence.xml", Below.class),
                 row("SameValue", "its discriminator is Above, as that of " + HERE + "Above", "Give it another @DiscriminatorValue",
                         Above.class, SameValue.class),
-                row("Unique", "unique constraints aren't kept", "Leave uniqueConstraints out, or make the value the key", Unique.class),
+                row("UniqueOfNone", "@UniqueConstraint names the column \"c\", which it doesn't have, or has only beside others that "
+                        + "aren't named", "Name columns of its attributes, and all columns of a relation to one", UniqueOfNone.class),
+                row("UniqueOfFive.a", "a unique constraint of 5 columns isn't kept", "Let it have at most 4", UniqueOfFive.class),
+                row("UniqueMap.names", "what is kept as Java writes it isn't unique", "Use a number, a String, a date or an enum",
+                        UniqueMap.class),
+                row("LeftBough", "a unique constraint is of columns of classes beside each other",
+                        "Name columns of one class, and of those above it", Trunk.class, LeftBough.class, RightBough.class),
                 row("Native", "there is no SQL", "Write the query in JPQL, as @NamedQuery", Native.class),
                 row("Query2", "its query q has the name of one of " + HERE + "Query1", "Name one of them otherwise",
                         Query1.class, Query2.class),
@@ -255,7 +275,8 @@ class RefusedClassesTest {
                         "Name one of them otherwise, by @CollectionTable", ElementsTable.class, Good.class),
                 row("SameColumn.other", HERE + "SameColumn.name has the column NAME too",
                         "Name one of them otherwise, by @Column, @JoinColumn or @AttributeOverride", SameColumn.class),
-                row("UniqueColumn.name", "unique isn't kept", "Leave it out, or make it the key", UniqueColumn.class),
+                row("UniqueCopy.number", "it reads the column of a relation, and says that it is unique", "Say so at the @JoinColumn",
+                        UniqueCopy.class, Good.class),
                 row("ReadOnly.name", "a column that is updated, and isn't inserted, isn't kept",
                         "Write updatable = false too, leave insertable out, or add @Transient", ReadOnly.class),
                 row("NeverWritten.name", "it may not be null, and nothing writes it",
@@ -308,10 +329,10 @@ class RefusedClassesTest {
                 row("TwoVersions.two", "there is another @Version", "Leave one of them out", TwoVersions.class),
                 row("VersionOfTime.at", "a version of java.time.LocalDateTime isn't kept: versions are counted",
                         "Declare it as int, long, short, or one of their classes", VersionOfTime.class),
-                row("BeginsElsewhere.id", "the generator g begins at 100, and keys are counted from 1",
-                        "Leave out the generator, or give the keys yourself", BeginsElsewhere.class),
-                row("SharesToo.id", "the generator shared is that of " + HERE + "SharesOne too, and each counts alone",
-                        "Leave out the generator, or give the keys yourself", SharesOne.class, SharesToo.class),
+                row("TakesNone.id", "the generator g takes 0 keys at a time", "Give it an allocationSize of at least 1", TakesNone.class),
+                row("SharesToo.id", "its generator counts in the row x as that of " + HERE
+                        + "SharesOne, and begins or allocates otherwise", "Give both the same initialValue and allocationSize",
+                        SharesOne.class, SharesToo.class),
                 row("WrongMapsId.good", "@MapsId names parts of the key that aren't those of the key of " + HERE + "Good",
                         "Name a part of the same type", WrongMapsId.class, Good.class),
                 row("GeneratedMapsId.good", "the key is generated, and @MapsId gives it too", "Leave out @GeneratedValue",
@@ -334,8 +355,8 @@ class RefusedClassesTest {
                 row("NoMapKey.goods", "@MapKey names \"nam\", which is no attribute of Good",
                         "Name an attribute of the members, or leave the name out", NoMapKey.class, Good.class),
                 row("KeyedList.goods", "it has @MapKey, and is no map", "Declare it as Map", KeyedList.class, Good.class),
-                row("InPlaces.goods", "@OrderColumn isn't kept", "Sort the list by an attribute of its members, with @OrderBy",
-                        InPlaces.class, Good.class),
+                row("InPlaces.goods", "@OrderColumn orders a List", "Declare it as List", InPlaces.class, Good.class),
+                row("InTwoOrders.goods", "it has @OrderColumn and @OrderBy", "Leave one of them", InTwoOrders.class, Good.class),
                 row("InArrayList.goods", "it is declared as java.util.ArrayList", "Declare it as List, Set or Collection",
                         InArrayList.class, Good.class),
                 row("RawList.goods", "its collection doesn't say of which entity it is", "Write its type, or targetEntity", RawList.class),
@@ -343,7 +364,8 @@ class RefusedClassesTest {
                         "Name attributes of the members", WrongOrder.class, Good.class),
                 row("ByOtherColumn.good", "it refers to the column name of Good, which is no part of its key",
                         "Leave referencedColumnName out, or make that column the key", ByOtherColumn.class, Good.class),
-                row("UniqueJoin.good", "unique isn't kept", "Leave it out, or use @OneToOne", UniqueJoin.class, Good.class),
+                row("UniqueJoin.good", "one of several join columns isn't unique by itself",
+                        "Name all of them in @UniqueConstraint of @Table", UniqueJoin.class, Good.class),
                 row("ReadOnlyJoin.good", "a relation whose column isn't written isn't kept",
                         "Let the relation be written, and the attribute beside it be insertable = false and updatable = false; or add"
                         + " @Transient", ReadOnlyJoin.class, Good.class),

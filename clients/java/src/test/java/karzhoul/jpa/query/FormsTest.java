@@ -17,7 +17,7 @@ class FormsTest extends OverShop {
     void isAskedAndAnswered(String form) {
         String[] parts = form.strip().split("\\s*\n\\s*(?=[-=]> )");
         String rows = rows(parts[0]);
-        List<String> asked = asked();
+        List<String> asked = askedAndFound();
         assertEquals(Stream.of(parts).filter(part -> part.startsWith("-> ")).map(part -> part.substring(3)).toList(), asked);
         assertEquals(parts[parts.length - 1].substring(3), rows);
     }
@@ -29,8 +29,20 @@ class FormsTest extends OverShop {
                 => [Person 1, Person 2, Person 3, Person 4]
 
                 SELECT OBJECT(o) FROM Order AS o WHERE o.number = 10
-                -> SELECT o FROM Order o WHERE o.number = 10
+                -> find Order [10]
                 => [Order 10]
+
+                SELECT l FROM Place l WHERE 1 = l.at.row AND l.at.shelf = 'x'
+                -> find Place [1,"x"]
+                => [Place 1/x]
+
+                SELECT v FROM Vip v WHERE v.id = 4
+                -> SELECT v FROM Vip v WHERE v.id = 4
+                => [Person 4]
+
+                SELECT p FROM Person p WHERE p.id = 1.5
+                -> SELECT p FROM Person p WHERE (p.id IS NULL AND p.id IS NOT NULL)
+                => []
 
                 SELECT p.address.city FROM Person p WHERE p.address.city <> 'Paris'
                 -> SELECT p.address__city FROM Person p WHERE p.address__city <> 'Paris'
@@ -148,17 +160,49 @@ class FormsTest extends OverShop {
                 -> SELECT o.amount, o.price FROM Order o WHERE o.number = 11
                 => [[Integer 3, BigDecimal 0.5625, Double 3.5]]
 
-                SELECT p.name FROM Person p WHERE UPPER(p.name) LIKE 'A%' AND p.age > 30
-                -> SELECT p.name FROM Person p WHERE p.age > 30
-                => [Ada]
+                SELECT p.name FROM Person p WHERE SQRT(p.age) >= 6 AND p.age < 50
+                -> SELECT p.name, p.age FROM Person p WHERE p.age < 50
+                => [Ada, Bob]
 
-                SELECT COUNT(p) FROM Person p WHERE LOWER(p.name) <> 'ada'
-                -> SELECT p.id, p.name FROM Person p
+                SELECT COUNT(p) FROM Person p WHERE SQRT(p.age) <> 6
+                -> SELECT p.id, p.age FROM Person p
                 => [Long 2]
 
+                SELECT DISTINCT CONCAT(p.address.city, CASE WHEN p.age > 0 THEN '!' ELSE '' END) AS c FROM Person p ORDER BY c DESC
+                -> SELECT p.address__city AS c0, p.age AS c1 FROM Person p
+                => [Paris!, London!, null]
+
+                SELECT UPPER(p.name), LOWER(p.address.city) FROM Person p WHERE UPPER(p.name) LIKE 'A%' AND p.age > 30
+                -> SELECT UPPER(p.name), LOWER(p.address__city) FROM Person p WHERE UPPER(p.name) LIKE 'A%' AND p.age > 30
+                => [[ADA, london]]
+
+                SELECT COUNT(p), MIN(UPPER(p.name)) FROM Person p WHERE LOWER(p.name) <> 'ada'
+                -> SELECT COUNT(p), MIN(UPPER(p.name)) FROM Person p WHERE LOWER(p.name) <> 'ada'
+                => [[Long 2, BOB]]
+
                 SELECT DISTINCT UPPER(p.address.city) AS c FROM Person p ORDER BY c DESC
-                -> SELECT p.address__city AS c0 FROM Person p
+                -> SELECT DISTINCT UPPER(p.address__city) AS c0 FROM Person p ORDER BY c0 DESC
                 => [PARIS, LONDON, null]
+
+                SELECT p.name FROM Person p WHERE p.name IS NOT NULL ORDER BY LOWER(p.address.city) DESC, LENGTH(p.name)
+                -> SELECT p.name AS c0, LOWER(p.address__city) AS c1, LENGTH(p.name) AS c2 FROM Person p WHERE p.name IS NOT NULL ORDER BY c1 DESC, c2
+                => [Bob, Cy, Ada]
+
+                SELECT TRIM(p.name), TRIM(BOTH FROM p.name), TRIM(LEADING FROM p.name), TRIM('b' FROM p.name) FROM Person p WHERE TRIM(TRAILING 'a' FROM p.name) = 'Ad'
+                -> SELECT TRIM(p.name), TRIM(LEADING FROM p.name), TRIM(BOTH 'b' FROM p.name) FROM Person p WHERE TRIM(TRAILING 'a' FROM p.name) = 'Ad'
+                => [[Ada, Ada, Ada, Ada]]
+
+                SELECT TRIM(SUBSTRING(p.name, 1, 1) FROM p.name), UPPER(CASE WHEN p.age > 40 THEN 'old' ELSE p.name END) FROM Person p WHERE p.name = 'Ada'
+                -> SELECT SUBSTRING(p.name, 1, 1), p.name, p.age FROM Person p WHERE p.name = 'Ada'
+                => [[da, ADA]]
+
+                SELECT o.number, p.name FROM Order o LEFT JOIN o.person p ON UPPER(p.name) = 'ADA' WHERE o.number > 10
+                -> SELECT o.number, p.name FROM Order o LEFT JOIN o.person p ON UPPER(p.name) = 'ADA' WHERE o.number > 10
+                => [[Long 11, Ada], [Long 12, null], [Long 13, null], [Long 14, null]]
+
+                SELECT p.id FROM Person p WHERE p.mood <> ALL (SELECT q.mood FROM Person q WHERE LOWER(q.name) = 'ada')
+                -> SELECT p.id FROM Person p WHERE NOT EXISTS (SELECT q FROM Person q WHERE LOWER(q.name) = 'ada' AND (p.mood = q.mood OR q.mood IS NULL OR p.mood IS NULL))
+                => [Long 2, Long 4]
 
                 SELECT CASE WHEN p.age > 40 THEN 'old' WHEN p.name IS NULL THEN 'none' ELSE p.name END FROM Person p
                 -> SELECT p.age, p.name FROM Person p
@@ -287,7 +331,7 @@ class FormsTest extends OverShop {
                 => [[Long 13, null], [Long 14, Long 10]]
 
                 SELECT p FROM Person p WHERE UPPER(p.name) = 'CY' OR EXISTS (SELECT o FROM Order o WHERE o.person.id = p.id AND o.amount / 2 > 2)
-                -> SELECT p, p.name, p.id FROM Person p
+                -> SELECT p, UPPER(p.name), p.id FROM Person p
                 -> SELECT o.amount FROM Order o WHERE o.person.id = 1
                 -> SELECT o.amount FROM Order o WHERE o.person.id = 2
                 -> SELECT o.amount FROM Order o WHERE o.person.id = 3
@@ -298,9 +342,9 @@ class FormsTest extends OverShop {
                 -> SELECT q.age FROM Person q GROUP BY q.age HAVING COUNT(q) > 1
                 => [Long 1, Long 3]
 
-                SELECT p.id FROM Person p WHERE p.mood <> ALL (SELECT q.mood FROM Person q WHERE LOWER(q.name) = 'ada')
+                SELECT p.id FROM Person p WHERE p.mood <> ALL (SELECT q.mood FROM Person q WHERE q.id / 1 = 1)
                 -> SELECT p.id, p.mood FROM Person p
-                -> SELECT q.mood, q.name FROM Person q
+                -> SELECT q.mood, q.id FROM Person q
                 => [Long 2, Long 4]
 
                 SELECT t.name FROM Person p JOIN p.team t GROUP BY t HAVING EXISTS (SELECT v FROM Vip v WHERE v.team = t)
@@ -309,13 +353,13 @@ class FormsTest extends OverShop {
                 -> SELECT 1 FROM Vip v WHERE v.team = :p0
                 => [Blue]
 
-                SELECT p.id FROM Person p WHERE p.tags IS EMPTY OR EXISTS (SELECT o FROM Order o WHERE o.person.id = p.id AND LOWER(o.person.name) = 'ada')
+                SELECT p.id FROM Person p WHERE p.tags IS EMPTY OR EXISTS (SELECT o FROM Order o WHERE o.person.id = p.id AND o.amount / 2 > 2)
                 -> SELECT p.id, p FROM Person p
                 -> SELECT 1 FROM Person p JOIN p.tags one WHERE p = :p0
-                -> SELECT o.person.name FROM Order o WHERE o.person.id = 1
+                -> SELECT o.amount FROM Order o WHERE o.person.id = 1
                 -> SELECT 1 FROM Person p JOIN p.tags one WHERE p = :p0
                 -> SELECT 1 FROM Person p JOIN p.tags one WHERE p = :p0
-                -> SELECT o.person.name FROM Order o WHERE o.person.id = 3
+                -> SELECT o.amount FROM Order o WHERE o.person.id = 3
                 -> SELECT 1 FROM Person p JOIN p.tags one WHERE p = :p0
                 => [Long 1, Long 2, Long 4]
 
@@ -330,6 +374,26 @@ class FormsTest extends OverShop {
                 SELECT o.number FROM Order o WHERE TREAT(o.person.boss AS Vip).discount = 1 OR o.number = 10
                 -> SELECT o.number FROM Order o WHERE (EXISTS (SELECT treated FROM Vip treated WHERE treated = o.person.boss AND treated.discount = 1) OR o.number = 10) AND (o.person.boss IS NULL OR o.person.boss IS NOT NULL)
                 => [Long 10]
+
+                SELECT p.name, TREAT(p AS Vip).discount FROM Person p LEFT JOIN p.orders o WHERE p.age > 20 ORDER BY TREAT(p AS Vip).discount
+                -> SELECT p.name AS c0, treated.discount AS c1 FROM Person p LEFT JOIN p.orders o, Vip treated WHERE p.age > 20 AND treated = p ORDER BY treated.discount
+                => [[Cy, Integer 10]]
+
+                SELECT TREAT(o.boss AS Vip), COUNT(o) FROM Person o WHERE TREAT(o.boss AS Vip).discount > 5 GROUP BY TREAT(o.boss AS Vip) HAVING MIN(TREAT(o AS Vip).discount) > 5
+                -> SELECT treated, COUNT(o) FROM Person o, Vip treated, Vip treated_2 WHERE EXISTS (SELECT treated_3 FROM Vip treated_3 WHERE treated_3 = o.boss AND treated_3.discount > 5) AND treated = o.boss AND treated_2 = o GROUP BY treated HAVING MIN(treated_2.discount) > 5
+                => []
+
+                SELECT TREAT(p AS Vip) FROM Person p
+                -> SELECT treated FROM Person p, Vip treated WHERE treated = p
+                => [Person 4]
+
+                SELECT t FROM Team t JOIN FETCH TREAT(t.members AS Vip)
+                -> SELECT t FROM Team t JOIN t.members fetched, Vip fetched_2 WHERE fetched_2 = fetched
+                => [Team 2]
+
+                SELECT t, v.name FROM Team t LEFT JOIN FETCH TREAT(t.members AS Vip) v JOIN FETCH t.leader
+                -> SELECT t, v.name FROM Team t LEFT JOIN t.members v ON TYPE(v) IN (Vip) JOIN t.leader fetched
+                => [[Team 1, null]]
 
                 SELECT v.name, v.discount FROM Team t JOIN TREAT(t.members AS Vip) v
                 -> SELECT v_2.name, v_2.discount FROM Team t JOIN t.members v, Vip v_2 WHERE v_2 = v

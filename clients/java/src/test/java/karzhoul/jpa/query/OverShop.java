@@ -19,6 +19,7 @@ import org.junit.jupiter.api.BeforeEach;
 /** Tests over the shop's rows in the real program; each has a manager of its own, whose changes are rolled back. */
 public abstract class OverShop {
     private static final Pattern TEXT = Pattern.compile("\"text\":\"((?:[^\"\\\\]|\\\\.)*)\"");
+    private static final Pattern KEY = Pattern.compile("\"call\":\"find\",\"em\":\\d+,\"entity\":\"(\\w+)\",\"key\":(\\[[^\\]]*\\])");
     protected static Factory factory;
     private static final List<String> SENT = new ArrayList<>();
     protected EntityManager manager;
@@ -83,10 +84,21 @@ public abstract class OverShop {
 
     /** The texts that the program was asked. */
     protected static List<String> asked() {
+        List<String> texts = askedAndFound();
+        texts.removeIf(text -> text.startsWith("find "));
+        return texts;
+    }
+
+    /** The texts that the program was asked, and the entities with their keys that it found by these. */
+    protected static List<String> askedAndFound() {
         List<String> texts = new ArrayList<>();
         synchronized (SENT) {
             for (String line : SENT) {
                 Matcher found = TEXT.matcher(line);
+                Matcher key = KEY.matcher(line);
+                if (key.find()) {
+                    texts.add("find " + key.group(1) + " " + key.group(2));
+                }
                 if (line.contains("\"call\":\"query\"") || line.contains("\"call\":\"executeUpdate\"")) {
                     if (found.find()) {
                         texts.add(found.group(1));

@@ -29,14 +29,14 @@ class RefusalsTest {
                 SELECT COUNT(p.address) FROM Person p ## 14 "address" of Person is an embedded object, which is served as a whole in SELECT and IS NULL; name its attributes, as "address.street"
                 SELECT p FROM Person p ORDER BY p.address ## 33 "address" of Person is an embedded object, which is served as a whole in SELECT and IS NULL; name its attributes, as "address.street"
                 SELECT p.address.city FROM Person p GROUP BY p.address ## 46 GROUP BY takes paths and variables
-                SELECT TREAT(p AS Vip).discount FROM Person p ## 8 TREAT stands in FROM and WHERE, and isn't served in SELECT and ORDER BY; join it, as JOIN TREAT(p.relation AS Entity) v, or let a variable range over the entity, and ask that variable
+                SELECT TREAT(p AS Vip).discount, p.name FROM Person p GROUP BY TREAT(p AS Vip).discount ## 34 "p.name" stands outside of aggregates, and isn't one of GROUP BY
                 SELECT p FROM Person p WHERE TREAT(p AS Team).limit = 1 ## 30 TREAT takes what is below Person, and Team isn't
                 SELECT p FROM Person p WHERE TREAT(p.name AS Vip).discount = 1 ## 36 TREAT takes a variable or a path to one entity
                 SELECT p FROM Person p WHERE TREAT(p AS Vip).discont = 1 ## 30 Vip has no "discont"; did you mean "discount"?
-                SELECT p FROM Person p JOIN FETCH TREAT(p.boss AS Vip) ## 24 a fetch join of TREAT isn't served: it reads the whole relation
+                SELECT p FROM Person p JOIN FETCH TREAT(p.boss AS Team) ## 35 TREAT takes what is below Person, and Team isn't
                 SELECT v.discount FROM Person p LEFT JOIN TREAT(p.boss AS Vip) v ## 8 "v.discount" of a LEFT JOIN of TREAT is what Person hasn't, which isn't served; leave LEFT out, or ask EXISTS
                 SELECT p FROM Person p JOIN TREAT(p AS Vip).tags t ## 29 a join is along a path of a variable; join TREAT(..) first, and go on from the variable of that
-                SELECT p FROM Person p LEFT JOIN p.boss b ON TREAT(b AS Vip).discount = 1 ## 46 TREAT stands in FROM and WHERE, and isn't served in the ON of a LEFT JOIN; join it, as JOIN TREAT(p.relation AS Entity) v, or let a variable range over the entity, and ask that variable
+                SELECT p FROM Person p LEFT JOIN p.boss b ON TREAT(b AS Vip).discount = 1 ## 46 TREAT isn't served in the ON of a LEFT JOIN; join it, as LEFT JOIN TREAT(p.relation AS Entity) v, or ask EXISTS of a variable over the entity
                 SELECT FUNCTION('lower', p.name) FROM Person p ## 8 FUNCTION isn't served: there is no database with functions of its own
                 SELECT INDEX(p) FROM Person p ## 8 INDEX takes a variable along a List of values with @OrderColumn, and "p" is of Person
                 SELECT q FROM Person p ## 8 there is no variable "q"; did you mean "p"?
@@ -85,7 +85,9 @@ class RefusalsTest {
                 SELECT NEW a.b.C(p.name) FROM Person p ## 8 there is no class a.b.C
                 SELECT NEW karzhoul.jpa.query.Shop.PlaceKey(p.name, p.age) FROM Person p ## 8 karzhoul.jpa.query.Shop$PlaceKey has no constructor of (String, Integer)
                 SELECT p FROM Person p WHERE p.age = :a AND p.name = ?1 ## 54 named and positional parameters stand in one query
-                SELECT KEY(t) FROM Person p JOIN p.tags t ## 8 KEY takes a variable along a Map of values; of a map of entities ask for the attribute that @MapKey names, and "t" is of Tag
+                SELECT KEY(t) FROM Person p JOIN p.tags t ## 8 KEY takes a variable along a Map, and "t" is of Tag
+                SELECT p FROM Person p JOIN p.tags t WHERE ENTRY(t) = 1 ## 44 ENTRY is an item of SELECT, and stands nowhere else
+                SELECT ENTRY(t) FROM Person p JOIN p.tags t ## 8 KEY takes a variable along a Map, and "t" is of Tag
                 SELECT p FROM Person p LEFT JOIN p.team t ON t.leader.name = 'x' ## 46 in the ON of a LEFT JOIN a path has one step at most; join what it goes along before, and name that variable
                 SELECT o FROM Order o WHERE o.hour < CURRENT_TIMESTAMP ## 29 a time of day is compared with a date
                 SELECT a FROM Tag a, Tag b, Tag c, Tag d, Tag e, Tag f, Tag g, Tag h, Tag i ## 1 the statement takes 9 variables, those of its subqueries and of its joins over several steps too, and there are at most 8
@@ -94,10 +96,11 @@ class RefusalsTest {
                 UPDATE Person p SET p.boss.name = 'x' ## 21 SET takes attributes and links to one entity, and "p.boss.name" is neither
                 UPDATE Person p SET p.age = 'x' ## 29 "p.age" is a number, and is set to a text
                 UPDATE Person p SET p.boss = p.boss.boss ## 30 SET gives a link a parameter or NULL
-                UPDATE Person p SET p.credit = p.credit * 1.1 ## 43 1.1 isn't among the numbers beside it, of 0 decimal places and 64 bits
-                UPDATE Person SET name = UPPER(name) ## 26 UPPER isn't among what the program computes
+                UPDATE Person p SET p.credit = p.credit * 1.1 ## 32 "*" has 3 decimal places, and what it stands beside 2
+                UPDATE Person p SET p.credit = p.credit + 0.005 ## 32 "+" has 3 decimal places, and what it stands beside 2
+                UPDATE Person p SET p.age = p.credit ## 29 "p.credit" has 2 decimal places, and what it stands beside 0
+                UPDATE Person SET age = SQRT(age) ## 25 SQRT isn't among what the program computes
                 UPDATE Person SET nam = 1 ## 19 there is no variable "nam"; did you mean "name"?
-                DELETE FROM Person p WHERE UPPER(p.name) = 'X' ## 28 UPPER isn't among what the program computes; in UPDATE and DELETE the door decides no condition: select the objects, and change or remove them
                 """.split("\n"));
     }
 }

@@ -31,6 +31,7 @@ import java.util.Date;
 import java.util.List;
 import java.util.Set;
 import java.util.stream.LongStream;
+import org.junit.jupiter.api.Assumptions;
 import org.junit.jupiter.api.Test;
 
 /** Query and TypedQuery (chapter 3.10): parameters, results, how they are executed. */
@@ -129,13 +130,17 @@ class StatementQueryTest extends OverShop {
         assertThrows(IllegalArgumentException.class, () -> with(in + "IN ?1", List.of(1)));
     }
 
-    /** A list that makes the text too long for the program is looked up by the door. */
+    /** A list goes to the program as it is; one of more values than it takes in one is spread over several. */
     @Test
     void listsOfTenThousand() {
         List<Long> numbers = LongStream.range(0, 10_000).map(n -> 13 + n * 1_000_003).boxed().toList();
         assertEquals("[Long 13]", with("SELECT o.number FROM Order o WHERE o.number IN ?1", numbers));
         assertEquals("[Long 10, Long 11, Long 12, Long 14]",
                 with("SELECT o.number FROM Order o WHERE o.number NOT IN ?1", numbers));
+        assertEquals(List.of("SELECT o.number FROM Order o WHERE (o.number IN :p0 OR o.number IN :p1 OR o.number IN :p2)",
+                "SELECT o.number FROM Order o WHERE (o.number NOT IN :p0 AND o.number NOT IN :p1 AND o.number NOT IN :p2)"), asked());
+        assertEquals("[Long 10, Long 11, Long 13, Long 14]",
+                with("SELECT o.number FROM Order o WHERE o.number IN ?1 OR NOT o.person.age NOT IN ?2", numbers, List.of(36, 50)));
         assertEquals("[[7, 1]]", with("SELECT o.amount, COUNT(o) FROM Order o WHERE o.number IN ?1 GROUP BY o.amount",
                 numbers)
                 .replace("Integer ", "").replace("Long ", ""));
@@ -146,8 +151,95 @@ class StatementQueryTest extends OverShop {
         texts.add("Bob");
         assertEquals("[Person 3]", with("SELECT p FROM Person p WHERE p.name IN ?1", texts));
         manager.getTransaction().begin();
-        assertThrows(IllegalArgumentException.class, () -> query("DELETE FROM Tag t WHERE t.code IN :l")
-                .setParameter("l", texts).executeUpdate());
+        texts.add("c");
+        assertEquals(1, query("DELETE FROM Tag t WHERE t.code IN :l").setParameter("l", texts).executeUpdate());
+        assertEquals("[Tag a, Tag b]", rows("SELECT t FROM Tag t"));
+        assertEquals(2, query("UPDATE Order o SET o.amount = 1 WHERE o.number IN :l AND SQRT(o.number) > 1 OR o.number = 10")
+                .setParameter("l", numbers).executeUpdate());
+    }
+
+    /** One entity by its key is found without a text, and is what the text would have found. */
+    @Test
+    void oneByItsKey() {
+        String text = "SELECT p FROM Person p WHERE p.id = ?1";
+        assertEquals("[Person 1]", with(text, 1L));
+        assertEquals("[]", with(text, 99));
+        assertEquals("[]", with(text, (Object) null));
+        assertEquals("[]", with(text, 1.5));
+        assertEquals("[Place 1/x]", with("SELECT l FROM Place l WHERE l.at = ?1", new Shop.PlaceKey(1, "x")));
+        assertEquals("[Person 4]", with("SELECT DISTINCT p FROM Person p LEFT JOIN FETCH p.orders WHERE p.id = ?1", 4));
+        assertEquals("[]", with("SELECT v FROM Vip v WHERE v.id = ?1", 1));
+        assertEquals(List.of(), query(text).setParameter(1, 2).setFirstResult(1).getResultList());
+        assertEquals(List.of(), query(text).setParameter(1, 3).setMaxResults(0).getResultList());
+        assertTrue(askedAndFound().containsAll(List.of("find Person [1]", "find Person [99]", "find Place [1,\"x\"]")),
+                askedAndFound().toString());
+        assertSame(manager.find(Shop.Person.class, 4L), query(text).setParameter(1, 4).getSingleResult());
+    }
+
+    /** Where the manager has the key, what it did and hasn't flushed is no row, or still one (chapter 3.10.8). */
+    @Test
+    void oneByItsKeyWithoutAFlush() {
+        String text = "SELECT t FROM Tag t WHERE t.code = ?1";
+        manager.setFlushMode(FlushModeType.COMMIT);
+        manager.getTransaction().begin();
+        Shop.Tag fresh = new Shop.Tag();
+        fresh.code = "new";
+        manager.persist(fresh);
+        Shop.Tag known = manager.find(Shop.Tag.class, "c");
+        manager.remove(known);
+        assertEquals("[]", with(text, "new"));
+        assertEquals("[Tag c]", with(text, "c"));
+        manager.setFlushMode(FlushModeType.AUTO);
+        assertEquals("[Tag new]", with(text, "new"));
+        assertEquals("[]", with(text, "c"));
+        assertEquals(1, query("DELETE FROM Tag t WHERE t.code = 'new'").executeUpdate());
+        manager.clear();
+        assertEquals("[]", with(text, "new"));
+    }
+
+    /** Lists as the program is asked them: each value once, and no value to which nothing is equal. */
+    @Test
+    void listsAreParametersOfTheProgram() {
+        assertEquals("[Person 1, Person 3]", with("SELECT p FROM Person p WHERE p.name IN ?1", List.of("Ada", "Bob", "Ada")));
+        assertEquals(List.of("SELECT p FROM Person p WHERE p.name IN :p0"), asked());
+        assertEquals("[Order 13]", with("SELECT o FROM Order o WHERE o.price IN ?1 AND o.person.mood NOT IN ?2",
+                List.of(10, 2.255, new BigDecimal("7.001")), List.of()));
+        assertEquals("[]", with("SELECT o FROM Order o WHERE o.person.name NOT IN ?1 AND o.number = 12", List.of()));
+        assertEquals("[Order 12]", with("SELECT o FROM Order o WHERE o.number NOT IN ?1 AND o.number = 12", List.of(5.5)));
+        assertEquals("[Long 12]", with("SELECT o.number FROM Order o WHERE o.amount NOT IN ?1 AND o.amount IS NULL", List.of()));
+        assertEquals("[]", with("SELECT o.number FROM Order o WHERE o.amount NOT IN ?1 AND o.amount IS NULL", List.of(5.5)));
+        assertEquals("[[Long 14, BOB]]",
+                with("SELECT o.number, UPPER(p.name) FROM Order o LEFT JOIN o.person p ON LOWER(p.name) IN ?1 WHERE UPPER(p.name) IN (?2)",
+                        List.of("ada", "bob"), new String[] {"BOB"}));
+        assertEquals("[Person 1, Person 3]", with("SELECT p FROM Person p WHERE EXISTS (SELECT o FROM Order o WHERE o.person = p"
+                + " AND o.number IN ?1) AND p IN ?2", List.of(10L, 14L), List.of(manager.find(Shop.Person.class, 1L),
+                manager.find(Shop.Person.class, 3L))));
+    }
+
+    /** All lists of one text together have a limit, where the program tells that it has one. */
+    @Test
+    void listsBeyondTheLimitOfAText() {
+        Assumptions.assumeTrue(Grammar.line().contains("\"listsTogether\":65536"));
+        List<Long> numbers = LongStream.rangeClosed(1, 65_536).boxed().toList();
+        String text = "SELECT COUNT(o) FROM Order o WHERE o.number IN ?1";
+        assertEquals("[Long 5]", with(text, numbers));
+        PersistenceException refused = assertThrows(PersistenceException.class, () -> with(text + " OR o.number IN ?2", numbers, List.of(1)));
+        assertTrue(refused.getMessage().contains("more than 65,536 values together"), refused.getMessage());
+    }
+
+    /** What is beyond a line of the program is refused in words, and the transaction is marked as by each refusal. */
+    @Test
+    void listsBeyondALineOfTheProgram() {
+        manager.getTransaction().begin();
+        List<String> texts = LongStream.range(0, 60_000).mapToObj(n -> "a name that is long " + n).toList();
+        PersistenceException refused = assertThrows(PersistenceException.class,
+                () -> with("SELECT p FROM Person p WHERE p.name IN ?1", texts));
+        assertTrue(refused.getMessage().startsWith("Limit, ") && refused.getMessage().contains("a line over 1,048,576"),
+                refused.getMessage());
+        assertTrue(manager.getTransaction().getRollbackOnly());
+        manager.getTransaction().rollback();
+        assertEquals("[Person 1]", with("SELECT p FROM Person p WHERE p.name IN ?1", texts.subList(0, 9_000).stream()
+                .map(text -> text.endsWith(" 77") ? "Ada" : text).toList()));
     }
 
     @Test
@@ -340,6 +432,49 @@ class StatementQueryTest extends OverShop {
         assertEquals(3, query("DELETE FROM Item i WHERE i.count > (SELECT MIN(j.count) FROM Item j)").executeUpdate());
         assertEquals("[Item 102]", rows("SELECT i FROM Item i"));
         assertEquals(1, query("DELETE FROM Item").executeUpdate());
+    }
+
+    /** Where the program can't say WHERE, its keys are asked for before: the same rows as those of a SELECT. */
+    @Test
+    void updatesAndDeletesWhereTheDoorDecides() {
+        manager.getTransaction().begin();
+        assertEquals(2, query("UPDATE Item i SET i.count = i.count + :n WHERE UPPER(i.what) = :w AND SQRT(LENGTH(i.what)) > :n")
+                .setParameter("n", 1).setParameter("w", "PEN").executeUpdate());
+        assertEquals("[[Long 100, Long 3], [Long 101, Long 3], [Long 102, Long 2], [Long 103, Long 10]]",
+                rows("SELECT i.id, i.count FROM Item i"));
+        assertEquals(2, query("UPDATE Order o SET o.amount = 0 WHERE o.amount / 2 = 3").executeUpdate());
+        assertEquals("[Integer 0, Integer 0, Integer 1, Integer 5, null]", rows("SELECT o.amount FROM Order o"));
+        assertEquals(2, query("UPDATE Order o SET o.amount = 100 WHERE 5 < (SELECT SUM(i.count) FROM Item i WHERE i.order = o)")
+                .executeUpdate());
+        assertEquals("[Long 10, Long 14]", rows("SELECT o.number FROM Order o WHERE o.amount = 100"));
+        assertEquals(2, query("DELETE FROM Item i WHERE NOT CONCAT(i.what, CASE WHEN i.id > 0 THEN '' ELSE 'x' END) = 'pen'").executeUpdate());
+        assertEquals("[Item 100, Item 102]", rows("SELECT i FROM Item i"));
+        assertEquals(1, query("DELETE FROM Place p WHERE CASE WHEN p.label IS NULL THEN '' ELSE p.label END LIKE 'o%'").executeUpdate());
+        assertEquals("[null, three]", rows("SELECT p.label FROM Place p ORDER BY p.label"));
+        assertEquals(1, query("DELETE FROM Seat s WHERE CASE WHEN s.price IS NULL THEN 1 ELSE 0 END = 1").executeUpdate());
+        assertEquals("[Float 3.25, Float 9.5]", rows("SELECT s.price FROM Seat s ORDER BY s.price"));
+        assertEquals(0, query("DELETE FROM Item i WHERE SQRT(i.count) = -1").executeUpdate());
+        assertThrows(PersistenceException.class,
+                () -> query("UPDATE Order o SET o.amount = o.amount + 2147483600 WHERE o.amount / 1 = 100").executeUpdate());
+        assertTrue(manager.getTransaction().getRollbackOnly());
+    }
+
+    /** Subqueries that the program can't say in WHERE, as those of a SELECT. */
+    @Test
+    void updatesWithSubqueriesOfEveryKind() {
+        manager.getTransaction().begin();
+        String set = "UPDATE Order o SET o.amount = ";
+        assertEquals(1, query(set + "91 WHERE 1 < (SELECT COUNT(i) FROM Item i WHERE i.order = o GROUP BY i.order HAVING COUNT(i) > 0)")
+                .executeUpdate());
+        assertEquals("[Long 10]", rows("SELECT o.number FROM Order o WHERE o.amount = 91"));
+        assertEquals(1, query(set + "92 WHERE o.price = (SELECT q.price FROM Order q WHERE q.person = o.person AND q.number = 11)")
+                .executeUpdate());
+        assertEquals("[Long 11]", rows("SELECT o.number FROM Order o WHERE o.amount = 92"));
+        assertEquals(1, query(set + "93 WHERE o.number = 13 AND o.amount IN (SELECT q.amount + 0 FROM Order q WHERE q.amount / 7 = 1)")
+                .executeUpdate());
+        assertThrows(PersistenceException.class,
+                () -> query(set + "94 WHERE o.price = (SELECT q.price FROM Order q WHERE q.person = o.person)").executeUpdate());
+        assertTrue(manager.getTransaction().getRollbackOnly());
     }
 
     /** What would be beyond the attribute's type is refused before anything is changed. */

@@ -1,0 +1,246 @@
+package karzhoul.jpa.model;
+
+import jakarta.persistence.JoinColumn;
+import jakarta.persistence.SecondaryTable;
+import jakarta.persistence.Table;
+import jakarta.persistence.UniqueConstraint;
+import java.util.ArrayList;
+import java.util.Comparator;
+import java.util.HashSet;
+import java.util.LinkedHashMap;
+import java.util.List;
+import java.util.Locale;
+import java.util.Map;
+import java.util.Optional;
+import java.util.Set;
+import java.util.stream.Collectors;
+
+/** Reads which values are unique (chapters 11.1.9, 11.1.25 and 11.1.54), once relations lead to their targets. */
+final class UniqueReader {
+    /** A part, where it was declared. */
+    private record Found(PlainEntity entity, Unique.Part part, String column) {}
+
+    private final Faults faults;
+    private final Names entityNames;
+    private final List<Unique> all = new ArrayList<>();
+    private final Map<PlainEntity, Set<Set<String>>> known = new LinkedHashMap<>();
+
+    /** @param entityNames the names that entities of the mapping have already */
+    UniqueReader(Faults faults, Names entityNames) {
+        this.faults = faults;
+        this.entityNames = entityNames;
+    }
+
+    /** Those of these entities, which are given them. */
+    List<Unique> read(List<PlainEntity> entities) {
+        for (PlainEntity entity : entities) {
+            if (entity.plainKey() != null) {
+                ofMembers(entity);
+                ofTables(entity);
+            }
+        }
+        return all;
+    }
+
+    private void ofMembers(PlainEntity entity) {
+        for (PlainAttribute attribute : entity.ownAttributes()) {
+            if (attribute.isUnique()) {
+                add(List.of(found(entity, attribute)));
+            }
+        }
+        for (PlainRelation relation : entity.ownRelations()) {
+            if (isUnique(relation)) {
+                add(List.of(found(entity, relation)));
+            }
+        }
+        if (entity.above() == null && entity.key().parts().size() > 1) {
+            for (Attribute part : entity.key().parts()) {
+                if (((PlainAttribute) part).isUnique()) {
+                    add(List.of(found(entity, (PlainAttribute) part)));
+                }
+            }
+        }
+    }
+
+    /** Whether the join column is unique; that of a one-to-one is anyhow. */
+    private boolean isUnique(PlainRelation relation) {
+        if (relation.kind() != Relation.Kind.MANY_TO_ONE || relation.target() == null) {
+            return false;
+        }
+        Member member = relation.said().declared();
+        JoinColumn[] columns = member.annotated().getAnnotationsByType(JoinColumn.class);
+        boolean isAny = false;
+        for (JoinColumn column : columns) {
+            isAny |= column.unique();
+        }
+        if (isAny && columns.length > 1) {
+            faults.add(member, "one of several join columns isn't unique by itself",
+                    "Name all of them in @UniqueConstraint of @Table");
+        }
+        return isAny && columns.length == 1;
+    }
+
+    private void ofTables(PlainEntity entity) {
+        Table table = entity.javaClass().getAnnotation(Table.class);
+        if (table != null) {
+            for (UniqueConstraint constraint : table.uniqueConstraints()) {
+                ofConstraint(entity, constraint, "");
+            }
+        }
+        for (SecondaryTable secondary : entity.javaClass().getAnnotationsByType(SecondaryTable.class)) {
+            for (UniqueConstraint constraint : secondary.uniqueConstraints()) {
+                ofConstraint(entity, constraint, secondary.name() + ".");
+            }
+        }
+    }
+
+    private void ofConstraint(PlainEntity entity, UniqueConstraint constraint, String before) {
+        List<Found> found = new ArrayList<>();
+        Set<String> names = new HashSet<>();
+        for (String name : constraint.columnNames()) {
+            names.add((before + name).toLowerCase(Locale.ROOT));
+        }
+        for (String name : constraint.columnNames()) {
+            Optional<Found> part = find(entity, before + name, names);
+            if (part.isEmpty()) {
+                faults.add(entity.javaClass(), "@UniqueConstraint names the column \"" + name
+                        + "\", which it doesn't have, or has only beside others that aren't named",
+                        "Name columns of its attributes, and all columns of a relation to one");
+                return;
+            }
+            if (found.stream().noneMatch(it -> it.part().path().equals(part.get().part().path()))) {
+                found.add(part.get());
+            }
+        }
+        if (!found.isEmpty()) {
+            add(found);
+        }
+    }
+
+    /** What has the column: in this class, in one above, or in one below. */
+    private static Optional<Found> find(PlainEntity entity, String column, Set<String> names) {
+        for (PlainEntity at = entity; at != null; at = at.above()) {
+            Optional<Found> own = findOwn(at, column, names);
+            if (own.isPresent()) {
+                return own;
+            }
+        }
+        return findBelow(entity, column, names);
+    }
+
+    private static Optional<Found> findBelow(PlainEntity entity, String column, Set<String> names) {
+        for (EntityModel each : entity.subEntities()) {
+            PlainEntity below = (PlainEntity) each;
+            Optional<Found> found = findOwn(below, column, names).or(() -> findBelow(below, column, names));
+            if (found.isPresent()) {
+                return found;
+            }
+        }
+        return Optional.empty();
+    }
+
+    private static Optional<Found> findOwn(PlainEntity entity, String column, Set<String> names) {
+        List<PlainAttribute> attributes = new ArrayList<>(entity.ownAttributes());
+        if (entity.above() == null) {
+            entity.key().parts().forEach(part -> attributes.add((PlainAttribute) part));
+        }
+        for (PlainAttribute attribute : attributes) {
+            if (isNamed(plain(entity, attribute.columnName()), attribute.path(), column)) {
+                return Optional.of(found(entity, attribute));
+            }
+        }
+        for (PlainRelation relation : entity.ownRelations()) {
+            boolean isOne = relation.isOwner() && !relation.isMany() && relation.target() != null;
+            if (isOne && columns(entity, relation).contains(column.toLowerCase(Locale.ROOT))
+                    && names.containsAll(columns(entity, relation))) {
+                return Optional.of(found(entity, relation));
+            }
+        }
+        return Optional.empty();
+    }
+
+    /** Where no annotation names the column of an embedded attribute, it has the name of that (chapter 2.13). */
+    private static boolean isNamed(String columnName, String path, String column) {
+        return columnName.equalsIgnoreCase(column)
+                || columnName.equals(path) && path.endsWith("." + column);
+    }
+
+    private static String plain(PlainEntity entity, String column) {
+        String before = entity.name() + ".";
+        return entity.above() != null && column.startsWith(before) ? column.substring(before.length()) : column;
+    }
+
+    /** The names of a relation's columns; without annotations its own, with those of the key there (chapter 11.1.25). */
+    private static Set<String> columns(PlainEntity entity, PlainRelation relation) {
+        String stored = plain(entity, relation.storedName());
+        if (!stored.equals(relation.path())) {
+            return Set.of(stored.toLowerCase(Locale.ROOT).split(" "));
+        }
+        return relation.target().key().parts().stream()
+                .map(part -> (relation.path() + "_" + ((PlainAttribute) part).columnName()).toLowerCase(Locale.ROOT))
+                .collect(Collectors.toSet());
+    }
+
+    private static Found found(PlainEntity entity, PlainAttribute attribute) {
+        return new Found(entity, new Unique.Part(attribute, null), plain(entity, attribute.columnName()));
+    }
+
+    private static Found found(PlainEntity entity, PlainRelation relation) {
+        return new Found(entity, new Unique.Part(null, relation), plain(entity, relation.storedName()));
+    }
+
+    private void add(List<Found> found) {
+        PlainEntity entity = found.get(0).entity();
+        for (Found part : found) {
+            entity = part.entity().isA(entity) ? part.entity() : entity;
+        }
+        for (Found part : found) {
+            if (!entity.isA(part.entity())) {
+                faults.add(entity.javaClass(), "a unique constraint is of columns of classes beside each other",
+                        "Name columns of one class, and of those above it");
+                return;
+            }
+        }
+        Set<String> paths = found.stream().map(it -> it.part().path()).collect(Collectors.toSet());
+        if (!isKept(entity, found, paths) && known.computeIfAbsent(entity, none -> new HashSet<>()).add(paths)) {
+            make(entity, found.stream().sorted(Comparator.comparing(Found::column)).toList());
+        }
+    }
+
+    /** Whether the program keeps it by itself: the whole key is in it, or a one-to-one relation. */
+    private static boolean isKept(PlainEntity entity, List<Found> found, Set<String> paths) {
+        return entity.key().parts().stream().allMatch(part -> paths.contains(part.path()))
+                || found.stream().anyMatch(it -> it.part().relation() != null
+                        && it.part().relation().kind() == Relation.Kind.ONE_TO_ONE);
+    }
+
+    private void make(PlainEntity entity, List<Found> found) {
+        String columns = found.stream().map(Found::column).collect(Collectors.joining(", "));
+        String place = entity.declaredAt() + "." + found.get(0).part().path();
+        List<Attribute> parts = found.stream().flatMap(it -> it.part().columns().stream()).toList();
+        if (parts.size() > Unique.MOST_COLUMNS) {
+            faults.add(place, "a unique constraint of " + parts.size() + " columns isn't kept",
+                    "Let it have at most " + Unique.MOST_COLUMNS);
+            return;
+        } else if (parts.stream().anyMatch(it -> it.codec().meaning().equals("serialized"))) {
+            faults.add(place, "what is kept as Java writes it isn't unique", "Use a number, a String, a date or an enum");
+            return;
+        }
+        String name = entity.name() + " (" + columns + ")";
+        PlainEntity keys = new PlainEntity(Unique.class, name, entityNames.give("unique_" + entity.name() + "_" + columns), null,
+                "unique " + columns + " of the table " + entity.table(), "unique");
+        keys.isDeclaredAt(place);
+        List<PlainAttribute> key = new ArrayList<>();
+        for (int i = 0; i < parts.size(); i++) {
+            String path = (parts.size() == 1 ? "" : "id.") + "part" + (i + 1);
+            key.add(new PlainAttribute(path, path, Attribute.Role.KEY, parts.get(i).codec(), true, null, path));
+        }
+        keys.isKnownBy(new PlainKey(key, KeyModel.Generation.ASSIGNED, null, null, null, false),
+                parts.size() == 1 ? null : "id");
+        keys.has(new PlainAttribute(Unique.OWNER, Unique.OWNER, Attribute.Role.PLAIN, BasicCodecs.fixed(String.class), true,
+                null, Unique.OWNER));
+        Unique unique = new Unique(entity, keys, found.stream().map(Found::part).toList());
+        entity.has(unique);
+        all.add(unique);
+    }
+}

@@ -1,0 +1,286 @@
+"""The new objects of each old one."""
+
+from __future__ import annotations
+
+from dataclasses import dataclass, field
+from typing import Any, Dict, Iterator, List, Mapping, Optional, Sequence, Set, Tuple, Union
+
+from ..arguments import meant
+from ..classes.embedded import Embedded
+from ..classes.types import StoredType
+from ..classes.types import Unfit as UnfitValue
+from ..classes.values import WrongValue
+from ..records import Key, Record, Shape, Unfit, Value, fitting, key_fitting, named
+from ..unit import Member
+from .forms import plain_type
+from .names import check_whole, flattened
+from .olds import Old, OldStore, Reference
+from .plans import FUNCTION, ClassPlan, Led, Part, Plan, matched
+from .sides import Side
+
+MOST_FAULTS = 10
+
+
+@dataclass
+class Brought:
+    """A new object, whose relations may still lead to objects of before."""
+
+    shape: Shape
+    key: Key
+    version: int = 0
+    values: Dict[str, Value] = field(default_factory=dict)
+    links: Dict[str, Optional[Led]] = field(default_factory=dict)
+    pairs: Dict[str, List[Led]] = field(default_factory=dict)
+    is_added: bool = False
+    """Whether it is of another class than its old one becomes."""
+
+    def __str__(self) -> str:
+        return named(self.shape.name, self.key)
+
+
+class _Wrong(Exception):
+    """What is wrong with a new object."""
+
+
+Gives = Tuple[Optional[str], Mapping[str, Any]]
+_WAYS = (
+    "a dict of members, None where the object goes, or a list of these, in which "
+    "(\"Class\", {..}) is another new object"
+)
+
+
+class Bringer:
+    """Makes the new objects. `faults` are what was wrong with some, `moved` what the keys of
+    hierarchies have become where that isn't the same, and `lost` counts what goes untold."""
+
+    def __init__(self, plan: Plan, store: OldStore) -> None:
+        self._plan, self._store, self._new = plan, store, plan.new
+        self.faults: List[str] = []
+        self.lost: Dict[str, int] = {}
+        self._plans: Dict[Tuple[str, str], ClassPlan] = {}
+        self._moved: Dict[str, Dict[Key, Optional[Tuple[str, Key]]]] = {
+            top: {} for top in _moving(plan)
+        }
+
+    # ---- what relations lead to
+
+    def now(self, led: Led) -> Union[None, bool, Tuple[str, Key]]:
+        """The hierarchy and the key of what a relation leads to; False where that object is gone,
+        and None where it hasn't been read yet."""
+        if not led.is_old:
+            return self._new.shapes[led.entity].top, led.key
+        top = self._store.shapes[led.entity].top
+        moved = self._moved.get(top)
+        if moved is not None:
+            return (moved[led.key] or False) if led.key in moved else None
+        after = self._plan.classes[led.entity].new
+        assert after is not None
+        return after.top, led.key
+
+    # ---- objects
+
+    def brought(self, record: Record) -> Iterator[Brought]:
+        """The new objects of an old one; what is wrong with them is among the faults."""
+        plan = self._plan.classes[record.entity]
+        made: List[Brought] = []
+        try:
+            for entity, given in self._given(plan, record):
+                made.append(self._made(plan, record, entity, given, not made))
+        except _Wrong as why:
+            self.faults.append(f"{record}: {why}")
+            made = []
+        self._count_lost(plan, record)
+        moved = self._moved.get(plan.old.top)
+        if moved is not None:
+            own = next((each for each in made if not each.is_added), None)
+            moved[record.key or ()] = None if own is None else (own.shape.top, own.key)
+        yield from made
+
+    def _given(self, plan: ClassPlan, record: Record) -> Iterator[Gives]:
+        """What a function gives of an object: the class, None for the one that it becomes, and the
+        members."""
+        if plan.function is None:
+            if plan.new is not None:
+                yield None, {}
+            return
+        name = f"{FUNCTION}{record.entity}"
+        try:
+            said = plan.function(Old(record, self._store))
+        except Exception as fault:  # Of a function that isn't ours.
+            raise _Wrong(f"{name} raises {type(fault).__name__}: {fault}") from fault
+        for each in said if isinstance(said, list) else [said]:
+            if isinstance(each, tuple) and len(each) == 2 and isinstance(each[1], Mapping):
+                yield str(getattr(each[0], "__name__", each[0])), each[1]
+            elif isinstance(each, Mapping):
+                yield None, each
+            elif each is not None:
+                raise _Wrong(f"{name} gives {each!r}, and is to give {_WAYS}")
+
+    def _count_lost(self, plan: ClassPlan, record: Record) -> None:
+        if plan.function is not None:
+            return
+        own = plan.old.name
+        if plan.new is None:
+            self.lost[own] = self.lost.get(own, 0) + 1
+        for name in plan.gone:
+            held = (record.values.get(name), record.links.get(name), record.pairs.get(name) or None)
+            if held != (None, None, None):
+                self.lost[f"{own}.{name}"] = self.lost.get(f"{own}.{name}", 0) + 1
+
+    def _made(
+        self, plan: ClassPlan, record: Record, entity: Optional[str], given: Mapping[str, Any],
+        is_first: bool,
+    ) -> Brought:
+        if entity is None and plan.new is None:
+            raise _Wrong(f"there is no class that {record.entity} becomes: say which, as "
+                         "(\"Class\", {..})")
+        if entity is not None and entity not in self._new.shapes:
+            raise _Wrong(f"there is no class {entity}{meant(entity, self._new.shapes)}")
+        own = self._own(plan, entity) if is_first or entity is None else None
+        shape = own.new if own is not None else self._new.shapes[str(entity)]
+        assert shape is not None
+        made = Brought(shape, (), is_added=own is None)
+        told = _Told(self._new, shape, given)
+        made.key = told.key(record.key if own is not None and not own.key else None)
+        made.version = record.version or 0 if own is not None and shape.version else 0
+        told.fill(made, own, record)
+        return made
+
+    def _own(self, plan: ClassPlan, entity: Optional[str]) -> Optional[ClassPlan]:
+        """What becomes of an object that is of this class now, where that is its hierarchy's."""
+        if entity is None or (plan.new is not None and plan.new.name == entity):
+            return plan
+        top = self._plan.classes[plan.old.top].new
+        shape = self._new.shapes[entity]
+        if top is None or shape.top != top.top:
+            return None
+        place = (plan.old.name, entity)
+        if place not in self._plans:
+            self._plans[place] = matched(self._plan, plan.old, shape)
+        return self._plans[place]
+
+
+class _Told:
+    """What is told of one new object."""
+
+    def __init__(self, side: Side, shape: Shape, given: Mapping[str, Any]) -> None:
+        known = (*(it.name for it in shape.key), *shape.values, *shape.links, *shape.pairs)
+        self._side, self._shape = side, shape
+        self._members = side.class_members(shape.name)
+        try:
+            self._given = dict(flattened(given, self._members, known))
+        except UnfitValue as why:
+            raise _Wrong(str(why)) from None
+        for name in self._given:
+            if name not in known:
+                told = [*self._members, *(self._said(each) for each in known)]
+                raise _Wrong(f"{shape.name} has no {name!r} that is stored{meant(name, told)}")
+
+    def _said(self, name: str) -> str:
+        return self._side.shown(self._shape.name, name)
+
+    def key(self, kept: Optional[Key]) -> Key:
+        parts = self._shape.key
+        missing = [it.name for it in parts if it.name not in self._given]
+        if not missing:
+            return tuple(self._value(it, self._given[it.name]) for it in parts)
+        if kept is None or len(missing) < len(parts):
+            raise _Wrong(f"its {' and '.join(map(self._said, missing))}, of the key of "
+                         f"{self._shape.name}, isn't told")
+        for part, value in zip(parts, kept):
+            try:
+                self._kind(part).from_stored(value)
+            except UnfitValue as why:
+                raise _Wrong(f"{self._said(part.name)} {why}") from None
+        return kept
+
+    def fill(self, made: Brought, plan: Optional[ClassPlan], record: Record) -> None:
+        shape = self._shape
+        parts = {part.name: part for part in plan.parts()} if plan is not None else {}
+        for member in shape.values.values():
+            made.values[member.name] = self._one(member, parts.get(member.name), record)
+        for member in shape.links.values():
+            made.links[member.name] = self._one(member, parts.get(member.name), record, "link")
+        for member in shape.pairs.values():
+            found = self._one(member, parts.get(member.name), record, "list")
+            made.pairs[member.name] = list(found or ())
+        try:
+            check_whole(self._members, made.values)
+        except WrongValue as why:
+            raise _Wrong(str(why)) from None
+
+    def _one(
+        self, member: Member, part: Optional[Part], record: Record, sort: str = ""
+    ) -> Any:
+        """What a member is to be."""
+        name = member.name
+        if name in self._given:
+            given = self._given[name]
+            if sort == "list":
+                return [self._led(member, each) for each in given]
+            found = self._led(member, given) if sort else self._value(member, given)
+        elif part is not None and part.get is not None and not part.missing:
+            try:
+                found = part.get(record)
+            except (UnfitValue, ValueError) as why:
+                raise _Wrong(f"{self._said(name)} {why}") from None
+        elif part is not None and part.missing:
+            raise _Wrong(f"{self._said(name)} isn't told")
+        else:
+            found = None
+        if found is None and member.is_required:
+            raise _Wrong(f"{self._said(name)} is required, and null")
+        return found
+
+    def _kind(self, member: Member) -> StoredType:
+        return self._side.types.get((self._shape.name, member.name)) or plain_type(member.type)
+
+    def _value(self, member: Member, value: Any) -> Value:
+        kind = self._side.types.get((self._shape.name, member.name))
+        try:
+            if value is None or kind is None:
+                return fitting(value, member.type, self._said(member.name))
+            return kind.to_stored(value)
+        except Unfit as why:
+            raise _Wrong(str(why)) from None
+        except UnfitValue as why:
+            raise _Wrong(f"{self._said(member.name)} is to be {value!r}, which {why}") from None
+
+    def _led(self, member: Member, value: Any) -> Optional[Led]:
+        if value is None:
+            return None
+        if isinstance(value, Reference):
+            return Led(True, value.entity, value.parts)
+        shape = self._side.shapes[member.type]
+        if isinstance(value, Embedded):
+            value = tuple(value._values().values())
+        parts: Sequence[Any] = value if isinstance(value, (tuple, list)) else (value,)
+        kinds = [self._side.types.get((member.type, it.name)) for it in shape.key]
+        if len(parts) == len(kinds):
+            parts = [self._plain(kind, part) for kind, part in zip(kinds, parts)]
+        try:
+            return Led(False, member.type, key_fitting(parts, shape, member.name))
+        except Unfit as why:
+            raise _Wrong(str(why)) from None
+
+
+    @staticmethod
+    def _plain(kind: Optional[StoredType], value: Any) -> Any:
+        """A part of a key as it is stored, also where it is given so."""
+        try:
+            return value if kind is None else kind.to_stored(value)
+        except UnfitValue:
+            return value
+
+
+def _moving(plan: Plan) -> List[str]:
+    """The hierarchies of before whose objects may have other keys, or become nothing, or become
+    objects of several hierarchies."""
+    found: Dict[str, Set[str]] = {}
+    moving: Dict[str, None] = {}
+    for each in plan.classes.values():
+        top = each.old.top
+        found.setdefault(top, set()).add(each.new.top if each.new else "")
+        if each.function is not None or each.key or each.new is None or len(found[top]) > 1:
+            moving[top] = None
+    return list(moving)

@@ -1,0 +1,65 @@
+//! What an index of values has of an object.
+ghost use Rattle.std.specs.Prelude.{◌≡◌, OnOk, IfErr, All};
+ghost use Rattle.jpa_value.specs.declared.refusal.Cause.{Cause};
+ghost use Rattle.jpa_ordered.specs.Values.{IsIn, KeepsAll, HasEntry, valued, at_object as place_of};
+
+use crate::column::Column;
+use crate::cut::at_object;
+use crate::valued::Valued;
+use jpa_model::Member;
+use jpa_stored::Stored;
+use jpa_value::{Cause, Identity};
+use std::collections::BTreeSet;
+
+/// An entry of this number for an object, by a member.
+fn add_entry(
+    entries: &mut BTreeSet<Valued>,
+    number: u32,
+    member: Member,
+    entry: &(Identity, Stored),
+) -> Result<(), Cause>
+    ensures kept { KeepsAll entries.old.keys entries.new.keys }
+    ensures added { OnOk result
+        (IsIn entries.new.keys (valued number (place_of member entry.now))) }
+    ensures err { IfErr result (λ cause. cause ≡ Cause.OutOfMemory) }
+{
+    let at = at_object(member, entry)?;
+    entries.insert(Valued {
+        number: u64::from(number),
+        at,
+    })?;
+    Ok(())
+}
+
+/// An entry of a column for an object, if it is of the column's class.
+pub(crate) fn add_for(
+    entries: &mut BTreeSet<Valued>,
+    column: Column,
+    entry: &(Identity, Stored),
+) -> Result<(), Cause>
+    ensures kept { KeepsAll entries.old.keys entries.new.keys }
+    ensures added { OnOk result (HasEntry entries.new.keys entry.now.0 entry.now.1 column) }
+    ensures err { IfErr result (λ cause. cause ≡ Cause.OutOfMemory) }
+{
+    if column.class != entry.1.class {
+        return Ok(());
+    }
+    add_entry(entries, column.number, column.member, entry)
+}
+
+/// An entry of each of these columns for an object that is of the column's class.
+pub(crate) fn add_each(
+    entries: &mut BTreeSet<Valued>,
+    columns: &[Column],
+    entry: &(Identity, Stored),
+) -> Result<(), Cause>
+    ensures kept { KeepsAll entries.old.keys entries.new.keys }
+    ensures added { OnOk result
+        (All (HasEntry entries.new.keys entry.now.0 entry.now.1) columns.now) }
+    ensures err { IfErr result (λ cause. cause ≡ Cause.OutOfMemory) }
+{
+    for column in columns {
+        add_for(entries, *column, entry)?;
+    }
+    Ok(())
+}

@@ -1,0 +1,92 @@
+//! Entries of an index of values, in order.
+ghost use Rattle.std.specs.Prelude.{◌≡◌, Some, refl, IfOk, IfErr};
+ghost use Rattle.std.specs.Cmp.{partial_equiv_from_equiv, eq_by_cmp_equiv, partial_order_from_agreeing_total};
+ghost use Rattle.jpa_value.specs.declared.refusal.Cause.{Cause};
+ghost use Rattle.jpa_ordered.specs.Values as places;
+ghost use Rattle.jpa_ordered.specs.Values.{valued_cmp, valued_total, same_valued};
+
+use crate::cut::{Cut, Span, least, order_cuts};
+use jpa_value::{Cause, TryCopy};
+use std::alloc::Global;
+use std::cmp::Ordering;
+
+/// That an object stood at a place among the values of an index. Who looks for objects tests each
+/// against the set.
+#[derive(Drop)]
+pub struct Valued {
+    /// The number of the index.
+    pub number: u64,
+    pub at: Cut,
+}
+
+impl PartialEq for Valued {
+    ghost eq = { same_valued };
+
+    ghost laws = { partial_equiv_from_equiv (eq_by_cmp_equiv valued_total) };
+
+    fn eq(&self, other: &Valued) -> bool {
+        self.cmp(other).is_eq()
+    }
+}
+
+impl Eq for Valued {
+    ghost laws = { eq_by_cmp_equiv valued_total };
+}
+
+impl PartialOrd for Valued {
+    ghost partial_cmp = { λ x y. Some (valued_cmp x y) };
+
+    ghost laws = { partial_order_from_agreeing_total valued_cmp valued_total (λ x y. refl) (λ x y. refl) };
+
+    fn partial_cmp(&self, other: &Valued) -> Option<Ordering> {
+        Some(self.cmp(other))
+    }
+}
+
+impl Ord for Valued {
+    ghost cmp = { valued_cmp };
+
+    ghost total = { valued_total };
+
+    ghost matches_partial_cmp = { λ x y. refl };
+
+    ghost matches_eq = { λ x y. refl };
+
+    fn cmp(&self, other: &Valued) -> Ordering {
+        self.number
+            .cmp(&other.number)
+            .then(order_cuts(&self.at, &other.at))
+    }
+}
+
+/// What no entry of this number that lies in the span stands before.
+pub(crate) fn start_of(alloc: Global, number: u32, span: &Span) -> Result<Valued, Cause>
+    ensures ok { IfOk result (λ start. start ≡ places.start_of number span.now) }
+    ensures err { IfErr result (λ cause. cause ≡ Cause.OutOfMemory) }
+{
+    let at = match &span.from {
+        None => least(alloc),
+        Some(from) => from.try_copy()?,
+    };
+    Ok(Valued {
+        number: u64::from(number),
+        at,
+    })
+}
+
+/// What each entry of this number that lies in the span stands before.
+pub(crate) fn end_of(alloc: Global, number: u32, span: &Span) -> Result<Valued, Cause>
+    ensures ok { IfOk result (λ end. end ≡ places.end_of number span.now) }
+    ensures err { IfErr result (λ cause. cause ≡ Cause.OutOfMemory) }
+{
+    match &span.to {
+        None => Ok(Valued {
+            number: u64::from(number) + 1,
+            at: least(alloc),
+        }),
+        Some(to) => Ok(Valued {
+            number: u64::from(number),
+            at: to.try_copy()?,
+        }),
+    }
+}

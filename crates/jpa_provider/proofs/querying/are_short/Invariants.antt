@@ -1,6 +1,0 @@
-use Rattle.std.proofs.Common.{◌≡◌, drop}
-use Rattle.jpa_machine.specs.Querying.{are_short}
-use Rattle.jpa_provider.proofs.querying.are_short.Given as goal
-
-abbrev pub invariant-loop-parameter : goal.invariant-loop-parameter
-invariant-loop-parameter l = are_short (drop l.parameter-index l.parameters) ≡ are_short l.parameters

@@ -1,0 +1,128 @@
+-- The first rows of a statement of which any row may be left out: tuple by tuple.
+use Rattle.std.proofs.Common.{◌≡◌, ◌∙◌, ap, sym, refl, arith, ℕ, Bool, true, false, ◌||◌, cond, List, [], ◌∷◌, map, take, Option, Some, None}
+use Rattle.std.specs.Prelude.{All, is_some}
+use Rattle.std.specs.List.{list_any}
+use Rattle.std.proofs.lemmas.Bool.{false≢true}
+use Rattle.std.proofs.lemmas.List.{take-take, take-map}
+use Rattle.std.proofs.lemmas.List.Elements.{All-head, All-tail}
+use Rattle.jpa_open.specs.Opened.{now}
+use Rattle.jpql_types.specs.declared.typed.TypedCondition.{TypedCondition}
+use Rattle.jpql_types.specs.declared.typed.TypedKey.{TypedKey}
+use Rattle.jpql_types.specs.declared.typed.TypedSelect.{TypedSelect}
+use Rattle.jpql_types.specs.declared.typed.TypedValue.{TypedValue}
+use Rattle.jpql_eval.specs.declared.datum.Datum.{Datum}
+use Rattle.jpql_eval.specs.Answers.{Answer, gives, overflows, ◌>>=◌, under, both, every}
+use Rattle.jpql_plan.specs.Paths.{Tuple}
+use Rattle.jpql_plan.specs.Meaning.{Case, alone, is_any, kept, truth_of_any}
+use Rattle.jpql_plan.specs.Selection as selection
+use Rattle.jpql_plan.specs.Selection.{Row, put_row, put_rows, in_order, has_aggregate}
+use Rattle.jpql_run.specs.declared.run.Run.{Run}
+use Rattle.jpql_run.specs.Keys.{is_given, NeverOverflows}
+use Rattle.jpql_run.specs.Runs as runs
+use Rattle.jpql_select.specs.Selects.{key_datum, row_of, rows_of, cases_of, groups_of, tuples}
+use Rattle.jpql_select.specs.Rows.{distinct}
+use Rattle.jpql_select.specs.Tables.{items_in}
+use Rattle.jpql_select.proofs.Kept.{none_left_out}
+use Rattle.jpql_first.specs.First.{GoesByTuple, IsFit}
+use Rattle.jpql_first.proofs.Rows.{rows_front}
+
+-- ---- answers
+
+given_gives : {A : Type 0} (a : Answer A) → is_given a ≡ true → (x : A) × (a ≡ gives x)
+given_gives (gives x) e = (x, refl)
+given_gives overflows e = absurd (false≢true e)
+
+abbrev given_or : {A : Type 0} → A → Answer A → A
+given_or d (gives x) = x
+given_or d overflows = d
+
+-- ---- the row of a tuple
+
+module _ (run : Run) (q : TypedSelect) where
+  items_given : (vs : List TypedValue) → All NeverOverflows vs → (at : Case) → (ds : List Datum) × (every (map (λ v. runs.value run v at) vs) ≡ gives ds)
+  items_given [] h at = ([], refl)
+  items_given (v ∷ vs) h at =
+      let one = given_gives (runs.value run v at) (All-head NeverOverflows v vs h run.metamodel.now (now run.set.now) run.parameters.now at) in
+      let more = items_given vs (All-tail NeverOverflows v vs h) at in
+      (one.0 ∷ more.0, λ i. both (λ x xs. x ∷ xs) (one.1 i) (more.1 i))
+
+  keys_same : (ks : List TypedKey) → All GoesByTuple ks → (items others : List Datum) (at : Case) → map (key_datum run items at) ks ≡ map (key_datum run others at) ks
+  keys_same [] h items others at = refl
+  keys_same (k ∷ ks) h items others at = λ i. All-head GoesByTuple k ks h run items others at i ∷ keys_same ks (All-tail GoesByTuple k ks h) items others at i
+
+  -- with these items, and keys that need none
+  pub row_made : IsFit q → (t : Tuple) (ds ks : List Datum) → every (map (λ v. runs.value run v (alone t)) q.items) ≡ gives ds
+      → ks ≡ map (key_datum run [] (alone t)) q.order → row_of run q (alone t) ≡ gives (record { items = ds; keys = ks })
+  row_made fit t ds ks e k =
+      ap (under (λ items. record { items = items; keys = map (key_datum run items (alone t)) q.order })) e
+      ∙ ap (λ xs. gives (record { items = ds; keys = xs })) (keys_same q.order fit.placed ds [] (alone t) ∙ sym k)
+
+  -- there is one
+  pub row_given : IsFit q → (t : Tuple) (ks : List Datum) → ks ≡ map (key_datum run [] (alone t)) q.order
+      → (row : Row) × ((row_of run q (alone t) ≡ gives row) × (row.keys ≡ ks))
+  row_given fit t ks k =
+      let items = items_given q.items fit.given (alone t) in
+      (record { items = items.0; keys = ks }, (row_made fit t items.0 ks items.1 k, refl))
+
+  -- ---- the rows of the statement
+
+  none_written : (h : Option TypedCondition) → is_some h ≡ false → h ≡ None
+  none_written None e = refl
+  none_written (Some c) e = absurd (false≢true (sym e))
+
+  or_left : (a b : Bool) → (a || b) ≡ false → a ≡ false
+  or_left true b e = e
+  or_left false b e = refl
+
+  or_right : (a b : Bool) → (a || b) ≡ false → b ≡ false
+  or_right true b e = absurd (false≢true (sym e))
+  or_right false b e = e
+
+  no_having : IsFit q → q.having ≡ None
+  no_having fit =
+      none_written q.having (or_right (is_any q.groups) (is_some q.having) (or_left (is_any q.groups || is_some q.having) (list_any has_aggregate q.items) fit.alone))
+
+  rows_alone : IsFit q → (all : List Tuple) → rows_of run q (cases_of run q all) ≡ every (map (row_of run q) (map alone all))
+  rows_alone fit all =
+      ap (λ b. rows_of run q (cond b (groups_of run q.groups all) (map alone all))) fit.alone
+      ∙ ap (λ (h : Option TypedCondition). kept (truth_of_any (runs.any_condition run h)) (map alone all) >>= λ left. every (map (row_of run q) left)) (no_having fit)
+      ∙ ap (λ (a : Answer (List Case)). a >>= λ left. every (map (row_of run q) left)) (none_left_out (truth_of_any None) (λ at. refl) (map alone all))
+
+  cut_before : (n : ℕ) (a : Answer (List Row)) → under (take n) (under (λ rows. items_in (in_order q.order rows)) a)
+      ≡ under items_in (under (λ rows. take n (in_order q.order rows)) a)
+  cut_before n (gives rows) = ap gives (take-map (λ (r : Row). r.items) n (in_order q.order rows))
+  cut_before n overflows = refl
+
+  abbrev wanted : ℕ → Answer (List (List Datum))
+  wanted n = under (take n) (selection.selected run.metamodel.now (now run.set.now) run.parameters.now q)
+
+  -- the first rows, of its tuples
+  pub firsts : IsFit q → (n : ℕ) (all : List Tuple) → tuples run q ≡ gives all
+      → wanted n ≡ under items_in (under (λ rows. take n (in_order q.order rows)) (every (map (row_of run q) (map alone all))))
+  firsts fit n all e =
+      ap (λ (a : Answer (List Tuple)). under (take n) (a >>= λ ts. under (λ rows. items_in (in_order q.order (distinct q.is_distinct rows))) (rows_of run q (cases_of run q ts)))) e
+      ∙ ap (λ b. under (take n) (under (λ rows. items_in (in_order q.order (distinct b rows))) (rows_of run q (cases_of run q all)))) fit.all
+      ∙ ap (λ a. under (take n) (under (λ rows. items_in (in_order q.order rows)) a)) (rows_alone fit all)
+      ∙ cut_before n (every (map (row_of run q) (map alone all)))
+
+-- ---- one tuple after the other
+
+module _ (keys : List TypedKey) (n : ℕ) where
+  one_in : (best next : List Row) (a : Answer Row) (rest : Answer (List Row)) → under (λ row. take n (put_row keys row best)) a ≡ gives next
+      → under (λ rows. take n (put_rows keys best rows)) (both (λ x xs. x ∷ xs) a rest) ≡ under (λ rows. take n (put_rows keys next rows)) rest
+  one_in best next (gives row) (gives rows) e =
+      let here = ap (given_or next) e in
+      ap gives (rows_front keys n (put_row keys row best) next rows (sym (take-take n n (put_row keys row best) (omega arith)) ∙ ap (take n) here))
+  one_in best next (gives row) overflows e = refl
+  one_in best next overflows rest e = absurd (false≢true (ap is_given e))
+
+  -- the first rows so far, and what is left
+  abbrev pub Rest : (Case → Answer Row) → List Row → List Tuple → List Tuple → Type 0
+  Rest of best rest all =
+      under (λ rows. take n (in_order keys rows)) (every (map of (map alone all))) ≡ under (λ rows. take n (put_rows keys best rows)) (every (map of (map alone rest)))
+
+  pub one_more : (of : Case → Answer Row) (best next : List Row) (all rest later : List Tuple) (t : Tuple) → rest ≡ t ∷ later
+      → under (λ row. take n (put_row keys row best)) (of (alone t)) ≡ gives next → Rest of best rest all → Rest of next later all
+  one_more of best next all rest later t at e h =
+      h ∙ ap (λ ts. under (λ rows. take n (put_rows keys best rows)) (every (map of (map alone ts)))) at
+      ∙ one_in best next (of (alone t)) (every (map of (map alone later))) e

@@ -1,0 +1,76 @@
+use Rattle.std.proofs.Common.{rules, arith, ◌≡◌, ◌∙◌, ◌≤◌, ap, sym, refl, subst, List, [], map, length, take}
+use Rattle.std.proofs.lemmas.Grind.{common_steps}
+use Rattle.jpql_types.specs.declared.typed.TypedKey.{TypedKey}
+use Rattle.jpql_types.specs.declared.typed.TypedValue.{TypedValue}
+use Rattle.jpql_eval.specs.declared.datum.Datum.{Datum}
+use Rattle.jpql_eval.specs.Answers.{every, gives, under}
+use Rattle.jpql_eval.specs.Finds.{Fails}
+use Rattle.jpql_eval.specs.Seen.{seen}
+use Rattle.jpql_plan.specs.Meaning.{alone}
+use Rattle.jpql_plan.specs.Selection.{Row, put_row}
+use Rattle.jpql_run.specs.Runs as runs
+use Rattle.jpql_run.proofs.Turns.{fails_on}
+use Rattle.jpql_select.specs.Selects.{key_datum, row_of}
+use Rattle.jpql_select.specs.Sortings.{sorting_data}
+use Rattle.jpql_first.specs.First.{AreInFront}
+use Rattle.jpql_first.proofs.Firsts.{row_given, row_made}
+use Rattle.jpql_first.proofs.Rows.{row_behind, front_again, placed}
+use Rattle.jpql_first.proofs.best.put.Goals as goal
+
+pub returns-then-place-count-clause-ok : goal.returns-then-place-count-clause-ok
+returns-then-place-count-clause-ok c =
+    let run = c.args.run.now in
+    let q = c.args.select.now in
+    let t = c.args.tuple.now in
+    let n = c.args.count in
+    let rows = c.args.best.now.items in
+    let k = c.place_of-place.result in
+    let ks = sorting_data c.in_ok-keys.keys in
+    let keyed : ks ≡ map (key_datum run [] (alone t)) q.order = c.in_ok-keys.ensures ∙ ap (λ (keys : List TypedKey). map (key_datum run [] (alone t)) keys) c.as_slice-order.ensures in
+    let one = row_given run q c.requires.fit t ks keyed in
+    let row = one.0 in
+    ap (under (λ (r : Row). take n (put_row q.order r rows))) one.1.0
+    ∙ ap gives (row_behind q.order n k rows row c.requires.front c.if-place-count.true (subst (λ (xs : List Row). k ≤ length xs) c.deref.ensures.value c.place_of-place.ensures.within)
+    (placed q.order c.as_slice-order.result.now rows c.deref.result.now k row c.as_slice-order.ensures c.deref.ensures.value (c.place_of-place.ensures.place row one.1.1)))
+
+pub returns-in_err-items-clause-err : goal.returns-in_err-items-clause-err
+returns-in_err-items-clause-err c =
+    let run = c.args.run.now in
+    let q = c.args.select.now in
+    let at = alone c.args.tuple.now in
+    let e = c.in_err-items.field-0.0 in
+    let failed : Fails e (every (map (λ v. runs.value run v at) q.items)) =
+    subst (λ (vs : List TypedValue). Fails e (every (map (λ v. runs.value run v at) vs))) c.as_slice.ensures c.in_err-items.ensures in
+    let fails : Fails e (row_of run q at) =
+    fails_on e (every (map (λ v. runs.value run v at) q.items)) (row_of run q at)
+    (ap (under (λ (items : List Datum). record { items = items; keys = map (key_datum run items at) q.order }))) failed in
+    first_of (search (rules, fails), grind (arith, common_steps, fails))
+
+-- the row, and what stands once it was put in
+pub returns-clause-ok : goal.returns-clause-ok
+returns-clause-ok c =
+    let run = c.args.run.now in
+    let q = c.args.select.now in
+    let t = c.args.tuple.now in
+    let n = c.args.count in
+    let rows = c.args.best.now.items in
+    let k = c.place_of-place.result in
+    let ks = sorting_data c.in_ok-keys.keys in
+    let ds = map seen c.in_ok-items.items.items in
+    let row : Row = record { items = ds; keys = ks } in
+    let keyed : ks ≡ map (key_datum run [] (alone t)) q.order = c.in_ok-keys.ensures ∙ ap (λ (keys : List TypedKey). map (key_datum run [] (alone t)) keys) c.as_slice-order.ensures in
+    let made : every (map (λ v. runs.value run v (alone t)) q.items) ≡ gives ds =
+    ap (λ (vs : List TypedValue). every (map (λ v. runs.value run v (alone t)) vs)) (sym c.as_slice.ensures) ∙ c.in_ok-items.ensures in
+    let put = placed q.order c.as_slice-order.result.now rows c.deref.result.now k row c.as_slice-order.ensures c.deref.ensures.value (c.place_of-place.ensures.place row refl) in
+    ap (under (λ (r : Row). take n (put_row q.order r rows))) (row_made run q c.requires.fit t ds ks made keyed)
+    ∙ ap gives (ap (take n) (put ∙ sym c.in_ok-insert.ensures.items) ∙ sym c.truncate.ensures.items)
+
+pub returns-clause-front : goal.returns-clause-front
+returns-clause-front c =
+    let q = c.args.select.now in
+    let n = c.args.count in
+    let rows = c.args.best.now.items in
+    let k = c.place_of-place.result in
+    let row : Row = record { items = map seen c.in_ok-items.items.items; keys = sorting_data c.in_ok-keys.keys } in
+    let put = placed q.order c.as_slice-order.result.now rows c.deref.result.now k row c.as_slice-order.ensures c.deref.ensures.value (c.place_of-place.ensures.place row refl) in
+    subst (AreInFront q.order n) (ap (take n) (put ∙ sym c.in_ok-insert.ensures.items) ∙ sym c.truncate.ensures.items) (front_again q.order n rows row c.requires.front)

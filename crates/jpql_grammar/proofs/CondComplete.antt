@@ -1,0 +1,371 @@
+-- What the grammar writes as a condition or a nested SELECT is read, with its tree.
+use Rattle.std.proofs.lemmas.Bool.{leb-false}
+use Rattle.std.proofs.Common.{◌≡◌, ℕ, zero, suc, ◌+◌, ◌≤◌, Bool, true, false, nat_le, List, [], ◌∷◌, ◌++◌, map, length, Option, Some, None, refl, ap, ◌∙◌, arith, append-nil, append_assoc}
+use Rattle.jpql_grammar.specs.declared.token.Keyword.{Keyword}
+use Rattle.jpql_grammar.specs.declared.token.Keyword.TheVariants as k
+use Rattle.jpql_grammar.specs.declared.token.Mark.TheVariants as m
+use Rattle.jpql_grammar.specs.declared.token.Token.{Token}
+use Rattle.jpql_grammar.specs.declared.token.Token.TheVariants as t
+use Rattle.jpql_tree.specs.declared.Condition.{Condition}
+use Rattle.jpql_tree.specs.declared.Join.{Join}
+use Rattle.jpql_tree.specs.Names.{Text}
+use Rattle.jpql_grammar.specs.Parts.{Name, plain, word, name_token, name_text}
+use Rattle.jpql_grammar.specs.Grammar.{Value°, Written, write_word, Named, write_named, write_optional_name, optional_name, Item°, write_item, write_others, item_tree, write_value, Side, inner, left, write_side, is_left, Range, entity, related, write_range, Cond°, cond, Ors°, no_ors, or, And°, conj, Ands°, no_ands, and, Not°, maybe_not, Test°, inside, compare, between, among, among_none, like, null, empty, member, exists, type_is, type_is_not, type_among, Sub°, sub, Source°, source, Sources°, no_sources, sources, Joins°, no_joins, joins, Join°, join, On°, no_on, on, Where°, no_where, filter, write_cond, write_ors, write_and, write_ands, write_not, write_test, write_source, write_sources, write_joins, write_join, write_on, write_where, cond_tree, ors_tree, and_tree, ands_tree, not_tree, test_tree, sub_tree, source_tree, sources_trees, joins_trees, join_tree, on_tree, where_tree}
+use Rattle.jpql_grammar.specs.Nesting.{too_deep}
+use Rattle.jpql_grammar.specs.Values.{Read, sees, is_word, variable_at, list_at, closed}
+use Rattle.jpql_grammar.specs.Conditions.{begins_variable, simple_at, named_at, optional_name_at, item_at, begins_related, related_at, origin_at, begins_join, side_at, clause_at, join_at, joins_at, source_at, block_at, exists_at, test_at, not_at, ands_at, and_at, ors_at, cond_level_at, cond_at}
+use Rattle.jpql_grammar.proofs.Skips.{neither, close, comma, name_skip, named_skip, word_skip, item_skip, side_skip, join_skip, source_skip, sources_skip, on_skip, not_skip, and_skip}
+use Rattle.jpql_grammar.proofs.Tools.{word_complete}
+use Rattle.jpql_grammar.proofs.ValuesComplete.{Ends, value_complete, list_complete, value_no_not, value_no_exists, value_no_distinct}
+use Rattle.jpql_grammar.proofs.TestsComplete.{ends_key, After, value_opens_none, compare_complete, between_complete, among_complete, among_none_complete, like_complete, null_complete, empty_complete, member_complete, name_complete, type_complete, type_not_complete, type_among_complete}
+use Rattle.jpql_grammar.proofs.Scan.{cond_scan}
+
+-- ---- what may follow a condition, or a part of FROM
+
+unfoldable pub stops_word : Keyword → Bool
+stops_word k.Where = true
+stops_word k.Group = true
+stops_word k.Having = true
+stops_word k.Order = true
+stops_word k.Join = true
+stops_word k.Inner = true
+stops_word k.Left = true
+stops_word _ = false
+
+unfoldable pub stops : List Token → Bool
+unfolding stops_word
+stops [] = true
+stops (t.Mark m.Close ∷ ts) = true
+stops (t.Mark m.Comma ∷ ts) = true
+stops (t.Key j w ∷ ts) = stops_word j
+stops (_ ∷ ts) = false
+
+pub record Stopped (ts : List Token) : Type 0 where
+  pub after : After ts
+  pub and : is_word k.And ts ≡ false
+  pub or : is_word k.Or ts ≡ false
+  pub on : is_word k.On ts ≡ false
+
+pub stopped : (ts : List Token) → stops ts ≡ true → Stopped ts
+unfolding stops stops_word
+stopped [] h = record { after = record { ends = record { dot = refl; star = refl; plus = refl; minus = refl }; escape = refl }; and = refl; or = refl; on = refl }
+stopped (t.Mark m.Close ∷ ts) h = record { after = record { ends = record { dot = refl; star = refl; plus = refl; minus = refl }; escape = refl }; and = refl; or = refl; on = refl }
+stopped (t.Mark m.Comma ∷ ts) h = record { after = record { ends = record { dot = refl; star = refl; plus = refl; minus = refl }; escape = refl }; and = refl; or = refl; on = refl }
+stopped (t.Key k.Where w ∷ ts) h = record { after = record { ends = ends_key; escape = refl }; and = refl; or = refl; on = refl }
+stopped (t.Key k.Group w ∷ ts) h = record { after = record { ends = ends_key; escape = refl }; and = refl; or = refl; on = refl }
+stopped (t.Key k.Having w ∷ ts) h = record { after = record { ends = ends_key; escape = refl }; and = refl; or = refl; on = refl }
+stopped (t.Key k.Order w ∷ ts) h = record { after = record { ends = ends_key; escape = refl }; and = refl; or = refl; on = refl }
+stopped (t.Key k.Join w ∷ ts) h = record { after = record { ends = ends_key; escape = refl }; and = refl; or = refl; on = refl }
+stopped (t.Key k.Inner w ∷ ts) h = record { after = record { ends = ends_key; escape = refl }; and = refl; or = refl; on = refl }
+stopped (t.Key k.Left w ∷ ts) h = record { after = record { ends = ends_key; escape = refl }; and = refl; or = refl; on = refl }
+stopped (t.Key _ w ∷ ts) h = absurd cc
+stopped (_ ∷ ts) h = absurd cc
+
+-- ---- names, items, relations
+
+pub named_complete : (n : Named) (rest : List Token) → named_at (write_named n rest) ≡ Some (n.name, rest)
+unfolding named_at variable_at
+named_complete n rest = rw (word_complete k.As n.as_word (t.Word n.name ∷ rest) refl)
+
+-- what may follow an item
+pub record AfterItem (ts : List Token) : Type 0 where
+  pub ends : Ends ts
+  pub as_word : is_word k.As ts ≡ false
+  pub variable : begins_variable ts ≡ false
+
+named_begun : (w : Written) (n : Text) (rest : List Token) → optional_name_at (write_named (record { as_word = w; name = n }) rest) ≡ Some (Some n, rest)
+unfolding optional_name_at
+named_begun None n rest = rw (named_complete (record { as_word = None; name = n }) rest)
+named_begun (Some w) n rest = rw (named_complete (record { as_word = Some w; name = n }) rest)
+
+pub optional_name_complete : (n : Option Named) (rest : List Token) → is_word k.As rest ≡ false → begins_variable rest ≡ false
+    → optional_name_at (write_optional_name n rest) ≡ Some (optional_name n, rest)
+unfolding optional_name_at
+optional_name_complete None rest e f = rw (e, f)
+optional_name_complete (Some n) rest e f = named_begun n.as_word n.name rest
+
+named_ends : (w : Written) (n : Text) (rest : List Token) → Ends (write_named (record { as_word = w; name = n }) rest)
+named_ends None n rest = record { dot = refl; star = refl; plus = refl; minus = refl }
+named_ends (Some w) n rest = ends_key
+
+optional_name_ends : (n : Option Named) (rest : List Token) → Ends rest → Ends (write_optional_name n rest)
+optional_name_ends None rest e = e
+optional_name_ends (Some n) rest e = named_ends n.as_word n.name rest
+
+pub item_complete : (most n j : ℕ) → suc most ≤ n + j → j ≤ most → (i : Item°) (rest : List Token) → too_deep most j (write_item i rest) ≡ false → AfterItem rest
+    → item_at n (write_item i rest) ≡ Some (item_tree i, rest)
+unfolding item_at
+item_complete most n j room low i rest h e =
+    rw (value_complete most n j room low i.value (write_optional_name i.name rest) h (optional_name_ends i.name rest e.ends), optional_name_complete i.name rest e.as_word e.variable)
+
+pub related_complete : (x : Text) (r : Name) (rest : List Token) → related_at (t.Word x ∷ t.Mark m.Dot ∷ name_token r ∷ rest) ≡ Some ((x, name_text r), rest)
+unfolding related_at variable_at
+related_complete x r rest = rw (name_complete r rest)
+
+side_complete : (l : Side) (w : Text) (rest : List Token) → side_at (write_side l (t.Key k.Join w ∷ rest)) ≡ Some (is_left l, rest)
+unfolding side_at
+side_complete (inner None) w rest = refl
+side_complete (inner (Some v)) w rest = refl
+side_complete (left v None) w rest = refl
+side_complete (left v (Some u)) w rest = refl
+
+side_begins : (l : Side) (w : Text) (rest : List Token) → begins_join (write_side l (t.Key k.Join w ∷ rest)) ≡ true
+side_begins (inner None) w rest = refl
+side_begins (inner (Some v)) w rest = refl
+side_begins (left v outer) w rest = refl
+
+side_stops : (l : Side) (w : Text) (rest : List Token) → stops (write_side l (t.Key k.Join w ∷ rest)) ≡ true
+unfolding stops stops_word
+side_stops (inner None) w rest = refl
+side_stops (inner (Some v)) w rest = refl
+side_stops (left v outer) w rest = refl
+
+joins_stop : (js : Joins°) (rest : List Token) → stops rest ≡ true → stops (write_joins js rest) ≡ true
+joins_stop no_joins rest e = e
+joins_stop (joins (join l w x r n o) js) rest e = side_stops l w _
+
+join_begins : (x : Join°) (rest : List Token) → begins_join (write_join x rest) ≡ true
+join_begins (join l w x r n o) rest = side_begins l w _
+
+join_longer : (x : Join°) (rest : List Token) → suc (length rest) ≤ length (write_join x rest)
+join_longer (join l w x r n o) rest =
+    omega (arith, (side_skip l (t.Key k.Join w ∷ t.Word x ∷ t.Mark m.Dot ∷ name_token r ∷ write_named n (write_on o rest))).long, (named_skip n (write_on o rest)).long, (on_skip o rest).long)
+
+entity_begins : (e : Name) (n : Named) (rest : List Token) → begins_related (name_token e ∷ write_named n rest) ≡ false
+entity_begins (word j w) n rest = refl
+entity_begins (plain w) n rest = named_no_dot n.as_word n.name rest
+  where
+    named_no_dot : (w : Written) (n : Text) (rest : List Token) → sees m.Dot (write_named (record { as_word = w; name = n }) rest) ≡ false
+    named_no_dot None n rest = refl
+    named_no_dot (Some w) n rest = refl
+
+sources_list : Sources° → List Source°
+sources_list no_sources = []
+sources_list (sources x xs) = x ∷ sources_list xs
+
+sources_written : (xs : Sources°) (rest : List Token) → write_sources xs rest ≡ write_others write_source (sources_list xs) rest
+unfolding sources_list
+sources_written no_sources rest = refl
+sources_written (sources x xs) rest = ap (λ ts. comma (write_source x ts)) (sources_written xs rest)
+
+sources_treed : (xs : Sources°) → sources_trees xs ≡ map source_tree (sources_list xs)
+unfolding sources_list
+sources_treed no_sources = refl
+sources_treed (sources x xs) = ap (λ ys. source_tree x ∷ ys) (sources_treed xs)
+
+-- what may follow a source, beside a comma
+pub record AfterSource (ts : List Token) : Type 0 where
+  pub stop : stops ts ≡ true
+  pub no_join : begins_join ts ≡ false
+
+pub after_source_comma : (ts : List Token) → AfterSource (comma ts)
+unfolding stops stops_word
+after_source_comma ts = record { stop = refl; no_join = refl }
+
+-- `below` reads conditions where j parentheses are open
+module _ (below : Read Condition) (most j : ℕ)
+    (nested : (d : Cond°) (rest : List Token) → too_deep most j (write_cond d rest) ≡ false → stops rest ≡ true → below (write_cond d rest) ≡ Some (cond_tree d, rest)) where
+  on_complete : (o : On°) (rest : List Token) → too_deep most j (write_on o rest) ≡ false → stops rest ≡ true → clause_at below k.On (write_on o rest) ≡ Some (on_tree o, rest)
+  unfolding clause_at too_deep
+  on_complete no_on rest h e = rw ((stopped rest e).on)
+  on_complete (on w x) rest h e = rw (nested x rest h e)
+
+  pub where_complete : (f : Where°) (rest : List Token) → too_deep most j (write_where f rest) ≡ false → stops rest ≡ true → is_word k.Where rest ≡ false
+      → clause_at below k.Where (write_where f rest) ≡ Some (where_tree f, rest)
+  unfolding clause_at too_deep
+  where_complete no_where rest h e last = rw last
+  where_complete (filter w x) rest h e last = rw (nested x rest h e)
+
+  join_complete : (x : Join°) (rest : List Token) → too_deep most j (write_join x rest) ≡ false → stops rest ≡ true → join_at below (write_join x rest) ≡ Some (join_tree x, rest)
+  unfolding join_at too_deep
+  join_complete (join l w x r n o) rest h e =
+      let h1 = (side_skip l (t.Key k.Join w ∷ t.Word x ∷ t.Mark m.Dot ∷ name_token r ∷ write_named n (write_on o rest))).shallow most j h in
+      let h2 = (name_skip r (write_named n (write_on o rest))).shallow most j h1 in
+      let h3 = (named_skip n (write_on o rest)).shallow most j h2 in
+      rw (side_complete l w (t.Word x ∷ t.Mark m.Dot ∷ name_token r ∷ write_named n (write_on o rest)), related_complete x r (write_named n (write_on o rest)), named_complete n (write_on o rest), on_complete o rest h3 e)
+
+  joins_complete : (js : Joins°) (i : ℕ) (found : List Join) (rest : List Token) → length (write_joins js rest) ≤ i → too_deep most j (write_joins js rest) ≡ false → AfterSource rest
+      → joins_at below i found (write_joins js rest) ≡ Some (found ++ joins_trees js, rest)
+  unfolding joins_at
+  joins_complete no_joins zero found rest l h e = rw append-nil
+  joins_complete no_joins (suc i) found rest l h e = rw (e.no_join) (rw append-nil)
+  joins_complete (joins x js) zero found rest l h e = absurd (omega (arith, join_longer x (write_joins js rest)))
+  joins_complete (joins x js) (suc i) found rest l h e =
+      rw (join_begins x (write_joins js rest), join_complete x (write_joins js rest) h (joins_stop js rest e.stop))
+      (joins_complete js i (found ++ join_tree x ∷ []) rest (omega (arith, join_longer x (write_joins js rest))) ((join_skip x (write_joins js rest)).shallow most j h) e ∙ rw append_assoc)
+
+  all_joins_complete : (js : Joins°) (rest : List Token) → too_deep most j (write_joins js rest) ≡ false → AfterSource rest
+      → joins_at below (length (write_joins js rest)) [] (write_joins js rest) ≡ Some (joins_trees js, rest)
+  all_joins_complete js rest h e = joins_complete js (length (write_joins js rest)) [] rest (omega arith) h e
+
+  range_complete : (r : Range) (js : Joins°) (rest : List Token) → too_deep most j (write_range r (write_joins js rest)) ≡ false → AfterSource rest
+      → source_at below true (write_range r (write_joins js rest)) ≡ Some (source_tree (source r js), rest)
+  unfolding source_at origin_at too_deep
+  range_complete (entity e n) js rest h f =
+      let h1 = (name_skip e (write_named n (write_joins js rest))).shallow most j h in
+      let h2 = (named_skip n (write_joins js rest)).shallow most j h1 in
+      rw (entity_begins e n (write_joins js rest), name_complete e (write_named n (write_joins js rest)), named_complete n (write_joins js rest), all_joins_complete js rest h2 f)
+  range_complete (related x r n) js rest h f =
+      let h1 = (name_skip r (write_named n (write_joins js rest))).shallow most j h in
+      let h2 = (named_skip n (write_joins js rest)).shallow most j h1 in
+      rw (related_complete x r (write_named n (write_joins js rest)), named_complete n (write_joins js rest), all_joins_complete js rest h2 f)
+
+  source_complete : (x : Source°) (rest : List Token) → too_deep most j (write_source x rest) ≡ false → AfterSource rest → source_at below true (write_source x rest) ≡ Some (source_tree x, rest)
+  source_complete (source r js) rest h f = range_complete r js rest h f
+
+  pub entity_source_complete : (e : Name) (n : Named) (js : Joins°) (rest : List Token) → too_deep most j (name_token e ∷ write_named n (write_joins js rest)) ≡ false → AfterSource rest
+      → source_at below false (name_token e ∷ write_named n (write_joins js rest)) ≡ Some (source_tree (source (entity e n) js), rest)
+  unfolding source_at origin_at
+  entity_source_complete e n js rest h f =
+      let h1 = (name_skip e (write_named n (write_joins js rest))).shallow most j h in
+      let h2 = (named_skip n (write_joins js rest)).shallow most j h1 in
+      rw (name_complete e (write_named n (write_joins js rest)), named_complete n (write_joins js rest), all_joins_complete js rest h2 f)
+
+  sources_complete : (x : Source°) (xs : Sources°) (rest : List Token) → too_deep most j (write_source x (write_sources xs rest)) ≡ false → AfterSource rest → sees m.Comma rest ≡ false
+      → list_at (source_at below true) (write_source x (write_sources xs rest)) ≡ Some (source_tree x ∷ sources_trees xs, rest)
+  sources_complete x xs rest h f e =
+      rw (sources_treed xs, sources_written xs rest)
+      (list_complete (source_at below true) write_source source_tree AfterSource most j after_source_comma source_skip source_complete x (sources_list xs) rest (rw (← sources_written xs rest) h) f e)
+
+-- what may follow a nested SELECT
+pub record AfterBlock (ts : List Token) : Type 0 where
+  pub source : AfterSource ts
+  pub comma : sees m.Comma ts ≡ false
+  pub filter : is_word k.Where ts ≡ false
+
+where_after_source : (f : Where°) (rest : List Token) → AfterBlock rest → (source : AfterSource (write_where f rest)) × (sees m.Comma (write_where f rest) ≡ false)
+unfolding stops stops_word
+where_after_source no_where rest e = (e.source, e.comma)
+where_after_source (filter w x) rest e = (record { stop = refl; no_join = refl }, refl)
+
+after_item_from : (w : Text) (rest : List Token) → AfterItem (t.Key k.From w ∷ rest)
+after_item_from w rest = record { ends = ends_key; as_word = refl; variable = refl }
+
+after_block_close : (rest : List Token) → AfterBlock (close rest)
+unfolding stops stops_word
+after_block_close rest = record { source = record { stop = refl; no_join = refl }; comma = refl; filter = refl }
+
+stops_close : (rest : List Token) → stops (close rest) ≡ true
+unfolding stops
+stops_close rest = refl
+
+test_no_not : (x : Test°) (rest : List Token) → is_word k.Not (write_test x rest) ≡ false
+test_no_not (inside x) rest = refl
+test_no_not (compare op a b) rest = value_no_not a _
+test_no_not (between a n w b u d) rest = value_no_not a _
+test_no_not (among a n w b all) rest = value_no_not a _
+test_no_not (among_none a n w) rest = value_no_not a _
+test_no_not (like a n w b e) rest = value_no_not a _
+test_no_not (null a w n u) rest = value_no_not a _
+test_no_not (empty p w n u) rest = refl
+test_no_not (member a n w of p) rest = value_no_not a _
+test_no_not (exists w b) rest = refl
+test_no_not (type_is w x e) rest = refl
+test_no_not (type_is_not w x e) rest = refl
+test_no_not (type_among w x n u e es) rest = refl
+
+-- n values may nest where j parentheses are open, and `below` reads conditions inside one more
+module _ (most n j : ℕ) (room : suc most ≤ n + j) (low : j ≤ most) (below : Read Condition)
+    (nested : nat_le most j ≡ false → (d : Cond°) (rest : List Token) → too_deep most (suc j) (write_cond d rest) ≡ false → stops rest ≡ true → below (write_cond d rest) ≡ Some (cond_tree d, rest)) where
+  block_complete : (u : Text) (d : Written) (i : Item°) (v : Text) (x : Source°) (xs : Sources°) (f : Where°) (rest : List Token) → nat_le most j ≡ false
+      → too_deep most (suc j) (write_word k.Distinct d (write_item i (t.Key k.From v ∷ write_source x (write_sources xs (write_where f rest))))) ≡ false → AfterBlock rest
+      → block_at n below (write_word k.Distinct d (write_item i (t.Key k.From v ∷ write_source x (write_sources xs (write_where f rest))))) ≡ Some (sub_tree (sub u d i v x xs f), rest)
+  unfolding block_at too_deep
+  block_complete u d i v x xs f rest few h e =
+      let less = leb-false most j few in
+      let more = t.Key k.From v ∷ write_source x (write_sources xs (write_where f rest)) in
+      let h1 = (word_skip k.Distinct d (write_item i more)).shallow most (suc j) h in
+      let h2 = (item_skip i more).shallow most (suc j) h1 in
+      let h3 = (source_skip x (write_sources xs (write_where f rest))).shallow most (suc j) h2 in
+      let h4 = (sources_skip xs (write_where f rest)).shallow most (suc j) h3 in
+      let g = where_after_source f rest e in
+      rw (
+        word_complete k.Distinct d (write_item i more) (value_no_distinct i.value (write_optional_name i.name more)),
+        item_complete most n (suc j) (omega arith) (omega arith) i more h1 (after_item_from v _),
+        sources_complete below most (suc j) (nested few) x xs (write_where f rest) h2 g.0 g.1,
+        where_complete below most (suc j) (nested few) f rest h4 e.source.stop e.filter,
+      )
+
+  exists_complete : (w : Text) (b : Sub°) (rest : List Token) → too_deep most j (write_test (exists w b) rest) ≡ false → test_at n below (write_test (exists w b) rest) ≡ Some (test_tree (exists w b), rest)
+  unfolding test_at exists_at closed too_deep
+  exists_complete w (sub u d i v x xs f) rest h =
+      let o = neither {a = nat_le most j} h in
+      rw (block_complete u d i v x xs f (close rest) o.0 o.1 (after_block_close rest))
+
+  -- a test that a value begins
+  begun : (a : Value°) (rest : List Token) (x : Condition × List Token) → simple_at n (write_value a rest) ≡ Some x → test_at n below (write_value a rest) ≡ Some x
+  unfolding test_at
+  begun a rest x h = rw (value_opens_none a rest, value_no_exists a rest) h
+
+  test_complete : (x : Test°) (rest : List Token) → too_deep most j (write_test x rest) ≡ false → After rest → test_at n below (write_test x rest) ≡ Some (test_tree x, rest)
+  unfolding test_at closed too_deep
+  test_complete (inside x) rest h e = let o = neither {a = nat_le most j} h in rw (cond_scan x 0 (close rest), nested o.0 x (close rest) o.1 (stops_close rest))
+  test_complete (compare op a b) rest h e = begun a _ _ (compare_complete most n j room low op a b rest h e.ends)
+  test_complete (between a w v b u d) rest h e = begun a _ _ (between_complete most n j room low a b d w v u rest h e.ends)
+  test_complete (among a w v b all) rest h e = begun a _ _ (among_complete most n j room low a b all w v rest h)
+  test_complete (among_none a w v) rest h e = begun a _ _ (among_none_complete most n j room low a w v rest h)
+  test_complete (like a w v b x) rest h e = begun a _ _ (like_complete most n j room low a b x w v rest h e)
+  test_complete (null a w v u) rest h e = begun a _ _ (null_complete most n j room low a v w u rest h)
+  test_complete (empty p w v u) rest h e = empty_complete most n j room low p v w u rest h
+  test_complete (member a w v of p) rest h e = begun a _ _ (member_complete most n j room low a w v of p rest h e.ends)
+  test_complete (exists w b) rest h e = exists_complete w b rest h
+  test_complete (type_is w x y) rest h e = type_complete n w x y rest
+  test_complete (type_is_not w x y) rest h e = type_not_complete n w x y rest
+  test_complete (type_among w x v u y ys) rest h e = type_among_complete most n j w x v u y ys rest h
+
+  not_complete : (x : Not°) (rest : List Token) → too_deep most j (write_not x rest) ≡ false → After rest → not_at n below (write_not x rest) ≡ Some (not_tree x, rest)
+  unfolding not_at too_deep
+  not_complete (maybe_not None x) rest h e = rw (test_no_not x rest) (test_complete x rest h e)
+  not_complete (maybe_not (Some w) x) rest h e = rw (test_complete x rest h e)
+
+  ands_after : (ns : Ands°) (rest : List Token) → After rest → After (write_ands ns rest)
+  ands_after no_ands rest e = e
+  ands_after (and w x ns) rest e = record { ends = ends_key; escape = refl }
+
+  ands_complete : (ns : Ands°) (i : ℕ) (before : Condition) (rest : List Token) → length (write_ands ns rest) ≤ i → too_deep most j (write_ands ns rest) ≡ false → After rest → is_word k.And rest ≡ false
+      → ands_at n below i before (write_ands ns rest) ≡ Some (ands_tree before ns, rest)
+  unfolding ands_at too_deep
+  ands_complete no_ands zero before rest l h e last = refl
+  ands_complete no_ands (suc i) before rest l h e last = rw last
+  ands_complete (and w x ns) zero before rest l h e last = absurd (omega arith)
+  ands_complete (and w x ns) (suc i) before rest l h e last =
+      let past = not_skip x (write_ands ns rest) in
+      rw (not_complete x (write_ands ns rest) h (ands_after ns rest e))
+      (ands_complete ns i _ rest (omega (arith, past.long)) (past.shallow most j h) e last)
+
+  and_complete : (a : And°) (rest : List Token) → too_deep most j (write_and a rest) ≡ false → After rest → is_word k.And rest ≡ false → and_at n below (write_and a rest) ≡ Some (and_tree a, rest)
+  unfolding and_at
+  and_complete (conj x ns) rest h e last =
+      rw (not_complete x (write_ands ns rest) h (ands_after ns rest e))
+      (ands_complete ns (length (write_ands ns rest)) (not_tree x) rest (omega arith) ((not_skip x (write_ands ns rest)).shallow most j h) e last)
+
+  ors_after : (os : Ors°) (rest : List Token) → stops rest ≡ true → (e : After (write_ors os rest)) × (is_word k.And (write_ors os rest) ≡ false)
+  ors_after no_ors rest e = let s = stopped rest e in (s.after, s.and)
+  ors_after (or w a os) rest e = (record { ends = ends_key; escape = refl }, refl)
+
+  ors_complete : (os : Ors°) (i : ℕ) (before : Condition) (rest : List Token) → length (write_ors os rest) ≤ i → too_deep most j (write_ors os rest) ≡ false → stops rest ≡ true
+      → ors_at n below i before (write_ors os rest) ≡ Some (ors_tree before os, rest)
+  unfolding ors_at too_deep
+  ors_complete no_ors zero before rest l h e = refl
+  ors_complete no_ors (suc i) before rest l h e = rw ((stopped rest e).or)
+  ors_complete (or w a os) zero before rest l h e = absurd (omega arith)
+  ors_complete (or w a os) (suc i) before rest l h e =
+      let past = and_skip a (write_ors os rest) in
+      let g = ors_after os rest e in
+      rw (and_complete a (write_ors os rest) h g.0 g.1)
+      (ors_complete os i _ rest (omega (arith, past.long)) (past.shallow most j h) e)
+
+  cond_level_complete : (d : Cond°) (rest : List Token) → too_deep most j (write_cond d rest) ≡ false → stops rest ≡ true → cond_level_at n below (write_cond d rest) ≡ Some (cond_tree d, rest)
+  unfolding cond_level_at
+  cond_level_complete (cond a os) rest h e =
+      let g = ors_after os rest e in
+      rw (and_complete a (write_ors os rest) h g.0 g.1)
+      (ors_complete os (length (write_ors os rest)) (and_tree a) rest (omega arith) ((and_skip a (write_ors os rest)).shallow most j h) e)
+
+-- j parentheses are open before the condition
+pub cond_complete : (most n j : ℕ) → suc (suc most) ≤ n + j → j ≤ most → (d : Cond°) (rest : List Token) → too_deep most j (write_cond d rest) ≡ false → stops rest ≡ true
+    → cond_at n (write_cond d rest) ≡ Some (cond_tree d, rest)
+unfolding cond_at
+cond_complete most zero j room low d rest h e = absurd (omega arith)
+cond_complete most (suc n) j room low d rest h e =
+    cond_level_complete most n j (omega arith) low (cond_at n) (λ few. let less = leb-false most j few in cond_complete most n (suc j) (omega arith) (omega arith)) d rest h e

@@ -1,0 +1,303 @@
+-- What is read as a condition or a nested SELECT is written by the grammar, with its tree.
+use Rattle.std.proofs.Common.{◌≡◌, ℕ, zero, suc, Bool, true, false, ◌&&◌, ◌||◌, List, [], ◌∷◌, ◌++◌, map, drop, length, subst, Option, Some, None, refl, ap, sym, ◌∙◌, append-nil, append_assoc}
+use Rattle.jpql_grammar.specs.declared.token.Keyword.{Keyword}
+use Rattle.jpql_grammar.specs.declared.token.Keyword.TheVariants as k
+use Rattle.jpql_grammar.specs.declared.token.Mark.TheVariants as m
+use Rattle.jpql_grammar.specs.declared.token.Token.{Token}
+use Rattle.jpql_grammar.specs.declared.token.Token.TheVariants as t
+use Rattle.jpql_tree.specs.declared.Value.{Value}
+use Rattle.jpql_tree.specs.declared.Item.{Item}
+use Rattle.jpql_tree.specs.declared.Origin.{Origin}
+use Rattle.jpql_tree.specs.declared.Origin.TheVariants as from
+use Rattle.jpql_tree.specs.declared.Condition.{Condition}
+use Rattle.jpql_tree.specs.declared.Condition.TheVariants as is
+use Rattle.jpql_tree.specs.declared.Block.{Block, roll-Block}
+use Rattle.jpql_tree.specs.declared.Source.{Source, roll-Source}
+use Rattle.jpql_tree.specs.declared.Join.{Join, roll-Join}
+use Rattle.jpql_tree.specs.Names.{Text}
+use Rattle.jpql_grammar.specs.Parts.{Name, name_token, name_text}
+use Rattle.jpql_grammar.specs.Grammar.{write_value, write_others, value_tree, Written, write_word, is_written, write_named, write_optional_name, optional_name, write_item, item_tree, Side, inner, left, write_side, is_left, entity, related, Cond°, cond, no_ors, or, conj, no_ands, and, maybe_not, inside, exists, sub, Source°, source, Sources°, no_sources, sources, no_joins, joins, join, On°, no_on, on, Where°, no_where, filter, write_cond, write_ors, write_and, write_ands, write_not, write_test, write_sub, write_source, write_sources, write_joins, write_join, write_on, write_where, cond_tree, ors_tree, and_tree, ands_tree, not_tree, test_tree, sub_tree, source_tree, sources_trees, joins_trees, join_tree, on_tree, where_tree}
+use Rattle.jpql_grammar.specs.Values.{Read, sees, after, is_word, after_word, optional_word, name_at, variable_at, list_at, closed, value_at}
+use Rattle.jpql_grammar.specs.Conditions.{has_test, opens_condition, begins_variable, named_at, optional_name_at, item_at, begins_related, related_at, origin_at, begins_join, side_at, clause_at, join_at, joins_at, source_at, block_at, exists_at, test_at, not_at, ands_at, and_at, ors_at, cond_level_at, cond_at}
+use Rattle.jpql_grammar.proofs.Tools.{step, choice, sees_is, after_is, word_is, after_word_is, optional_word_is, name_sound, variable_sound}
+use Rattle.jpql_grammar.proofs.TestsSound.{both, simple_sound}
+use Rattle.jpql_grammar.proofs.ValuesSound.{Wrote, value_sound, list_sound, closed_sound, write_list, list_trees, write_closed, nothing, leaf}
+
+-- ---- names, items, relations
+
+pub named_sound : (ts : List Token) (x : Text × List Token) → named_at ts ≡ Some x → Wrote write_named (λ n. n.name) ts x
+unfolding named_at
+named_sound ts x h = let (w, ew, tw) = optional_word_is k.As ts in
+    (record { as_word = w; name = x.0 }, rw (variable_sound (optional_word k.As ts).1 x h) ew, refl)
+
+pub optional_name_sound : (ts : List Token) (x : Option Text × List Token) → optional_name_at ts ≡ Some x → Wrote write_optional_name optional_name ts x
+unfolding optional_name_at
+optional_name_sound ts x h = choice (is_word k.As ts || begins_variable ts) _ _ _ h
+    (λ b h1. step (named_at ts) _ _ h1 (λ w ew hw. named_glued w (named_sound ts w ew) hw))
+    (λ b h1. nothing write_optional_name optional_name None None ts x h1 refl refl)
+  where
+    named_glued : (w : Text × List Token) → Wrote write_named (λ n. n.name) ts w → Some (Some w.0, w.1) ≡ Some x → Wrote write_optional_name optional_name ts x
+    named_glued w (n, en, tn) h = leaf write_optional_name optional_name (Some n) (Some w.0) w.1 ts x h en (rw tn)
+
+item_glued : (ts : List Token) (a : Value × List Token) (w : Option Text × List Token) (x : Item × List Token)
+    → Wrote write_value value_tree ts a → Wrote write_optional_name optional_name a.1 w → Some (record { value = a.0; name = w.0 }, w.1) ≡ Some x → Wrote write_item item_tree ts x
+item_glued ts a w x (d, ed, td) (n, en, tn) h = leaf write_item item_tree (record { value = d; name = n }) (record { value = a.0; name = w.0 }) w.1 ts x h (rw (en, ed)) (rw (td, tn))
+
+pub item_sound : (n : ℕ) (ts : List Token) (x : Item × List Token) → item_at n ts ≡ Some x → Wrote write_item item_tree ts x
+unfolding item_at
+item_sound n ts x h = step (value_at n ts) _ _ h (λ a ea ha. step (optional_name_at a.1) _ _ ha (λ w ew hw. item_glued ts a w x (value_sound n ts a ea) (optional_name_sound a.1 w ew) hw))
+
+-- a variable, a dot and a name
+pub data Related° : Type 0 where
+  of_name : Text → Name → Related°
+
+abbrev pub write_related : Related° → List Token → List Token
+write_related (of_name x r) rest = t.Word x ∷ t.Mark m.Dot ∷ name_token r ∷ rest
+
+abbrev pub related_tree : Related° → Text × Text
+related_tree (of_name x r) = (x, name_text r)
+
+related_glued : (ts more : List Token) (a r : Text × List Token) (x : (Text × Text) × List Token) → t.Word a.0 ∷ a.1 ≡ ts → t.Mark m.Dot ∷ more ≡ a.1
+    → (n : Name) × (name_token n ∷ r.1 ≡ more) × (name_text n ≡ r.0) → Some ((a.0, r.0), r.1) ≡ Some x → Wrote write_related related_tree ts x
+related_glued ts more a r x ea em (n, en, tn) h = leaf write_related related_tree (of_name a.0 n) (a.0, r.0) r.1 ts x h (rw (en, em, ea)) (rw tn)
+
+pub related_sound : (ts : List Token) (x : (Text × Text) × List Token) → related_at ts ≡ Some x → Wrote write_related related_tree ts x
+unfolding related_at
+related_sound ts x h = step (variable_at ts) _ _ h (λ a ea ha. step (after m.Dot a.1) _ _ ha (λ more em hm. step (name_at more) _ _ hm (λ r er hr.
+    related_glued ts more a r x (variable_sound ts a ea) (after_is m.Dot a.1 more em) (name_sound more r er) hr)))
+
+-- what a variable ranges over, without the variable
+pub data Origin° : Type 0 where
+  of_entity : Name → Origin°
+  of_relation : Text → Name → Origin°
+
+abbrev pub write_origin : Origin° → List Token → List Token
+write_origin (of_entity e) rest = name_token e ∷ rest
+write_origin (of_relation x r) rest = t.Word x ∷ t.Mark m.Dot ∷ name_token r ∷ rest
+
+abbrev pub origin_tree : Origin° → Origin
+origin_tree (of_entity e) = from.Entity (name_text e)
+origin_tree (of_relation x r) = from.Related x (name_text r)
+
+relation_glued : (ts : List Token) (r : (Text × Text) × List Token) (x : Origin × List Token) → Wrote write_related related_tree ts r
+    → Some (from.Related r.0.0 r.0.1, r.1) ≡ Some x → Wrote write_origin origin_tree ts x
+relation_glued ts r x (of_name y n, en, tn) h = leaf write_origin origin_tree (of_relation y n) (from.Related r.0.0 r.0.1) r.1 ts x h en (rw (← tn))
+
+entity_glued : (ts : List Token) (e : Text × List Token) (x : Origin × List Token) → (n : Name) × (name_token n ∷ e.1 ≡ ts) × (name_text n ≡ e.0)
+    → Some (from.Entity e.0, e.1) ≡ Some x → Wrote write_origin origin_tree ts x
+entity_glued ts e x (n, en, tn) h = leaf write_origin origin_tree (of_entity n) (from.Entity e.0) e.1 ts x h en (rw tn)
+
+pub origin_sound : (nested : Bool) (ts : List Token) (x : Origin × List Token) → origin_at nested ts ≡ Some x → Wrote write_origin origin_tree ts x
+unfolding origin_at
+origin_sound nested ts x h = choice (nested && begins_related ts) _ _ _ h
+    (λ b h1. step (related_at ts) _ _ h1 (λ r er hr. relation_glued ts r x (related_sound ts r er) hr))
+    (λ b h1. step (name_at ts) _ _ h1 (λ e ee he. entity_glued ts e x (name_sound ts e ee) he))
+
+-- [INNER | LEFT [OUTER]] JOIN
+abbrev write_sided : Side × Text → List Token → List Token
+write_sided l rest = write_side l.0 (t.Key k.Join l.1 ∷ rest)
+
+abbrev sided_tree : Side × Text → Bool
+sided_tree l = is_left l.0
+
+left_glued : (ts mid rest : List Token) (b : Bool) (x : Bool × List Token) → (w : Text) × (t.Key k.Left w ∷ drop 1 ts ≡ ts)
+    → (o : Written) × (write_word k.Outer o mid ≡ drop 1 ts) × (is_written o ≡ b) → (j : Text) × (t.Key k.Join j ∷ rest ≡ mid)
+    → Some (true, rest) ≡ Some x → Wrote write_sided sided_tree ts x
+left_glued ts mid rest b x (w, ew) (o, eo, to) (j, ej) h = leaf write_sided sided_tree (left w o, j) true rest ts x h (rw (ej, eo) ew) refl
+
+inner_glued : (ts mid rest : List Token) (b : Bool) (x : Bool × List Token)
+    → (o : Written) × (write_word k.Inner o mid ≡ ts) × (is_written o ≡ b) → (j : Text) × (t.Key k.Join j ∷ rest ≡ mid)
+    → Some (false, rest) ≡ Some x → Wrote write_sided sided_tree ts x
+inner_glued ts mid rest b x (o, eo, to) (j, ej) h = leaf write_sided sided_tree (inner o, j) false rest ts x h (rw (ej, eo)) refl
+
+side_sound : (ts : List Token) (x : Bool × List Token) → side_at ts ≡ Some x → Wrote write_sided sided_tree ts x
+unfolding side_at
+side_sound ts x h = choice (is_word k.Left ts) _ _ _ h
+    (λ b h1. let o = optional_word k.Outer (drop 1 ts) in step (after_word k.Join o.1) _ _ h1 (λ rest er hr.
+    left_glued ts o.1 rest o.0 x (word_is k.Left ts b) (optional_word_is k.Outer (drop 1 ts)) (after_word_is k.Join o.1 rest er) hr))
+    (λ b h1. let o = optional_word k.Inner ts in step (after_word k.Join o.1) _ _ h1 (λ rest er hr.
+    inner_glued ts o.1 rest o.0 x (optional_word_is k.Inner ts) (after_word_is k.Join o.1 rest er) hr))
+
+-- ---- conditions after a word
+
+abbrev pub Clause° : Type 0
+Clause° = Option (Text × Cond°)
+
+abbrev pub write_clause° : Keyword → Clause° → List Token → List Token
+write_clause° word None rest = rest
+write_clause° word (Some c) rest = t.Key word c.0 ∷ write_cond c.1 rest
+
+abbrev pub clause_tree : Clause° → Option Condition
+clause_tree None = None
+clause_tree (Some c) = Some (cond_tree c.1)
+
+pub on_of : Clause° → On°
+on_of None = no_on
+on_of (Some c) = on c.0 c.1
+
+pub on_of_is : (c : Clause°) (rest : List Token) → (write_on (on_of c) rest ≡ write_clause° k.On c rest) × (on_tree (on_of c) ≡ clause_tree c)
+unfolding on_of
+on_of_is None rest = (refl, refl)
+on_of_is (Some c) rest = (refl, refl)
+
+pub where_of : Clause° → Where°
+where_of None = no_where
+where_of (Some c) = filter c.0 c.1
+
+pub where_of_is : (c : Clause°) (rest : List Token) → (write_where (where_of c) rest ≡ write_clause° k.Where c rest) × (where_tree (where_of c) ≡ clause_tree c)
+unfolding where_of
+where_of_is None rest = (refl, refl)
+where_of_is (Some c) rest = (refl, refl)
+
+sources_of : List Source° → Sources°
+sources_of [] = no_sources
+sources_of (x ∷ xs) = sources x (sources_of xs)
+
+sources_of_written : (xs : List Source°) (rest : List Token) → write_sources (sources_of xs) rest ≡ write_others write_source xs rest
+unfolding sources_of
+sources_of_written [] rest = refl
+sources_of_written (x ∷ xs) rest = ap (λ ts. t.Mark m.Comma ∷ write_source x ts) (sources_of_written xs rest)
+
+sources_of_treed : (xs : List Source°) → sources_trees (sources_of xs) ≡ map source_tree xs
+unfolding sources_of
+sources_of_treed [] = refl
+sources_of_treed (x ∷ xs) = ap (λ ys. source_tree x ∷ ys) (sources_of_treed xs)
+
+module _ (below : Read Condition) (nested : (ts : List Token) (x : Condition × List Token) → below ts ≡ Some x → Wrote write_cond cond_tree ts x) where
+  clause_glued : (word : Keyword) (ts : List Token) (a : Condition × List Token) (x : Option Condition × List Token) → (w : Text) × (t.Key word w ∷ drop 1 ts ≡ ts)
+      → Wrote write_cond cond_tree (drop 1 ts) a → Some (Some a.0, a.1) ≡ Some x → Wrote (write_clause° word) clause_tree ts x
+  clause_glued word ts a x (w, ew) (d, ed, td) h = leaf (write_clause° word) clause_tree (Some (w, d)) (Some a.0) a.1 ts x h (rw ed ew) (rw td)
+
+  pub clause_sound : (word : Keyword) (ts : List Token) (x : Option Condition × List Token) → clause_at below word ts ≡ Some x → Wrote (write_clause° word) clause_tree ts x
+  unfolding clause_at
+  clause_sound word ts x h = choice (is_word word ts) _ _ _ h
+      (λ b h1. step (below (drop 1 ts)) _ _ h1 (λ a ea ha. clause_glued word ts a x (word_is word ts b) (nested (drop 1 ts) a ea) ha))
+      (λ b h1. nothing (write_clause° word) clause_tree None None ts x h1 refl refl)
+
+  join_glued : (ts : List Token) (l : Bool × List Token) (r : (Text × Text) × List Token) (w : Text × List Token) (o : Option Condition × List Token) (x : Join × List Token)
+      → Wrote write_sided sided_tree ts l → Wrote write_related related_tree l.1 r → Wrote write_named (λ n. n.name) r.1 w → Wrote (write_clause° k.On) clause_tree w.1 o
+      → Some (roll-Join (record { is_left = l.0; of = r.0.0; relation = r.0.1; variable = w.0; on = o.0 }), o.1) ≡ Some x → Wrote write_join join_tree ts x
+  join_glued ts l r w o x ((s, j), es, ls) (of_name y n, en, tn) (a, ea, ta) (c, ec, tc) h =
+      let is = on_of_is c o.1 in
+      leaf write_join join_tree (join s j y n a (on_of c)) _ o.1 ts x h (rw (is.0, ec, ea, en, es)) (rw (is.1, ls, tc, ta, ← tn))
+
+  join_sound : (ts : List Token) (x : Join × List Token) → join_at below ts ≡ Some x → Wrote write_join join_tree ts x
+  unfolding join_at
+  join_sound ts x h = step (side_at ts) _ _ h (λ l el hl. step (related_at l.1) _ _ hl (λ r er hr. step (named_at r.1) _ _ hr (λ w ew hw. step (clause_at below k.On w.1) _ _ hw (λ o eo ho.
+      join_glued ts l r w o x (side_sound ts l el) (related_sound l.1 r er) (named_sound r.1 w ew) (clause_sound k.On w.1 o eo) ho))))
+
+  joins_glued : (found : List Join) (ts : List Token) (a : Join × List Token) (x : List Join × List Token) → Wrote write_join join_tree ts a
+      → Wrote write_joins (λ js. (found ++ a.0 ∷ []) ++ joins_trees js) a.1 x → Wrote write_joins (λ js. found ++ joins_trees js) ts x
+  joins_glued found ts a x (d, ed, td) (ds, es, ts') = (joins d ds, rw es ed, rw td (sym (append_assoc found (a.0 ∷ []) (joins_trees ds)) ∙ ts'))
+
+  pub joins_sound : (n : ℕ) (found : List Join) (ts : List Token) (x : List Join × List Token) → joins_at below n found ts ≡ Some x → Wrote write_joins (λ js. found ++ joins_trees js) ts x
+  unfolding joins_at
+  joins_sound zero found ts x h = nothing write_joins (λ js. found ++ joins_trees js) no_joins found ts x h refl (append-nil found)
+  joins_sound (suc n) found ts x h = choice (begins_join ts) _ _ _ h
+      (λ b h1. step (join_at below ts) _ _ h1 (λ a ea ha. joins_glued found ts a x (join_sound ts a ea) (joins_sound n (found ++ a.0 ∷ []) a.1 x ha)))
+      (λ b h1. nothing write_joins (λ js. found ++ joins_trees js) no_joins found ts x h1 refl (append-nil found))
+
+  -- an origin, its variable and its joins
+  source_glued : (ts : List Token) (o : Origin × List Token) (w : Text × List Token) (js : List Join × List Token) (x : Source × List Token)
+      → Wrote write_origin origin_tree ts o → Wrote write_named (λ n. n.name) o.1 w → Wrote write_joins (λ js. [] ++ joins_trees js) w.1 js
+      → Some (roll-Source (record { origin = o.0; variable = w.0; joins = js.0 }), js.1) ≡ Some x → Wrote write_source source_tree ts x
+  source_glued ts o w js x (of_entity e, eo, to) (n, en, tn) (d, ed, td) h =
+      leaf write_source source_tree (source (entity e n) d) _ js.1 ts x h (rw (ed, en, eo)) (rw (to, tn, td))
+  source_glued ts o w js x (of_relation y r, eo, to) (n, en, tn) (d, ed, td) h =
+      leaf write_source source_tree (source (related y r n) d) _ js.1 ts x h (rw (ed, en, eo)) (rw (to, tn, td))
+
+  pub source_sound : (ts : List Token) (x : Source × List Token) → source_at below true ts ≡ Some x → Wrote write_source source_tree ts x
+  unfolding source_at
+  source_sound ts x h = step (origin_at true ts) _ _ h (λ o eo ho. step (named_at o.1) _ _ ho (λ w ew hw. step (joins_at below (length w.1) [] w.1) _ _ hw (λ js ej hj.
+      source_glued ts o w js x (origin_sound true ts o eo) (named_sound o.1 w ew) (joins_sound (length w.1) [] w.1 js ej) hj)))
+
+  block_glued : (u : Text) (ts mid more : List Token) (d : Bool) (i : Item × List Token) (xs : List Source × List Token) (f : Option Condition × List Token) (x : Block × List Token)
+      → (w : Written) × (write_word k.Distinct w mid ≡ ts) × (is_written w ≡ d) → Wrote write_item item_tree mid i → (v : Text) × (t.Key k.From v ∷ more ≡ i.1)
+      → Wrote (write_list write_source) (list_trees source_tree) more xs → Wrote (write_clause° k.Where) clause_tree xs.1 f
+      → Some (roll-Block (record { is_distinct = d; item = i.0; sources = xs.0; filter = f.0 }), f.1) ≡ Some x → Wrote write_sub sub_tree (t.Key k.Select u ∷ ts) x
+  block_glued u ts mid more d i xs f x (w, ew, tw) (a, ea, ta) (v, ev) ((y, ys), ey, ty) (c, ec, tc) h =
+      let is = where_of_is c f.1 in
+      leaf write_sub sub_tree (sub u w a v y (sources_of ys) (where_of c)) _ f.1 _ x h
+      (rw (is.0, ec, sources_of_written ys xs.1, ey, ev, ea, ew)) (rw (is.1, sources_of_treed ys) (rw (tw, ta, ty, tc)))
+
+module _ (n : ℕ) (below : Read Condition) (nested : (ts : List Token) (x : Condition × List Token) → below ts ≡ Some x → Wrote write_cond cond_tree ts x) where
+  block_sound : (u : Text) (ts : List Token) (x : Block × List Token) → block_at n below ts ≡ Some x → Wrote write_sub sub_tree (t.Key k.Select u ∷ ts) x
+  unfolding block_at
+  block_sound u ts x h = let d = optional_word k.Distinct ts in
+      step (item_at n d.1) _ _ h (λ i ei hi. step (after_word k.From i.1) _ _ hi (λ more em hm. step (list_at (source_at below true) more) _ _ hm (λ xs es hs. step (clause_at below k.Where xs.1) _ _ hs (λ f ef hf.
+      block_glued below nested u ts d.1 more d.0 i xs f x (optional_word_is k.Distinct ts) (item_sound n d.1 i ei) (after_word_is k.From i.1 more em)
+      (list_sound (source_at below true) write_source source_tree (source_sound below nested) more xs es) (clause_sound below nested k.Where xs.1 f ef) hf))))
+
+  exists_glued : (w : Text) (ts more rest : List Token) (b : Block × List Token) (x : Condition × List Token) (u : Text) → t.Mark m.Open ∷ more ≡ ts → t.Key k.Select u ∷ rest ≡ more
+      → Wrote (write_closed write_sub) sub_tree (t.Key k.Select u ∷ rest) b → Some (is.Exists b.0, b.1) ≡ Some x → Wrote write_test test_tree (t.Key k.Exists w ∷ ts) x
+  exists_glued w ts more rest b x u eo es (d, ed, td) h = leaf write_test test_tree (exists w d) (is.Exists b.0) b.1 _ x h (rw (ed, es, eo)) (rw td)
+
+  exists_sound : (w : Text) (ts : List Token) (x : Condition × List Token) → exists_at n below ts ≡ Some x → Wrote write_test test_tree (t.Key k.Exists w ∷ ts) x
+  unfolding exists_at
+  exists_sound w ts x h = step (after m.Open ts) _ _ h (λ more em hm. step (after_word k.Select more) _ _ hm (λ rest er hr. step (closed (block_at n below rest)) _ _ hr (λ b eb hb.
+      let (u, eu) = after_word_is k.Select more rest er in
+      exists_glued w ts more rest b x u (after_is m.Open ts more em) eu
+      (closed_sound write_sub sub_tree (t.Key k.Select u ∷ rest) (block_at n below rest) (λ a ea. block_sound u rest a ea) b eb) hb)))
+
+  inside_glued : (ts : List Token) (x : Condition × List Token) → sees m.Open ts ≡ true → Wrote (write_closed write_cond) cond_tree (drop 1 ts) x → Wrote write_test test_tree ts x
+  inside_glued ts x o (d, ed, td) = (inside d, rw ed (sees_is m.Open ts o), td)
+
+  test_sound : (ts : List Token) (x : Condition × List Token) → test_at n below ts ≡ Some x → Wrote write_test test_tree ts x
+  unfolding test_at
+  test_sound ts x h = choice (opens_condition ts) _ _ _ h
+      (λ b h1. both (sees m.Open ts) (has_test 0 false (drop 1 ts)) b (λ o u.
+      inside_glued ts x o (closed_sound write_cond cond_tree (drop 1 ts) (below (drop 1 ts)) (nested (drop 1 ts)) x h1)))
+      (λ b h1. choice (is_word k.Exists ts) _ _ _ h1
+      (λ b h2. let (w, ew) = word_is k.Exists ts b in subst (λ us. Wrote write_test test_tree us x) ew (exists_sound w (drop 1 ts) x h2))
+      (λ b h2. simple_sound n ts x h2))
+
+  not_glued : (ts : List Token) (a x : Condition × List Token) → (w : Text) × (t.Key k.Not w ∷ drop 1 ts ≡ ts) → Wrote write_test test_tree (drop 1 ts) a
+      → Some (is.Not a.0, a.1) ≡ Some x → Wrote write_not not_tree ts x
+  not_glued ts a x (w, ew) (d, ed, td) h = leaf write_not not_tree (maybe_not (Some w) d) (is.Not a.0) a.1 ts x h (rw ed ew) (rw td)
+
+  not_sound : (ts : List Token) (x : Condition × List Token) → not_at n below ts ≡ Some x → Wrote write_not not_tree ts x
+  unfolding not_at
+  not_sound ts x h = choice (is_word k.Not ts) _ _ _ h
+      (λ b h1. step (test_at n below (drop 1 ts)) _ _ h1 (λ a ea ha. not_glued ts a x (word_is k.Not ts b) (test_sound (drop 1 ts) a ea) ha))
+      (λ b h1. let d = test_sound ts x h1 in (maybe_not None d.0, d.1, d.2))
+
+  ands_glued : (before : Condition) (ts : List Token) (a x : Condition × List Token) → (w : Text) × (t.Key k.And w ∷ drop 1 ts ≡ ts)
+      → Wrote write_not not_tree (drop 1 ts) a → Wrote write_ands (ands_tree (is.And before a.0)) a.1 x → Wrote write_ands (ands_tree before) ts x
+  ands_glued before ts a x (w, ew) (d, ed, td) (e, ee, te) = (and w d e, rw (ee, ed) ew, rw td te)
+
+  ands_sound : (j : ℕ) (before : Condition) (ts : List Token) (x : Condition × List Token) → ands_at n below j before ts ≡ Some x → Wrote write_ands (ands_tree before) ts x
+  unfolding ands_at
+  ands_sound zero before ts x h = nothing write_ands (ands_tree before) no_ands before ts x h refl refl
+  ands_sound (suc j) before ts x h = choice (is_word k.And ts) _ _ _ h
+      (λ b h1. step (not_at n below (drop 1 ts)) _ _ h1 (λ a ea ha. ands_glued before ts a x (word_is k.And ts b) (not_sound (drop 1 ts) a ea) (ands_sound j _ a.1 x ha)))
+      (λ b h1. nothing write_ands (ands_tree before) no_ands before ts x h1 refl refl)
+
+  and_glued : (ts : List Token) (a x : Condition × List Token) → Wrote write_not not_tree ts a → Wrote write_ands (ands_tree a.0) a.1 x → Wrote write_and and_tree ts x
+  and_glued ts a x (d, ed, td) (e, ee, te) = (conj d e, rw ee ed, rw td te)
+
+  and_sound : (ts : List Token) (x : Condition × List Token) → and_at n below ts ≡ Some x → Wrote write_and and_tree ts x
+  unfolding and_at
+  and_sound ts x h = step (not_at n below ts) _ _ h (λ a ea ha. and_glued ts a x (not_sound ts a ea) (ands_sound (length a.1) a.0 a.1 x ha))
+
+  ors_glued : (before : Condition) (ts : List Token) (a x : Condition × List Token) → (w : Text) × (t.Key k.Or w ∷ drop 1 ts ≡ ts)
+      → Wrote write_and and_tree (drop 1 ts) a → Wrote write_ors (ors_tree (is.Or before a.0)) a.1 x → Wrote write_ors (ors_tree before) ts x
+  ors_glued before ts a x (w, ew) (d, ed, td) (e, ee, te) = (or w d e, rw (ee, ed) ew, rw td te)
+
+  ors_sound : (j : ℕ) (before : Condition) (ts : List Token) (x : Condition × List Token) → ors_at n below j before ts ≡ Some x → Wrote write_ors (ors_tree before) ts x
+  unfolding ors_at
+  ors_sound zero before ts x h = nothing write_ors (ors_tree before) no_ors before ts x h refl refl
+  ors_sound (suc j) before ts x h = choice (is_word k.Or ts) _ _ _ h
+      (λ b h1. step (and_at n below (drop 1 ts)) _ _ h1 (λ a ea ha. ors_glued before ts a x (word_is k.Or ts b) (and_sound (drop 1 ts) a ea) (ors_sound j _ a.1 x ha)))
+      (λ b h1. nothing write_ors (ors_tree before) no_ors before ts x h1 refl refl)
+
+  cond_glued : (ts : List Token) (a x : Condition × List Token) → Wrote write_and and_tree ts a → Wrote write_ors (ors_tree a.0) a.1 x → Wrote write_cond cond_tree ts x
+  cond_glued ts a x (d, ed, td) (e, ee, te) = (cond d e, rw ee ed, rw td te)
+
+  cond_level_sound : (ts : List Token) (x : Condition × List Token) → cond_level_at n below ts ≡ Some x → Wrote write_cond cond_tree ts x
+  unfolding cond_level_at
+  cond_level_sound ts x h = step (and_at n below ts) _ _ h (λ a ea ha. cond_glued ts a x (and_sound ts a ea) (ors_sound (length a.1) a.0 a.1 x ha))
+
+pub cond_sound : (n : ℕ) (ts : List Token) (x : Condition × List Token) → cond_at n ts ≡ Some x → Wrote write_cond cond_tree ts x
+unfolding cond_at
+cond_sound zero ts x h = absurd cc
+cond_sound (suc n) ts x h = cond_level_sound n (cond_at n) (cond_sound n) ts x h

@@ -1,0 +1,21 @@
+pub mod Skips
+pub mod Scan
+pub mod Tools
+pub mod Calls
+pub mod ValuesComplete
+pub mod ValuesSound
+pub mod TestsSound
+pub mod CondSound
+pub mod StatementsSound
+pub mod TestsComplete
+pub mod CondComplete
+pub mod StatementsComplete
+pub mod One
+pub mod LexingLaws
+pub mod NestingLaws
+pub mod ListsNest
+pub mod Queries
+pub mod Words
+mod Samples
+mod CallSamples
+mod ListSamples

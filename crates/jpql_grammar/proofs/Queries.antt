@@ -1,0 +1,38 @@
+-- A text has at most one list of tokens, and at most one tree.
+use Rattle.std.proofs.Common.{◌≡◌, false, List, Option, Some, ap, sym, ◌∙◌, subst}
+use Rattle.jpql_tree.specs.declared.Language.{Language}
+use Rattle.jpql_grammar.specs.declared.lists.GivenList.{GivenList}
+use Rattle.jpql_grammar.specs.declared.token.Token.{Token}
+use Rattle.jpql_tree.specs.declared.Query.{Query}
+use Rattle.jpql_tree.specs.Names.{Text}
+use Rattle.jpql_tree.specs.Steps.{◌>>=◌}
+use Rattle.jpql_grammar.specs.Grammar.{IsStatement}
+use Rattle.jpql_grammar.specs.Text.{IsText}
+use Rattle.jpql_grammar.specs.Statements.{whole_at}
+use Rattle.jpql_grammar.specs.Limits.{nests_over}
+use Rattle.jpql_grammar.specs.Lists.{spread}
+use Rattle.jpql_grammar.specs.Queries.{IsQuery}
+use Rattle.jpql_grammar.proofs.Tools.{same}
+use Rattle.jpql_grammar.proofs.LexingLaws.{tokens_complete}
+use Rattle.jpql_grammar.proofs.NestingLaws.{text_nests}
+use Rattle.jpql_grammar.proofs.ListsNest.{spread_below}
+use Rattle.jpql_grammar.proofs.One.{one_tree, is_read}
+
+pub one_list : (l : Language) (text : Text) (a b : List Token) → IsText l text a → IsText l text b → a ≡ b
+one_list l text a b x y = same _ _ (sym (tokens_complete l text a x) ∙ tokens_complete l text b y)
+
+-- and they stand for at most one list of tokens
+one_spread : (lists : List GivenList) (a b s u : List Token) → a ≡ b → spread lists a ≡ Some s → spread lists b ≡ Some u → s ≡ u
+one_spread lists a b s u e x y = same _ _ (sym x ∙ (ap (spread lists) e ∙ y))
+
+pub one_query : (l : Language) (lists : List GivenList) (text : Text) (x y : Query) → IsQuery l lists text x → IsQuery l lists text y → x ≡ y
+one_query l lists text x y (a, s, ta, ea, sa) (b, u, tb, eb, sb) =
+    one_tree u x y (subst (λ ts. IsStatement ts x) (one_spread lists a b s u (one_list l text a b ta tb) ea eb) sa) sb
+
+-- the tokens of a query within the limit are read as it
+pub query_read : (l : Language) (lists : List GivenList) (text : Text) (tokens : List Token) (x : Query) → nests_over 32 false 0 text ≡ false → IsText l text tokens → IsQuery l lists text x
+    → (spread lists tokens >>= whole_at 35) ≡ Some x
+query_read l lists text tokens x h t (a, s, ta, ea, sa) =
+    let is = ap (spread lists) (one_list l text tokens a t ta) ∙ ea in
+    let deep = spread_below lists 32 tokens s (sym (text_nests l 32 text tokens t) ∙ h) is in
+    ap (λ (o : Option (List Token)). o >>= whole_at 35) is ∙ is_read s x deep sa

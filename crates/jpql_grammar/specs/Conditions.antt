@@ -1,0 +1,321 @@
+-- How conditions and nested SELECTs are read from tokens, from the left: each function gives the
+-- tree and the tokens after it.
+use Rattle.std.specs.Prelude.{ℕ, zero, suc, Bool, true, false, ◌&&◌, ◌||◌, List, [], ◌∷◌, ◌++◌, drop, length, Option}
+use Rattle.std.specs.Prelude.{Some, None, if◌then◌else◌}
+use Rattle.jpql_grammar.specs.declared.token.Keyword.{Keyword}
+use Rattle.jpql_grammar.specs.declared.token.Keyword.TheVariants as k
+use Rattle.jpql_grammar.specs.declared.token.Mark.{Mark}
+use Rattle.jpql_grammar.specs.declared.token.Mark.TheVariants as m
+use Rattle.jpql_grammar.specs.declared.token.Token.{Token}
+use Rattle.jpql_grammar.specs.declared.token.Token.TheVariants as t
+use Rattle.jpql_tree.specs.declared.Comparison.{Comparison}
+use Rattle.jpql_tree.specs.declared.Comparison.TheVariants as c
+use Rattle.jpql_tree.specs.declared.Path.{Path}
+use Rattle.jpql_tree.specs.declared.Value.{Value}
+use Rattle.jpql_tree.specs.declared.Value.TheVariants as v
+use Rattle.jpql_tree.specs.declared.Item.{Item}
+use Rattle.jpql_tree.specs.declared.Origin.{Origin}
+use Rattle.jpql_tree.specs.declared.Origin.TheVariants as from
+use Rattle.jpql_tree.specs.declared.Condition.{Condition}
+use Rattle.jpql_tree.specs.declared.Condition.TheVariants as is
+use Rattle.jpql_tree.specs.declared.Block.{Block, roll-Block}
+use Rattle.jpql_tree.specs.declared.Source.{Source, roll-Source}
+use Rattle.jpql_tree.specs.declared.Join.{Join, roll-Join}
+use Rattle.jpql_tree.specs.Names.{Text}
+use Rattle.jpql_tree.specs.Steps.{◌>>=◌}
+use Rattle.jpql_grammar.specs.Values.{Read, is_mark, sees, after, is_word, after_word, optional_word, name_at}
+use Rattle.jpql_grammar.specs.Values.{variable_at, path_at, list_at, closed, value_at}
+
+-- ---- "(" before a condition or a value
+
+-- words that stand in tests alone, but for names after a dot
+abbrev pub is_test_word : Keyword → Bool
+is_test_word k.Is = true
+is_test_word k.In = true
+is_test_word k.Between = true
+is_test_word k.Like = true
+is_test_word k.Member = true
+is_test_word k.Exists = true
+is_test_word k.Type = true
+is_test_word _ = false
+
+-- the comparison that a mark is, if it is one (chapter 4.6.7)
+abbrev pub comparison_of : Mark → Option Comparison
+comparison_of m.Equal = Some c.Equal
+comparison_of m.Different = Some c.Different
+comparison_of m.Less = Some c.Less
+comparison_of m.AtMost = Some c.AtMost
+comparison_of m.Greater = Some c.Greater
+comparison_of m.AtLeast = Some c.AtLeast
+comparison_of _ = None
+
+-- whether a mark is a comparison
+abbrev pub is_comparison : Mark → Bool
+is_comparison m.Equal = true
+is_comparison m.Different = true
+is_comparison m.Less = true
+is_comparison m.AtMost = true
+is_comparison m.Greater = true
+is_comparison m.AtLeast = true
+is_comparison _ = false
+
+-- a token that stands in tests alone, after a dot or not
+abbrev pub tells : Bool → Token → Bool
+tells dotted (t.Mark x) = is_comparison x
+tells true (t.Key k w) = false
+tells false (t.Key k w) = is_test_word k
+tells dotted (t.Word w) = false
+tells dotted (t.Number n) = false
+tells dotted (t.Quoted w) = false
+tells dotted (t.Parameter w) = false
+
+-- Whether a test stands before the parenthesis that is open is closed. The number counts those
+-- opened inside it.
+unfoldable pub has_test : ℕ → Bool → List Token → Bool
+has_test depth dotted [] = false
+has_test zero dotted (x ∷ rest) =
+    if tells dotted x then true else if is_mark m.Close x then false
+    else if is_mark m.Open x then has_test 1 false rest else has_test 0 (is_mark m.Dot x) rest
+has_test (suc d) dotted (x ∷ rest) =
+    if tells dotted x then true else if is_mark m.Close x then has_test d false rest
+    else if is_mark m.Open x then has_test (suc (suc d)) false rest else has_test (suc d) (is_mark m.Dot x) rest
+
+-- "(" opens a condition where a test stands inside, else a value
+abbrev pub opens_condition : List Token → Bool
+opens_condition ts = sees m.Open ts && has_test 0 false (drop 1 ts)
+
+-- ---- tests of values
+
+-- a comparison
+unfoldable pub comparison_at : Read Comparison
+comparison_at [] = None
+comparison_at (t.Mark x ∷ rest) = comparison_of x >>= λ op. Some (op, rest)
+comparison_at (_ ∷ rest) = None
+
+-- whether a comparison comes next
+abbrev pub sees_comparison : List Token → Bool
+sees_comparison [] = false
+sees_comparison (t.Mark x ∷ rest) = is_comparison x
+sees_comparison (_ ∷ rest) = false
+
+-- whether a variable comes next
+abbrev pub begins_variable : List Token → Bool
+begins_variable [] = false
+begins_variable (t.Word w ∷ rest) = true
+begins_variable (_ ∷ rest) = false
+
+-- a NOT inside a test
+abbrev pub negated_if : Bool → Condition → Condition
+negated_if true test = is.Not test
+negated_if false test = test
+
+-- a value that is a path, where it is written as one
+abbrev pub bare_path : Bool → Value → Option Path
+bare_path true (v.Path p) = Some p
+bare_path true _ = None
+bare_path false _ = None
+
+-- [ESCAPE text]
+unfoldable pub escape_at : Read (Option Text)
+escape_at [] = Some (None, [])
+escape_at (x ∷ ts) = if is_word k.Escape (x ∷ ts) then quoted ts else Some (None, x ∷ ts)
+  where
+    quoted : Read (Option Text)
+    quoted (t.Quoted w ∷ rest) = Some (Some w, rest)
+    quoted _ = None
+
+-- `a` is the value that the test begins with
+module _ (a : Value) where
+  -- after IS, where the value is written as a path or not
+  unfoldable pub is_at : Bool → Read Condition
+  is_at bare ts =
+      let no = optional_word k.Not ts in
+      if is_word k.Null no.1 then Some (negated_if no.0 (is.IsNull a), drop 1 no.1)
+      else after_word k.Empty no.1 >>= λ rest. bare_path bare a >>= λ p. Some (negated_if no.0 (is.IsEmpty p), rest)
+
+  -- [OF] path, after MEMBER (chapter 4.6.13)
+  unfoldable pub member_at : Read Condition
+  member_at ts = path_at (optional_word k.Of ts).1 >>= λ p. Some (is.Member a p.0, p.1)
+
+-- `n` is how deep values may nest, and `a` the value that the test begins with
+module _ (n : ℕ) (a : Value) where
+  -- op value (chapter 4.6.7)
+  unfoldable pub compared_at : Read Condition
+  compared_at ts = comparison_at ts >>= λ op. value_at n op.1 >>= λ b. Some (is.Compare op.0 a b.0, b.1)
+
+  -- value AND value, after BETWEEN (chapter 4.6.8)
+  unfoldable pub between_at : Read Condition
+  between_at ts = value_at n ts >>= λ b. after_word k.And b.1 >>= λ more. value_at n more
+      >>= λ d. Some (is.Between a b.0 d.0, d.1)
+
+  -- "(" [value {"," value}] ")", after IN (chapter 4.6.9)
+  unfoldable pub among_at : Read Condition
+  among_at ts = after m.Open ts >>= λ more.
+      if sees m.Close more then Some (is.In a [], drop 1 more)
+      else (closed (list_at (value_at n) more) >>= λ all. Some (is.In a all.0, all.1))
+
+  -- value [ESCAPE text], after LIKE (chapter 4.6.10)
+  unfoldable pub like_at : Read Condition
+  like_at ts = value_at n ts >>= λ b. escape_at b.1 >>= λ e. Some (is.Like a b.0 e.0, e.1)
+
+  -- a test that begins with BETWEEN, IN, LIKE or MEMBER
+  unfoldable pub worded_at : Read Condition
+  worded_at ts =
+      if is_word k.Between ts then between_at (drop 1 ts)
+      else if is_word k.In ts then among_at (drop 1 ts)
+      else if is_word k.Like ts then like_at (drop 1 ts)
+      else if is_word k.Member ts then member_at a (drop 1 ts)
+      else None
+
+  -- what follows the value
+  unfoldable pub tested_at : Bool → Read Condition
+  tested_at bare ts =
+      if sees_comparison ts then compared_at ts
+      else if is_word k.Is ts then is_at a bare (drop 1 ts)
+      else (let no = optional_word k.Not ts in worded_at no.1 >>= λ x. Some (negated_if no.0 x.0, x.1))
+
+-- a value, and the test of it
+unfoldable pub valued_at : ℕ → Read Condition
+valued_at n ts = value_at n ts >>= λ a. tested_at n a.0 (begins_variable ts) a.1
+
+-- ---- TYPE, after the word
+
+-- [NOT] IN "(" Entity {"," Entity} ")" (chapter 4.7.5)
+unfoldable pub entities_at : Text → Read Condition
+entities_at x ts =
+    let no = optional_word k.Not ts in
+    after_word k.In no.1 >>= λ a. after m.Open a >>= λ b. closed (list_at name_at b)
+    >>= λ all. Some (negated_if no.0 (is.Type x all.0), all.1)
+
+-- an entity, after "=" or "<>" (chapter 4.7.5)
+unfoldable pub type_is_at : Bool → Text → Read Condition
+type_is_at negated x ts = name_at ts >>= λ e. Some (negated_if negated (is.Type x (e.0 ∷ [])), e.1)
+
+-- what follows TYPE "(" var ")": a comparison with an entity, or a list
+unfoldable pub entity_at : Text → Read Condition
+entity_at x ts =
+    if sees m.Equal ts then type_is_at false x (drop 1 ts)
+    else if sees m.Different ts then type_is_at true x (drop 1 ts)
+    else entities_at x ts
+
+-- "(" var ")" and what follows, after TYPE (chapter 4.7.5)
+unfoldable pub typed_at : Read Condition
+typed_at ts = after m.Open ts >>= λ a. variable_at a >>= λ x. after m.Close x.1 >>= λ b. entity_at x.0 b
+
+-- a test without a condition inside
+unfoldable pub simple_at : ℕ → Read Condition
+simple_at n ts = if is_word k.Type ts then typed_at (drop 1 ts) else valued_at n ts
+
+-- ---- items, names
+
+-- [AS] name
+unfoldable pub named_at : Read Text
+named_at ts = variable_at (optional_word k.As ts).1
+
+-- [[AS] name]
+unfoldable pub optional_name_at : Read (Option Text)
+optional_name_at ts =
+    if is_word k.As ts || begins_variable ts then (named_at ts >>= λ w. Some (Some w.0, w.1)) else Some (None, ts)
+
+-- value [[AS] name] (chapter 4.9)
+unfoldable pub item_at : ℕ → Read Item
+item_at n ts = value_at n ts >>= λ a. optional_name_at a.1 >>= λ w. Some (record { value = a.0; name = w.0 }, w.1)
+
+-- a variable and a dot
+abbrev pub begins_related : List Token → Bool
+begins_related ts = begins_variable ts && sees m.Dot (drop 1 ts)
+
+-- var "." name
+unfoldable pub related_at : Read (Text × Text)
+related_at ts = variable_at ts >>= λ x. after m.Dot x.1 >>= λ more. name_at more >>= λ r. Some ((x.0, r.0), r.1)
+
+-- what a variable of FROM ranges over; in a nested SELECT also a relation
+unfoldable pub origin_at : Bool → Read Origin
+origin_at nested ts =
+    if nested && begins_related ts then (related_at ts >>= λ r. Some (from.Related r.0.0 r.0.1, r.1))
+    else name_at ts >>= λ e. Some (from.Entity e.0, e.1)
+
+-- whether a join comes next
+abbrev pub begins_join : List Token → Bool
+begins_join ts = is_word k.Join ts || is_word k.Inner ts || is_word k.Left ts
+
+-- [INNER | LEFT [OUTER]] JOIN
+unfoldable pub side_at : Read Bool
+side_at ts =
+    if is_word k.Left ts then (after_word k.Join (optional_word k.Outer (drop 1 ts)).1 >>= λ rest. Some (true, rest))
+    else after_word k.Join (optional_word k.Inner ts).1 >>= λ rest. Some (false, rest)
+
+-- ---- conditions
+
+-- `inner` reads a condition inside parentheses, or after a word
+module _ (inner : Read Condition) where
+  -- [WHERE cond], [ON cond], [HAVING cond]
+  unfoldable pub clause_at : Keyword → Read (Option Condition)
+  clause_at word ts = if is_word word ts then (inner (drop 1 ts) >>= λ a. Some (Some a.0, a.1)) else Some (None, ts)
+
+  -- [INNER | LEFT [OUTER]] JOIN var "." name [AS] var [ON cond] (chapter 4.4.5)
+  unfoldable pub join_at : Read Join
+  join_at ts = side_at ts >>= λ left. related_at left.1 >>= λ r. named_at r.1 >>= λ w. clause_at k.On w.1 >>= λ on.
+      Some (roll-Join (record { is_left = left.0; of = r.0.0; relation = r.0.1; variable = w.0; on = on.0 }), on.1)
+
+  -- {join}, at most so many, after those that were found
+  unfoldable pub joins_at : ℕ → List Join → Read (List Join)
+  joins_at zero found ts = Some (found, ts)
+  joins_at (suc j) found ts =
+      if begins_join ts then (join_at ts >>= λ a. joins_at j (found ++ a.0 ∷ []) a.1) else Some (found, ts)
+
+  -- a range and its joins (chapter 4.4.3)
+  unfoldable pub source_at : Bool → Read Source
+  source_at nested ts = origin_at nested ts >>= λ o. named_at o.1 >>= λ w. joins_at (length w.1) [] w.1 >>= λ js.
+      Some (roll-Source (record { origin = o.0; variable = w.0; joins = js.0 }), js.1)
+
+-- `n` is how deep values may nest
+module _ (n : ℕ) (inner : Read Condition) where
+  -- after SELECT
+  unfoldable pub block_at : Read Block
+  block_at ts =
+      let d = optional_word k.Distinct ts in
+      item_at n d.1 >>= λ i. after_word k.From i.1 >>= λ more. list_at (source_at inner true) more
+      >>= λ xs. clause_at inner k.Where xs.1 >>= λ f.
+      Some (roll-Block (record { is_distinct = d.0; item = i.0; sources = xs.0; filter = f.0 }), f.1)
+
+  -- after EXISTS
+  unfoldable pub exists_at : Read Condition
+  exists_at ts = after m.Open ts >>= λ a. after_word k.Select a >>= λ b. closed (block_at b)
+      >>= λ x. Some (is.Exists x.0, x.1)
+
+  -- "(" cond ")", EXISTS, or a test without a condition inside
+  unfoldable pub test_at : Read Condition
+  test_at ts =
+      if opens_condition ts then closed (inner (drop 1 ts))
+      else if is_word k.Exists ts then exists_at (drop 1 ts)
+      else simple_at n ts
+
+  -- [NOT] test (chapter 4.6.5)
+  unfoldable pub not_at : Read Condition
+  not_at ts = if is_word k.Not ts then (test_at (drop 1 ts) >>= λ a. Some (is.Not a.0, a.1)) else test_at ts
+
+  -- {AND not}, at most so many, after what stands before
+  unfoldable pub ands_at : ℕ → Condition → Read Condition
+  ands_at zero before ts = Some (before, ts)
+  ands_at (suc j) before ts =
+      if is_word k.And ts then (not_at (drop 1 ts) >>= λ a. ands_at j (is.And before a.0) a.1) else Some (before, ts)
+
+  -- not {AND not} (chapter 4.6.5)
+  unfoldable pub and_at : Read Condition
+  and_at ts = not_at ts >>= λ a. ands_at (length a.1) a.0 a.1
+
+  -- {OR and}, at most so many, after what stands before
+  unfoldable pub ors_at : ℕ → Condition → Read Condition
+  ors_at zero before ts = Some (before, ts)
+  ors_at (suc j) before ts =
+      if is_word k.Or ts then (and_at (drop 1 ts) >>= λ a. ors_at j (is.Or before a.0) a.1) else Some (before, ts)
+
+  -- and {OR and} (chapter 4.6.5)
+  unfoldable pub cond_level_at : Read Condition
+  cond_level_at ts = and_at ts >>= λ a. ors_at (length a.1) a.0 a.1
+
+-- with conditions nested below this
+unfoldable pub cond_at : ℕ → Read Condition
+cond_at zero ts = None
+cond_at (suc n) ts = cond_level_at n (cond_at n) ts

@@ -1,0 +1,736 @@
+-- The grammar. A derivation says which case of which line was taken. Its `write` is the tokens that
+-- it stands for, in front of those that follow. Its `tree` is the statement. Parentheses leave no
+-- node.
+use Rattle.std.specs.Prelude.{◌≡◌, ℕ, Bool, true, false, List, [], ◌∷◌, map, ℤ, Option, Some, None}
+use Rattle.jpql_grammar.specs.declared.token.Keyword.{Keyword}
+use Rattle.jpql_grammar.specs.declared.token.Keyword.TheVariants as k
+use Rattle.jpql_grammar.specs.declared.token.Mark.{Mark}
+use Rattle.jpql_grammar.specs.declared.token.Mark.TheVariants as m
+use Rattle.jpql_grammar.specs.declared.token.Token.{Token}
+use Rattle.jpql_grammar.specs.declared.token.Token.TheVariants as t
+use Rattle.jpql_tree.specs.declared.Function.TheVariants as f
+use Rattle.jpql_tree.specs.declared.Aggregate.{Aggregate}
+use Rattle.jpql_tree.specs.declared.Sign.TheVariants as s
+use Rattle.jpql_tree.specs.declared.Arithmetic.TheVariants as o
+use Rattle.jpql_tree.specs.declared.Comparison.{Comparison}
+use Rattle.jpql_tree.specs.declared.Comparison.TheVariants as c
+use Rattle.jpql_tree.specs.declared.Path.{Path}
+use Rattle.jpql_tree.specs.declared.Value.{Value}
+use Rattle.jpql_tree.specs.declared.Value.TheVariants as v
+use Rattle.jpql_tree.specs.declared.Item.{Item}
+use Rattle.jpql_tree.specs.declared.Origin.{Origin}
+use Rattle.jpql_tree.specs.declared.Origin.TheVariants as from
+use Rattle.jpql_tree.specs.declared.Condition.{Condition}
+use Rattle.jpql_tree.specs.declared.Condition.TheVariants as is
+use Rattle.jpql_tree.specs.declared.Block.{Block, roll-Block}
+use Rattle.jpql_tree.specs.declared.Source.{Source, roll-Source}
+use Rattle.jpql_tree.specs.declared.Join.{Join, roll-Join}
+use Rattle.jpql_tree.specs.declared.SortKey.{SortKey}
+use Rattle.jpql_tree.specs.declared.Sorted.TheVariants as by
+use Rattle.jpql_tree.specs.declared.Assignment.{Assignment}
+use Rattle.jpql_tree.specs.declared.Query.{Query}
+use Rattle.jpql_tree.specs.declared.Query.TheVariants as q
+use Rattle.jpql_tree.specs.Names.{Text}
+use Rattle.jpql_grammar.specs.Parts.{Name, word, name_token, name_text, Steps, write_names}
+use Rattle.jpql_grammar.specs.Parts.{write_path, path_tree, aggregate_word, Trimming°}
+use Rattle.jpql_grammar.specs.Parts.{write_trimming, trimming_tree, trimmed_value}
+
+-- Each keyword comes with how it is written.
+mutual
+  -- value = product {("+" | "-") product}
+  pub data Value° : Type 0 where
+    sum : Product° → Sums° → Value°
+
+  -- {("+" | "-") product}
+  pub data Sums° : Type 0 where
+    no_sums : Sums°
+    plus : Product° → Sums° → Sums°
+    minus : Product° → Sums° → Sums°
+
+  -- product = unary {"*" unary}
+  pub data Product° : Type 0 where
+    product : Unary° → Times° → Product°
+
+  -- {"*" unary}
+  pub data Times° : Type 0 where
+    no_times : Times°
+    times : Unary° → Times° → Times°
+
+  -- unary = ["+" | "-"] atom
+  pub data Unary° : Type 0 where
+    unsigned : Atom° → Unary°
+    positive : Atom° → Unary°
+    negative : Atom° → Unary°
+
+  -- atom = integer | text | parameter | path | call | "(" value ")"
+  pub data Atom° : Type 0 where
+    integer : ℤ → Atom°
+    text : Text → Atom°
+    parameter : Text → Atom°
+    path : Steps → Atom°
+    call : Call° → Atom°
+    group : Value° → Atom°
+
+  -- a call of a function or an aggregate (chapters 4.7.2, 4.7.4 and 4.9.5)
+  pub data Call° : Type 0 where
+    -- LENGTH(v)
+    length_of : Text → Value° → Call°
+    -- CONCAT(v, v {, v})
+    concat : Text → Value° → Value° → More° → Call°
+    -- SUBSTRING(v, v [, v])
+    substring_from : Text → Value° → Value° → Call°
+    substring : Text → Value° → Value° → Value° → Call°
+    -- LOCATE(v, v [, v])
+    locate : Text → Value° → Value° → Call°
+    locate_from : Text → Value° → Value° → Value° → Call°
+    -- ABS(v)
+    abs : Text → Value° → Call°
+    -- MOD(v, v)
+    modulo : Text → Value° → Value° → Call°
+    -- SIZE(path)
+    size : Text → Steps → Call°
+    -- COALESCE(v, v {, v})
+    coalesce : Text → Value° → Value° → More° → Call°
+    -- NULLIF(v, v)
+    null_if : Text → Value° → Value° → Call°
+    -- UPPER(v)
+    upper : Text → Value° → Call°
+    -- LOWER(v)
+    lower : Text → Value° → Call°
+    -- TRIM(v), TRIM((LEADING | TRAILING | BOTH) [t] FROM v), TRIM(t FROM v)
+    trim : Text → Trimming° → Value° → Call°
+    -- COUNT([DISTINCT] v) and so on
+    aggregate : Aggregate → Text → Value° → Call°
+    aggregate_distinct : Aggregate → Text → Text → Value° → Call°
+
+  -- {, v}
+  pub data More° : Type 0 where
+    no_more : More°
+    more : Value° → More° → More°
+
+abbrev mutual
+  -- the tokens of a value
+  pub write_value : Value° → List Token → List Token
+  write_value (sum p ps) rest = write_product p (write_sums ps rest)
+
+  -- the tokens of what is added and subtracted
+  pub write_sums : Sums° → List Token → List Token
+  write_sums no_sums rest = rest
+  write_sums (plus p ps) rest = t.Mark m.Plus ∷ write_product p (write_sums ps rest)
+  write_sums (minus p ps) rest = t.Mark m.Minus ∷ write_product p (write_sums ps rest)
+
+  -- the tokens of a product
+  pub write_product : Product° → List Token → List Token
+  write_product (product u us) rest = write_unary u (write_times us rest)
+
+  -- the tokens of the factors behind the first
+  pub write_times : Times° → List Token → List Token
+  write_times no_times rest = rest
+  write_times (times u us) rest = t.Mark m.Star ∷ write_unary u (write_times us rest)
+
+  -- the tokens of an atom with its sign
+  pub write_unary : Unary° → List Token → List Token
+  write_unary (unsigned a) rest = write_atom a rest
+  write_unary (positive a) rest = t.Mark m.Plus ∷ write_atom a rest
+  write_unary (negative a) rest = t.Mark m.Minus ∷ write_atom a rest
+
+  -- the tokens of an atom
+  pub write_atom : Atom° → List Token → List Token
+  write_atom (integer n) rest = t.Number n ∷ rest
+  write_atom (text w) rest = t.Quoted w ∷ rest
+  write_atom (parameter w) rest = t.Parameter w ∷ rest
+  write_atom (path p) rest = write_path p rest
+  write_atom (call c) rest = write_call c rest
+  write_atom (group a) rest = t.Mark m.Open ∷ write_value a (t.Mark m.Close ∷ rest)
+
+  -- the tokens of a call
+  pub write_call : Call° → List Token → List Token
+  write_call (length_of w a) rest = t.Key k.Length w ∷ t.Mark m.Open ∷ write_value a (t.Mark m.Close ∷ rest)
+  write_call (concat w a b all) rest =
+      t.Key k.Concat w ∷ t.Mark m.Open
+      ∷ write_value a (t.Mark m.Comma ∷ write_value b (write_more all (t.Mark m.Close ∷ rest)))
+  write_call (substring_from w a b) rest =
+      t.Key k.Substring w ∷ t.Mark m.Open ∷ write_value a (t.Mark m.Comma ∷ write_value b (t.Mark m.Close ∷ rest))
+  write_call (substring w a b d) rest =
+      t.Key k.Substring w ∷ t.Mark m.Open
+      ∷ write_value a (t.Mark m.Comma ∷ write_value b (t.Mark m.Comma ∷ write_value d (t.Mark m.Close ∷ rest)))
+  write_call (locate w a b) rest =
+      t.Key k.Locate w ∷ t.Mark m.Open ∷ write_value a (t.Mark m.Comma ∷ write_value b (t.Mark m.Close ∷ rest))
+  write_call (locate_from w a b d) rest =
+      t.Key k.Locate w ∷ t.Mark m.Open
+      ∷ write_value a (t.Mark m.Comma ∷ write_value b (t.Mark m.Comma ∷ write_value d (t.Mark m.Close ∷ rest)))
+  write_call (abs w a) rest = t.Key k.Abs w ∷ t.Mark m.Open ∷ write_value a (t.Mark m.Close ∷ rest)
+  write_call (modulo w a b) rest =
+      t.Key k.Mod w ∷ t.Mark m.Open ∷ write_value a (t.Mark m.Comma ∷ write_value b (t.Mark m.Close ∷ rest))
+  write_call (size w p) rest = t.Key k.Size w ∷ t.Mark m.Open ∷ write_path p (t.Mark m.Close ∷ rest)
+  write_call (coalesce w a b all) rest =
+      t.Key k.Coalesce w ∷ t.Mark m.Open
+      ∷ write_value a (t.Mark m.Comma ∷ write_value b (write_more all (t.Mark m.Close ∷ rest)))
+  write_call (null_if w a b) rest =
+      t.Key k.NullIf w ∷ t.Mark m.Open ∷ write_value a (t.Mark m.Comma ∷ write_value b (t.Mark m.Close ∷ rest))
+  write_call (upper w a) rest = t.Key k.Upper w ∷ t.Mark m.Open ∷ write_value a (t.Mark m.Close ∷ rest)
+  write_call (lower w a) rest = t.Key k.Lower w ∷ t.Mark m.Open ∷ write_value a (t.Mark m.Close ∷ rest)
+  write_call (trim w x a) rest =
+      t.Key k.Trim w ∷ t.Mark m.Open ∷ write_trimming x (write_value a (t.Mark m.Close ∷ rest))
+  write_call (aggregate f w a) rest = t.Key (aggregate_word f) w ∷ t.Mark m.Open ∷ write_value a (t.Mark m.Close ∷ rest)
+  write_call (aggregate_distinct f w d a) rest =
+      t.Key (aggregate_word f) w ∷ t.Mark m.Open ∷ t.Key k.Distinct d ∷ write_value a (t.Mark m.Close ∷ rest)
+
+  -- the tokens of the arguments that are left
+  pub write_more : More° → List Token → List Token
+  write_more no_more rest = rest
+  write_more (more a all) rest = t.Mark m.Comma ∷ write_value a (write_more all rest)
+
+abbrev mutual
+  -- the tree of a value; sums go from the left
+  pub value_tree : Value° → Value
+  value_tree (sum p ps) = sums_tree (product_tree p) ps
+
+  -- what stands before, and the sums after it, from the left
+  pub sums_tree : Value → Sums° → Value
+  sums_tree left no_sums = left
+  sums_tree left (plus p ps) = sums_tree (v.Arithmetic o.Plus left (product_tree p)) ps
+  sums_tree left (minus p ps) = sums_tree (v.Arithmetic o.Minus left (product_tree p)) ps
+
+  -- the tree of a product; factors go from the left
+  pub product_tree : Product° → Value
+  product_tree (product u us) = times_tree (unary_tree u) us
+
+  -- what stands before, and the factors after it, from the left
+  pub times_tree : Value → Times° → Value
+  times_tree left no_times = left
+  times_tree left (times u us) = times_tree (v.Arithmetic o.Times left (unary_tree u)) us
+
+  -- the tree of an atom with its sign
+  pub unary_tree : Unary° → Value
+  unary_tree (unsigned a) = atom_tree a
+  unary_tree (positive a) = v.Signed s.Plus (atom_tree a)
+  unary_tree (negative a) = v.Signed s.Minus (atom_tree a)
+
+  -- the tree of an atom; parentheses leave no node
+  pub atom_tree : Atom° → Value
+  atom_tree (integer n) = v.Integer n
+  atom_tree (text w) = v.Text w
+  atom_tree (parameter w) = v.Parameter w
+  atom_tree (path p) = v.Path (path_tree p)
+  atom_tree (call c) = call_tree c
+  atom_tree (group a) = value_tree a
+
+  -- the tree of a call
+  pub call_tree : Call° → Value
+  call_tree (length_of w a) = v.Call f.Length (value_tree a ∷ [])
+  call_tree (concat w a b all) = v.Call f.Concat (value_tree a ∷ value_tree b ∷ more_trees all)
+  call_tree (substring_from w a b) = v.Call f.Substring (value_tree a ∷ value_tree b ∷ [])
+  call_tree (substring w a b d) = v.Call f.Substring (value_tree a ∷ value_tree b ∷ value_tree d ∷ [])
+  call_tree (locate w a b) = v.Call f.Locate (value_tree a ∷ value_tree b ∷ [])
+  call_tree (locate_from w a b d) = v.Call f.Locate (value_tree a ∷ value_tree b ∷ value_tree d ∷ [])
+  call_tree (abs w a) = v.Call f.Abs (value_tree a ∷ [])
+  call_tree (modulo w a b) = v.Call f.Mod (value_tree a ∷ value_tree b ∷ [])
+  call_tree (size w p) = v.Size (path_tree p)
+  call_tree (coalesce w a b all) = v.Call f.Coalesce (value_tree a ∷ value_tree b ∷ more_trees all)
+  call_tree (null_if w a b) = v.Call f.NullIf (value_tree a ∷ value_tree b ∷ [])
+  call_tree (upper w a) = v.Call f.Upper (value_tree a ∷ [])
+  call_tree (lower w a) = v.Call f.Lower (value_tree a ∷ [])
+  call_tree (trim w x a) = trimmed_value (trimming_tree x) (value_tree a)
+  call_tree (aggregate h w a) = v.Aggregate h false (value_tree a)
+  call_tree (aggregate_distinct h w d a) = v.Aggregate h true (value_tree a)
+
+  -- the trees of the arguments that are left
+  pub more_trees : More° → List Value
+  more_trees no_more = []
+  more_trees (more a all) = value_tree a ∷ more_trees all
+
+-- ---- words that may be left out, and lists
+
+-- a word that may be left out, with how it is written where it isn't
+abbrev pub Written : Type 0
+Written = Option Text
+
+-- a word that may be left out
+abbrev pub write_word : Keyword → Written → List Token → List Token
+write_word k None rest = rest
+write_word k (Some w) rest = t.Key k w ∷ rest
+
+-- whether the word is written
+abbrev pub is_written : Written → Bool
+is_written None = false
+is_written (Some w) = true
+
+-- [AS] name
+pub record Named : Type 0 where
+  pub as_word : Written
+  pub name : Text
+
+-- [AS] name
+abbrev pub write_named : Named → List Token → List Token
+write_named n rest = write_word k.As n.as_word (t.Word n.name ∷ rest)
+
+-- item = value [[AS] name]
+pub record Item° : Type 0 where
+  pub value : Value°
+  pub name : Option Named
+
+-- [[AS] name]
+abbrev pub write_optional_name : Option Named → List Token → List Token
+write_optional_name None rest = rest
+write_optional_name (Some n) rest = write_named n rest
+
+-- the name, where one is written
+abbrev pub optional_name : Option Named → Option Text
+optional_name None = None
+optional_name (Some n) = Some n.name
+
+-- value [[AS] name]
+abbrev pub write_item : Item° → List Token → List Token
+write_item i rest = write_value i.value (write_optional_name i.name rest)
+
+-- an item: its value, and its name if it has one
+abbrev pub item_tree : Item° → Item
+item_tree i = record { value = value_tree i.value; name = optional_name i.name }
+
+-- {"," more}
+abbrev pub write_others : {A : Type 0} → (A → List Token → List Token) → List A → List Token → List Token
+write_others write [] rest = rest
+write_others write (a ∷ others) rest = t.Mark m.Comma ∷ write a (write_others write others rest)
+
+-- op = "=" | "<>" | "<" | "<=" | ">" | ">="
+abbrev pub comparison_mark : Comparison → Mark
+comparison_mark c.Equal = m.Equal
+comparison_mark c.Different = m.Different
+comparison_mark c.Less = m.Less
+comparison_mark c.AtMost = m.AtMost
+comparison_mark c.Greater = m.Greater
+comparison_mark c.AtLeast = m.AtLeast
+
+-- a NOT inside a test is a NOT of it
+abbrev pub negated : Written → Condition → Condition
+negated None test = test
+negated (Some w) test = is.Not test
+
+-- ESCAPE text, with how the word is written
+abbrev pub write_escape : Option (Text × Text) → List Token → List Token
+write_escape None rest = rest
+write_escape (Some e) rest = t.Key k.Escape e.0 ∷ t.Quoted e.1 ∷ rest
+
+-- the text behind ESCAPE, where it is written
+abbrev pub escape_text : Option (Text × Text) → Option Text
+escape_text None = None
+escape_text (Some e) = Some e.1
+
+-- INNER, LEFT [OUTER], or nothing
+pub data Side : Type 0 where
+  inner : Written → Side
+  left : Text → Written → Side
+
+-- the tokens of a join's side
+abbrev pub write_side : Side → List Token → List Token
+write_side (inner w) rest = write_word k.Inner w rest
+write_side (left w outer) rest = t.Key k.Left w ∷ write_word k.Outer outer rest
+
+-- whether a join is LEFT
+abbrev pub is_left : Side → Bool
+is_left (inner w) = false
+is_left (left w outer) = true
+
+-- range = Entity [AS] var, and in a nested SELECT also var "." name [AS] var
+pub data Range : Type 0 where
+  entity : Name → Named → Range
+  related : Text → Name → Named → Range
+
+-- the tokens of a range
+abbrev pub write_range : Range → List Token → List Token
+write_range (entity e n) rest = name_token e ∷ write_named n rest
+write_range (related w r n) rest = t.Word w ∷ t.Mark m.Dot ∷ name_token r ∷ write_named n rest
+
+-- what a range ranges over: an entity, or a relation of a variable
+abbrev pub range_origin : Range → Origin
+range_origin (entity e n) = from.Entity (name_text e)
+range_origin (related w r n) = from.Related w (name_text r)
+
+-- the variable that a range declares
+abbrev pub range_variable : Range → Text
+range_variable (entity e n) = n.name
+range_variable (related w r n) = n.name
+
+mutual
+  -- cond = and {OR and}
+  pub data Cond° : Type 0 where
+    cond : And° → Ors° → Cond°
+
+  -- {OR and}
+  pub data Ors° : Type 0 where
+    no_ors : Ors°
+    or : Text → And° → Ors° → Ors°
+
+  -- and = not {AND not}
+  pub data And° : Type 0 where
+    conj : Not° → Ands° → And°
+
+  -- {AND not}
+  pub data Ands° : Type 0 where
+    no_ands : Ands°
+    and : Text → Not° → Ands° → Ands°
+
+  -- not = [NOT] test
+  pub data Not° : Type 0 where
+    maybe_not : Written → Test° → Not°
+
+  -- a test: one of these lines, or a condition in parentheses (chapter 4.6)
+  pub data Test° : Type 0 where
+    -- "(" cond ")"
+    inside : Cond° → Test°
+    -- value op value
+    compare : Comparison → Value° → Value° → Test°
+    -- value [NOT] BETWEEN value AND value
+    between : Value° → Written → Text → Value° → Text → Value° → Test°
+    -- value [NOT] IN "(" value {"," value} ")"
+    among : Value° → Written → Text → Value° → More° → Test°
+    -- value [NOT] IN "(" ")", which no text writes: a list without a value stands for it
+    among_none : Value° → Written → Text → Test°
+    -- value [NOT] LIKE value [ESCAPE text]
+    like : Value° → Written → Text → Value° → Option (Text × Text) → Test°
+    -- value IS [NOT] NULL
+    null : Value° → Text → Written → Text → Test°
+    -- path IS [NOT] EMPTY
+    empty : Steps → Text → Written → Text → Test°
+    -- value [NOT] MEMBER [OF] path
+    member : Value° → Written → Text → Written → Steps → Test°
+    -- EXISTS "(" sub ")"
+    exists : Text → Sub° → Test°
+    -- TYPE "(" var ")" ("=" | "<>") Entity
+    type_is : Text → Text → Name → Test°
+    type_is_not : Text → Text → Name → Test°
+    -- TYPE "(" var ")" [NOT] IN "(" Entity {"," Entity} ")"
+    type_among : Text → Text → Written → Text → Name → List Name → Test°
+
+  -- sub = SELECT [DISTINCT] item FROM subrange {join} {"," subrange {join}} [WHERE cond]
+  pub data Sub° : Type 0 where
+    sub : Text → Written → Item° → Text → Source° → Sources° → Where° → Sub°
+
+  -- range {join}
+  pub data Source° : Type 0 where
+    source : Range → Joins° → Source°
+
+  -- {"," range {join}}
+  pub data Sources° : Type 0 where
+    no_sources : Sources°
+    sources : Source° → Sources° → Sources°
+
+  -- {join}
+  pub data Joins° : Type 0 where
+    no_joins : Joins°
+    joins : Join° → Joins° → Joins°
+
+  -- join = [INNER | LEFT [OUTER]] JOIN var "." name [AS] var [ON cond]
+  pub data Join° : Type 0 where
+    join : Side → Text → Text → Name → Named → On° → Join°
+
+  -- [ON cond]
+  pub data On° : Type 0 where
+    no_on : On°
+    on : Text → Cond° → On°
+
+  -- [WHERE cond]
+  pub data Where° : Type 0 where
+    no_where : Where°
+    filter : Text → Cond° → Where°
+
+abbrev mutual
+  -- the tokens of a condition
+  pub write_cond : Cond° → List Token → List Token
+  write_cond (cond a os) rest = write_and a (write_ors os rest)
+
+  -- the tokens of what is joined by OR
+  pub write_ors : Ors° → List Token → List Token
+  write_ors no_ors rest = rest
+  write_ors (or w a os) rest = t.Key k.Or w ∷ write_and a (write_ors os rest)
+
+  -- the tokens of a conjunction
+  pub write_and : And° → List Token → List Token
+  write_and (conj n ns) rest = write_not n (write_ands ns rest)
+
+  -- the tokens of what is joined by AND
+  pub write_ands : Ands° → List Token → List Token
+  write_ands no_ands rest = rest
+  write_ands (and w n ns) rest = t.Key k.And w ∷ write_not n (write_ands ns rest)
+
+  -- the tokens of a test with its NOT
+  pub write_not : Not° → List Token → List Token
+  write_not (maybe_not n x) rest = write_word k.Not n (write_test x rest)
+
+  -- the tokens of a test
+  pub write_test : Test° → List Token → List Token
+  write_test (inside x) rest = t.Mark m.Open ∷ write_cond x (t.Mark m.Close ∷ rest)
+  write_test (compare op a b) rest = write_value a (t.Mark (comparison_mark op) ∷ write_value b rest)
+  write_test (between a n w b u d) rest =
+      write_value a (write_word k.Not n (t.Key k.Between w ∷ write_value b (t.Key k.And u ∷ write_value d rest)))
+  write_test (among a n w b all) rest =
+      write_value a (write_word k.Not n
+      (t.Key k.In w ∷ t.Mark m.Open ∷ write_value b (write_more all (t.Mark m.Close ∷ rest))))
+  write_test (among_none a n w) rest =
+      write_value a (write_word k.Not n (t.Key k.In w ∷ t.Mark m.Open ∷ t.Mark m.Close ∷ rest))
+  write_test (like a n w b e) rest =
+      write_value a (write_word k.Not n (t.Key k.Like w ∷ write_value b (write_escape e rest)))
+  write_test (null a w n u) rest = write_value a (t.Key k.Is w ∷ write_word k.Not n (t.Key k.Null u ∷ rest))
+  write_test (empty p w n u) rest = write_path p (t.Key k.Is w ∷ write_word k.Not n (t.Key k.Empty u ∷ rest))
+  write_test (member a n w of p) rest =
+      write_value a (write_word k.Not n (t.Key k.Member w ∷ write_word k.Of of (write_path p rest)))
+  write_test (exists w b) rest = t.Key k.Exists w ∷ t.Mark m.Open ∷ write_sub b (t.Mark m.Close ∷ rest)
+  write_test (type_is w x e) rest =
+      t.Key k.Type w ∷ t.Mark m.Open ∷ t.Word x ∷ t.Mark m.Close ∷ t.Mark m.Equal ∷ name_token e ∷ rest
+  write_test (type_is_not w x e) rest =
+      t.Key k.Type w ∷ t.Mark m.Open ∷ t.Word x ∷ t.Mark m.Close ∷ t.Mark m.Different ∷ name_token e ∷ rest
+  write_test (type_among w x n u e es) rest = t.Key k.Type w ∷ t.Mark m.Open ∷ t.Word x ∷ t.Mark m.Close
+      ∷ write_word k.Not n (t.Key k.In u ∷ t.Mark m.Open ∷ name_token e ∷ write_others (λ e rest. name_token e ∷ rest)
+      es (t.Mark m.Close ∷ rest))
+
+  -- the tokens of a nested SELECT
+  pub write_sub : Sub° → List Token → List Token
+  write_sub (sub w d i u x xs f) rest =
+      t.Key k.Select w ∷ write_word k.Distinct d
+      (write_item i (t.Key k.From u ∷ write_source x (write_sources xs (write_where f rest))))
+
+  -- the tokens of a range and its joins
+  pub write_source : Source° → List Token → List Token
+  write_source (source r js) rest = write_range r (write_joins js rest)
+
+  -- the tokens of the ranges that are left
+  pub write_sources : Sources° → List Token → List Token
+  write_sources no_sources rest = rest
+  write_sources (sources x xs) rest = t.Mark m.Comma ∷ write_source x (write_sources xs rest)
+
+  -- the tokens of joins
+  pub write_joins : Joins° → List Token → List Token
+  write_joins no_joins rest = rest
+  write_joins (joins j js) rest = write_join j (write_joins js rest)
+
+  -- the tokens of a join
+  pub write_join : Join° → List Token → List Token
+  write_join (join l w x r n o) rest =
+      write_side l (t.Key k.Join w ∷ t.Word x ∷ t.Mark m.Dot ∷ name_token r ∷ write_named n (write_on o rest))
+
+  -- the tokens of ON
+  pub write_on : On° → List Token → List Token
+  write_on no_on rest = rest
+  write_on (on w x) rest = t.Key k.On w ∷ write_cond x rest
+
+  -- the tokens of WHERE
+  pub write_where : Where° → List Token → List Token
+  write_where no_where rest = rest
+  write_where (filter w x) rest = t.Key k.Where w ∷ write_cond x rest
+
+abbrev mutual
+  -- the tree of a condition; OR goes from the left
+  pub cond_tree : Cond° → Condition
+  cond_tree (cond a os) = ors_tree (and_tree a) os
+
+  -- what stands before, and what OR joins to it, from the left
+  pub ors_tree : Condition → Ors° → Condition
+  ors_tree before no_ors = before
+  ors_tree before (or w a os) = ors_tree (is.Or before (and_tree a)) os
+
+  -- the tree of a conjunction; AND goes from the left
+  pub and_tree : And° → Condition
+  and_tree (conj n ns) = ands_tree (not_tree n) ns
+
+  -- what stands before, and what AND joins to it, from the left
+  pub ands_tree : Condition → Ands° → Condition
+  ands_tree before no_ands = before
+  ands_tree before (and w n ns) = ands_tree (is.And before (not_tree n)) ns
+
+  -- the tree of a test with its NOT
+  pub not_tree : Not° → Condition
+  not_tree (maybe_not n x) = negated n (test_tree x)
+
+  -- the tree of a test
+  pub test_tree : Test° → Condition
+  test_tree (inside x) = cond_tree x
+  test_tree (compare op a b) = is.Compare op (value_tree a) (value_tree b)
+  test_tree (between a n w b u d) = negated n (is.Between (value_tree a) (value_tree b) (value_tree d))
+  test_tree (among a n w b all) = negated n (is.In (value_tree a) (value_tree b ∷ more_trees all))
+  test_tree (among_none a n w) = negated n (is.In (value_tree a) [])
+  test_tree (like a n w b e) = negated n (is.Like (value_tree a) (value_tree b) (escape_text e))
+  test_tree (null a w n u) = negated n (is.IsNull (value_tree a))
+  test_tree (empty p w n u) = negated n (is.IsEmpty (path_tree p))
+  test_tree (member a n w of p) = negated n (is.Member (value_tree a) (path_tree p))
+  test_tree (exists w b) = is.Exists (sub_tree b)
+  test_tree (type_is w x e) = is.Type x (name_text e ∷ [])
+  test_tree (type_is_not w x e) = is.Not (is.Type x (name_text e ∷ []))
+  test_tree (type_among w x n u e es) = negated n (is.Type x (name_text e ∷ map name_text es))
+
+  -- the tree of a nested SELECT
+  pub sub_tree : Sub° → Block
+  sub_tree (sub w d i u x xs f) =
+      roll-Block (record {
+        is_distinct = is_written d;
+        item = item_tree i;
+        sources = source_tree x ∷ sources_trees xs;
+        filter = where_tree f;
+      })
+
+  -- the tree of a range and its joins
+  pub source_tree : Source° → Source
+  source_tree (source r js) =
+      roll-Source (record { origin = range_origin r; variable = range_variable r; joins = joins_trees js })
+
+  -- the trees of the ranges that are left
+  pub sources_trees : Sources° → List Source
+  sources_trees no_sources = []
+  sources_trees (sources x xs) = source_tree x ∷ sources_trees xs
+
+  -- the trees of joins
+  pub joins_trees : Joins° → List Join
+  joins_trees no_joins = []
+  joins_trees (joins j js) = join_tree j ∷ joins_trees js
+
+  -- the tree of a join
+  pub join_tree : Join° → Join
+  join_tree (join l w x r n o) =
+      roll-Join (record { is_left = is_left l; of = x; relation = name_text r; variable = n.name; on = on_tree o })
+
+  -- the condition behind ON, where it is written
+  pub on_tree : On° → Option Condition
+  on_tree no_on = None
+  on_tree (on w x) = Some (cond_tree x)
+
+  -- the condition behind WHERE, where it is written
+  pub where_tree : Where° → Option Condition
+  where_tree no_where = None
+  where_tree (filter w x) = Some (cond_tree x)
+
+-- ---- statements
+
+-- key = (path | name) [ASC | DESC]
+pub data Direction : Type 0 where
+  unwritten : Direction
+  ascending : Text → Direction
+  descending : Text → Direction
+
+-- the tokens of a direction
+abbrev pub write_direction : Direction → List Token → List Token
+write_direction unwritten rest = rest
+write_direction (ascending w) rest = t.Key k.Asc w ∷ rest
+write_direction (descending w) rest = t.Key k.Desc w ∷ rest
+
+-- whether DESC is written
+abbrev pub is_descending : Direction → Bool
+is_descending unwritten = false
+is_descending (ascending w) = false
+is_descending (descending w) = true
+
+-- (path | name) [ASC | DESC] (chapter 4.10)
+pub data Key° : Type 0 where
+  -- a key of one name is a name
+  by_name : Text → Direction → Key°
+  by_path : Text → Name → List Name → Direction → Key°
+
+-- the tokens of a key
+abbrev pub write_key : Key° → List Token → List Token
+write_key (by_name w d) rest = t.Word w ∷ write_direction d rest
+write_key (by_path x n ns d) rest = t.Word x ∷ write_names (n ∷ ns) (write_direction d rest)
+
+-- a key: what it goes by, and whether it descends
+abbrev pub key_tree : Key° → SortKey
+key_tree (by_name w d) = record { by = by.Name w; is_descending = is_descending d }
+key_tree (by_path x n ns d) =
+    record { by = by.Path (record { variable = x; names = map name_text (n ∷ ns) }); is_descending = is_descending d }
+
+-- GROUP BY path {"," path}, ORDER BY key {"," key}, HAVING cond
+pub data Clause (A : Type 0) : Type 0 where
+  no_clause : Clause A
+  clause : Text → Text → A → List A → Clause A
+
+-- the tokens of a clause with BY, where it is written
+abbrev pub write_clause : {A : Type 0} → Keyword → (A → List Token → List Token) → Clause A → List Token → List Token
+write_clause kind write no_clause rest = rest
+write_clause kind write (clause w u a all) rest = t.Key kind w ∷ t.Key k.By u ∷ write a (write_others write all rest)
+
+-- the trees of a clause with BY; none where it isn't written
+abbrev pub clause_trees : {A B : Type 0} → (A → B) → Clause A → List B
+clause_trees tree no_clause = []
+clause_trees tree (clause w u a all) = tree a ∷ map tree all
+
+-- [HAVING cond] (chapter 4.8)
+pub data Having° : Type 0 where
+  no_having : Having°
+  having : Text → Cond° → Having°
+
+-- the tokens of HAVING
+abbrev pub write_having : Having° → List Token → List Token
+write_having no_having rest = rest
+write_having (having w x) rest = t.Key k.Having w ∷ write_cond x rest
+
+-- the condition behind HAVING, where it is written
+abbrev pub having_tree : Having° → Option Condition
+having_tree no_having = None
+having_tree (having w x) = Some (cond_tree x)
+
+-- what is set, and to what: a value, or NULL
+pub data Set° : Type 0 where
+  to_value : Text → Name → Value° → Set°
+  to_null : Text → Name → Text → Set°
+
+-- the tokens of an assignment
+abbrev pub write_set : Set° → List Token → List Token
+write_set (to_value x n a) rest = t.Word x ∷ t.Mark m.Dot ∷ name_token n ∷ t.Mark m.Equal ∷ write_value a rest
+write_set (to_null x n w) rest = t.Word x ∷ t.Mark m.Dot ∷ name_token n ∷ t.Mark m.Equal ∷ t.Key k.Null w ∷ rest
+
+-- an assignment: variable, name, and the value if it isn't NULL
+abbrev pub set_tree : Set° → Assignment
+set_tree (to_value x n a) = record { variable = x; name = name_text n; value = Some (value_tree a) }
+set_tree (to_null x n w) = record { variable = x; name = name_text n; value = None }
+
+-- FROM of a SELECT that isn't nested has ranges of entities alone
+pub data From° : Type 0 where
+  from_entity : Name → Named → Joins° → From°
+
+-- the tokens of a range of an entity and its joins
+abbrev pub write_from : From° → List Token → List Token
+write_from (from_entity e n js) rest = name_token e ∷ write_named n (write_joins js rest)
+
+-- the tree of a range of an entity and its joins
+abbrev pub from_tree : From° → Source
+from_tree (from_entity e n js) =
+    roll-Source (record { origin = from.Entity (name_text e); variable = n.name; joins = joins_trees js })
+
+-- a statement: SELECT, UPDATE or DELETE (chapter 4.2)
+pub data Statement° : Type 0 where
+  -- SELECT [DISTINCT] item {"," item} FROM from [WHERE cond] [GROUP BY ..] [HAVING cond] [ORDER BY
+  -- ..]
+  select : Text → Written → Item° → List Item° → Text → From° → List From° → Where° → Clause Steps → Having° →
+      Clause Key° → Statement°
+  -- UPDATE Entity [AS] var SET var "." name "=" (value | NULL) {..} [WHERE cond]
+  update : Text → Name → Named → Text → Set° → List Set° → Where° → Statement°
+  -- DELETE FROM Entity [[AS] var] [WHERE cond]
+  delete : Text → Text → Name → Option Named → Where° → Statement°
+
+-- the tokens of a statement
+abbrev pub write_statement : Statement° → List Token
+write_statement (select w d i is u x xs f gs h ks) =
+    t.Key k.Select w ∷ write_word k.Distinct d
+    (write_item i (write_others write_item is (t.Key k.From u ∷ write_from x (write_others write_from xs
+    (write_where f (write_clause k.Group write_path gs (write_having h (write_clause k.Order write_key ks []))))))))
+write_statement (update w e n u a all f) =
+    t.Key k.Update w ∷ name_token e
+    ∷ write_named n (t.Key k.Set u ∷ write_set a (write_others write_set all (write_where f [])))
+write_statement (delete w u e n f) =
+    t.Key k.Delete w ∷ t.Key k.From u ∷ name_token e ∷ write_optional_name n (write_where f [])
+
+-- the tree of a statement
+abbrev pub statement_tree : Statement° → Query
+statement_tree (select w d i is u x xs f gs h ks) =
+    q.Select (record {
+      is_distinct = is_written d;
+      items = item_tree i ∷ map item_tree is;
+      sources = from_tree x ∷ map from_tree xs;
+      filter = where_tree f;
+      groups = clause_trees path_tree gs;
+      having = having_tree h;
+      order = clause_trees key_tree ks;
+    })
+statement_tree (update w e n u a all f) = q.Update (name_text e) n.name (set_tree a ∷ map set_tree all) (where_tree f)
+statement_tree (delete w u e n f) = q.Delete (name_text e) (optional_name n) (where_tree f)
+
+-- The tokens are those of a statement of the grammar, and this is its tree.
+abbrev pub IsStatement : List Token → Query → Type 0
+IsStatement tokens query = (d : Statement°) × (write_statement d ≡ tokens) × (statement_tree d ≡ query)

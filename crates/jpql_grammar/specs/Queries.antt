@@ -1,0 +1,24 @@
+-- Which text is which query.
+use Rattle.std.specs.Prelude.{◌≡◌, List, [], ◌∷◌, Some, None}
+use Rattle.jpql_tree.specs.declared.Language.{Language}
+use Rattle.jpql_tree.specs.declared.Language.TheVariants as language
+use Rattle.jpql_grammar.specs.declared.lists.GivenList.{GivenList}
+use Rattle.jpql_grammar.specs.declared.token.Token.{Token}
+use Rattle.jpql_grammar.specs.declared.token.Token.TheVariants as t
+use Rattle.jpql_tree.specs.declared.Query.{Query}
+use Rattle.jpql_tree.specs.Names.{Text}
+use Rattle.jpql_grammar.specs.Grammar.{IsStatement}
+use Rattle.jpql_grammar.specs.Lists.{spread}
+use Rattle.jpql_grammar.specs.Text.{keyword_of, IsText}
+
+-- The text is one of the language's grammar, where collections are handed in for these parameters, and
+-- this is its tree.
+abbrev pub IsQuery : Language → List GivenList → Text → Query → Type 0
+IsQuery l lists text query =
+    (tokens stand : List Token) × IsText l text tokens × (spread lists tokens ≡ Some stand) × IsStatement stand query
+
+-- no name among these tokens is a word of the wider language's grammar
+abbrev pub KeepNames : List Token → Type 0
+KeepNames [] = Unit {0}
+KeepNames (t.Word w ∷ rest) = (keyword_of language.Wide w ≡ None) × KeepNames rest
+KeepNames (_ ∷ rest) = KeepNames rest

@@ -1,0 +1,225 @@
+-- How values are read from tokens, from the left: each function gives the tree and the tokens after
+-- it.
+use Rattle.std.specs.Prelude.{ℕ, zero, suc, Bool, true, false, nat_eq, nat_le, ◌&&◌, ◌||◌, List, [], ◌∷◌, ◌++◌, drop}
+use Rattle.std.specs.Prelude.{length, Option, Some, None, is_some, if◌then◌else◌}
+use Rattle.jpql_grammar.specs.declared.token.Keyword.{Keyword}
+use Rattle.jpql_grammar.specs.declared.token.Keyword.TheVariants as k
+use Rattle.jpql_grammar.specs.declared.token.Mark.{Mark}
+use Rattle.jpql_grammar.specs.declared.token.Mark.TheVariants as m
+use Rattle.jpql_grammar.specs.declared.token.Token.{Token}
+use Rattle.jpql_grammar.specs.declared.token.Token.TheVariants as t
+use Rattle.jpql_tree.specs.declared.Function.{Function}
+use Rattle.jpql_tree.specs.declared.Function.TheVariants as f
+use Rattle.jpql_tree.specs.declared.Trimmed.{Trimmed}
+use Rattle.jpql_tree.specs.declared.Trimmed.TheVariants as side
+use Rattle.jpql_tree.specs.declared.Aggregate.TheVariants as g
+use Rattle.jpql_tree.specs.declared.Sign.TheVariants as s
+use Rattle.jpql_tree.specs.declared.Arithmetic.TheVariants as o
+use Rattle.jpql_tree.specs.declared.Path.{Path}
+use Rattle.jpql_tree.specs.declared.Value.{Value}
+use Rattle.jpql_tree.specs.declared.Value.TheVariants as v
+use Rattle.jpql_tree.specs.Steps.{◌>>=◌}
+use Rattle.jpql_tree.specs.Calls.{takes}
+use Rattle.jpql_grammar.specs.Same.{same_mark, same_keyword}
+use Rattle.jpql_tree.specs.Names.{Text}
+use Rattle.jpql_grammar.specs.Parts.{trimmed_value}
+use Rattle.jpql_grammar.specs.declared.token.Callee.{Callee}
+use Rattle.jpql_grammar.specs.declared.token.Callee.TheVariants as calls
+
+-- what reads an A off the front of tokens: it and the tokens after it, or nothing
+abbrev pub Read : Type 0 → Type 0
+Read A = List Token → Option (A × List Token)
+
+-- ---- marks and words
+
+-- whether a token is this mark
+abbrev pub is_mark : Mark → Token → Bool
+is_mark m (t.Mark n) = same_mark m n
+is_mark m _ = false
+
+-- whether this mark comes next
+abbrev pub sees : Mark → List Token → Bool
+sees m [] = false
+sees m (x ∷ rest) = is_mark m x
+
+-- what comes after this mark
+abbrev pub after : Mark → List Token → Option (List Token)
+after m ts = if sees m ts then Some (drop 1 ts) else None
+
+-- whether a token is this word of the grammar
+abbrev pub is_key : Keyword → Token → Bool
+is_key k (t.Key j w) = same_keyword k j
+is_key k _ = false
+
+-- whether this word comes next
+abbrev pub is_word : Keyword → List Token → Bool
+is_word k [] = false
+is_word k (x ∷ rest) = is_key k x
+
+-- what comes after this word
+abbrev pub after_word : Keyword → List Token → Option (List Token)
+after_word k ts = if is_word k ts then Some (drop 1 ts) else None
+
+-- whether this word comes next, and what comes after it
+abbrev pub optional_word : Keyword → List Token → Bool × List Token
+optional_word k ts = if is_word k ts then (true, drop 1 ts) else (false, ts)
+
+-- ---- names, paths, lists
+
+-- the name that a token can be: any word
+abbrev pub name_of : Token → Option Text
+name_of (t.Word w) = Some w
+name_of (t.Key k w) = Some w
+name_of _ = None
+
+-- the variable that a token can be: a word that isn't the grammar's
+abbrev pub variable_of : Token → Option Text
+variable_of (t.Word w) = Some w
+variable_of _ = None
+
+-- a name
+unfoldable pub name_at : Read Text
+name_at [] = None
+name_at (x ∷ rest) = name_of x >>= λ w. Some (w, rest)
+
+-- a variable (chapter 4.4.2)
+unfoldable pub variable_at : Read Text
+variable_at [] = None
+variable_at (x ∷ rest) = variable_of x >>= λ w. Some (w, rest)
+
+-- {"." name}, at most so many, after those that were found
+unfoldable pub names_at : ℕ → List Text → Read (List Text)
+names_at zero found ts = Some (found, ts)
+names_at (suc n) found ts =
+    if sees m.Dot ts then (name_at (drop 1 ts) >>= λ r. names_at n (found ++ r.0 ∷ []) r.1) else Some (found, ts)
+
+-- var {"." name} (chapter 4.4.4)
+unfoldable pub path_at : Read Path
+path_at ts = variable_at ts >>= λ x. names_at (length x.1) [] x.1
+    >>= λ r. Some (record { variable = x.0; names = r.0 }, r.1)
+
+-- {"," one}, after those that were found
+unfoldable pub others_at : {A : Type 0} → Read A → ℕ → List A → Read (List A)
+others_at one zero found ts = Some (found, ts)
+others_at one (suc n) found ts =
+    if sees m.Comma ts then (one (drop 1 ts) >>= λ a. others_at one n (found ++ a.0 ∷ []) a.1) else Some (found, ts)
+
+-- one {"," one}
+unfoldable pub list_at : {A : Type 0} → Read A → Read (List A)
+list_at one ts = one ts >>= λ a. others_at one (length a.1) (a.0 ∷ []) a.1
+
+-- what was read, and a parenthesis that closes
+unfoldable pub closed : {A : Type 0} → Option (A × List Token) → Option (A × List Token)
+closed read = read >>= λ a. after m.Close a.1 >>= λ rest. Some (a.0, rest)
+
+-- ---- values
+
+-- what a word calls, before a parenthesis
+abbrev pub callee_of : Keyword → Callee
+callee_of k.Length = calls.Function f.Length
+callee_of k.Concat = calls.Function f.Concat
+callee_of k.Substring = calls.Function f.Substring
+callee_of k.Locate = calls.Function f.Locate
+callee_of k.Abs = calls.Function f.Abs
+callee_of k.Mod = calls.Function f.Mod
+callee_of k.Size = calls.Size
+callee_of k.Coalesce = calls.Function f.Coalesce
+callee_of k.NullIf = calls.Function f.NullIf
+callee_of k.Upper = calls.Function f.Upper
+callee_of k.Lower = calls.Function f.Lower
+callee_of k.Trim = calls.Trim
+callee_of k.Count = calls.Aggregate g.Count
+callee_of k.Sum = calls.Aggregate g.Sum
+callee_of k.Min = calls.Aggregate g.Min
+callee_of k.Max = calls.Aggregate g.Max
+callee_of _ = calls.Other
+
+-- a text or a parameter, where one comes next
+abbrev pub taken_at : List Token → Option Value × List Token
+taken_at [] = (None, [])
+taken_at (t.Quoted w ∷ rest) = (Some (v.Text w), rest)
+taken_at (t.Parameter w ∷ rest) = (Some (v.Parameter w), rest)
+taken_at (x ∷ rest) = (None, x ∷ rest)
+
+-- [t] FROM, behind a side of TRIM
+unfoldable pub sided_at : Trimmed → Read (Trimmed × Option Value)
+sided_at x ts = let off = taken_at ts in after_word k.From off.1 >>= λ rest. Some ((x, off.0), rest)
+
+-- t FROM in TRIM, where they come next
+unfoldable pub unsided_at : Read (Trimmed × Option Value)
+unsided_at ts = let off = taken_at ts in
+    if is_some off.0 && is_word k.From off.1 then Some ((side.Both, off.0), drop 1 off.1)
+    else Some ((side.Both, None), ts)
+
+-- what stands before the value that TRIM trims: the side, and what is taken off where it is written
+unfoldable pub trimming_at : Read (Trimmed × Option Value)
+trimming_at ts =
+    if is_word k.Leading ts then sided_at side.Leading (drop 1 ts)
+    else if is_word k.Trailing ts then sided_at side.Trailing (drop 1 ts)
+    else if is_word k.Both ts then sided_at side.Both (drop 1 ts)
+    else unsided_at ts
+
+-- `inner` reads a value inside parentheses
+module _ (inner : Read Value) where
+  -- what TRIM trims, and how, and the parenthesis that closes (chapter 4.7.2)
+  unfoldable pub trim_at : Read Value
+  trim_at ts = trimming_at ts >>= λ how. closed (inner how.1)
+      >>= λ a. Some (trimmed_value how.0 a.0, a.1)
+
+  -- the arguments of a call and the parenthesis that closes (chapter 4.7)
+  unfoldable pub call_at : Callee → Read Value
+  call_at (calls.Function h) ts =
+      closed (list_at inner ts) >>= λ all. if takes h (length all.0) then Some (v.Call h all.0, all.1) else None
+  call_at calls.Size ts = closed (path_at ts) >>= λ p. Some (v.Size p.0, p.1)
+  call_at (calls.Aggregate h) ts =
+      let d = optional_word k.Distinct ts in closed (inner d.1) >>= λ a. Some (v.Aggregate h d.0 a.0, a.1)
+  call_at calls.Trim ts = trim_at ts
+  call_at calls.Other ts = None
+
+  -- what begins with a token: a literal, a parameter, a path, a call or a value in parentheses
+  unfoldable pub word_at : Token → Read Value
+  word_at (t.Number n) rest = Some (v.Integer n, rest)
+  word_at (t.Quoted w) rest = Some (v.Text w, rest)
+  word_at (t.Parameter w) rest = Some (v.Parameter w, rest)
+  word_at (t.Word w) rest = path_at (t.Word w ∷ rest) >>= λ p. Some (v.Path p.0, p.1)
+  word_at (t.Key k w) rest = after m.Open rest >>= λ ts. call_at (callee_of k) ts
+  word_at (t.Mark x) rest = if same_mark m.Open x then closed (inner rest) else None
+
+  -- an atom: a value without sign and operator outside parentheses
+  unfoldable pub atom_at : Read Value
+  atom_at [] = None
+  atom_at (x ∷ rest) = word_at x rest
+
+  -- ["+" | "-"] atom (chapter 4.7.1)
+  unfoldable pub unary_at : Read Value
+  unary_at ts =
+      if sees m.Plus ts then (atom_at (drop 1 ts) >>= λ a. Some (v.Signed s.Plus a.0, a.1))
+      else if sees m.Minus ts then (atom_at (drop 1 ts) >>= λ a. Some (v.Signed s.Minus a.0, a.1))
+      else atom_at ts
+
+  -- {"*" unary}, at most so many, after what stands before
+  unfoldable pub times_at : ℕ → Value → Read Value
+  times_at zero before ts = Some (before, ts)
+  times_at (suc n) before ts = if sees m.Star ts
+      then (unary_at (drop 1 ts) >>= λ a. times_at n (v.Arithmetic o.Times before a.0) a.1) else Some (before, ts)
+
+  -- unary {"*" unary} (chapter 4.7.1)
+  unfoldable pub product_at : Read Value
+  product_at ts = unary_at ts >>= λ a. times_at (length a.1) a.0 a.1
+
+  -- {("+" | "-") product}, at most so many, after what stands before
+  unfoldable pub sums_at : ℕ → Value → Read Value
+  sums_at zero before ts = Some (before, ts)
+  sums_at (suc n) before ts =
+      if sees m.Plus ts then (product_at (drop 1 ts) >>= λ a. sums_at n (v.Arithmetic o.Plus before a.0) a.1)
+      else if sees m.Minus ts then (product_at (drop 1 ts) >>= λ a. sums_at n (v.Arithmetic o.Minus before a.0) a.1)
+      else Some (before, ts)
+
+  -- product {("+" | "-") product} (chapter 4.7.1)
+  unfoldable pub level_at : Read Value
+  level_at ts = product_at ts >>= λ a. sums_at (length a.1) a.0 a.1
+
+-- with values nested below this
+unfoldable pub value_at : ℕ → Read Value
+value_at zero ts = None
+value_at (suc n) ts = level_at (value_at n) ts
