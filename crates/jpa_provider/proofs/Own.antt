@@ -47,12 +47,6 @@ module _ (world : World) (s : Session) (entity name : List ℕ) where
       answered (machine_of s) (index_of world (class_of world.model entity) name) ≡ answered (machine_of s) (indexed o)
   index_so class o e f = ap (λ c. answered (machine_of s) (index_of world c name)) e ∙ ap (λ m. answered (machine_of s) (indexed m)) f
 
-  pub index_key : (class i : ℕ) → class_of world.model entity ≡ Some class → member_of world.model class name ≡ Some (Member.KeyPart i) → Serves world s (Call.Index entity name) (told Answer.Null) s
-  index_key class i e f = inl (index_so class (Some (Member.KeyPart i)) e f)
-
-  pub index_attribute : (class i : ℕ) → class_of world.model entity ≡ Some class → member_of world.model class name ≡ Some (Member.Attribute i) → Serves world s (Call.Index entity name) (told Answer.Null) s
-  index_attribute class i e f = inl (index_so class (Some (Member.Attribute i)) e f)
-
   pub index_version : (class : ℕ) → class_of world.model entity ≡ Some class → member_of world.model class name ≡ Some Member.Version →
       Serves world s (Call.Index entity name) (refusal (Cause.IllegalArgument Argument.Name)) s
   index_version class e f = inl (index_so class (Some Member.Version) e f)

@@ -1,14 +1,22 @@
 -- The first rows of a SELECT, and what they are found by without making all.
-use Rattle.std.specs.Prelude.{◌≡◌, ◌≤◌, ℕ, false, All, List, length, take, Option, Some, None}
+use Rattle.std.specs.Prelude.{◌≡◌, ◌≤◌, ℕ, Bool, true, false, All, List, [], ◌∷◌, length, map, take, Option, Some, None}
 use Rattle.std.specs.List.Sorted.{IsSortedBy}
+use Rattle.jpa_open.specs.Opened.{now}
+use Rattle.jpql_types.specs.declared.scope.TypedPath.{TypedPath}
 use Rattle.jpql_types.specs.declared.typed.TypedKey.{TypedKey}
 use Rattle.jpql_types.specs.declared.typed.TypedSelect.{TypedSelect}
+use Rattle.jpql_types.specs.declared.typed.TypedSorted.{TypedSorted}
 use Rattle.jpql_eval.specs.declared.datum.Datum.{Datum}
-use Rattle.jpql_plan.specs.Meaning.{Case}
-use Rattle.jpql_plan.specs.Selection.{Row, precedes, is_grouping}
+use Rattle.jpql_eval.specs.Answers.{every, under}
+use Rattle.jpql_plan.specs.Meaning.{Case, alone}
+use Rattle.jpql_plan.specs.Paths.{Tuple}
+use Rattle.jpql_plan.specs.Selection.{Row, in_order, precedes, is_grouping, selected}
+use Rattle.jpql_run.specs.declared.fronts.Side.{Side}
 use Rattle.jpql_run.specs.declared.run.Run.{Run}
+use Rattle.jpql_run.specs.Equations.{IsKeyPart}
 use Rattle.jpql_run.specs.Keys.{NeverOverflows}
-use Rattle.jpql_select.specs.Selects.{key_datum}
+use Rattle.jpql_select.specs.Selects.{key_datum, row_of}
+use Rattle.jpql_select.specs.Tables.{items_in}
 
 -- the first so many, or all
 abbrev pub first_of : {A : Type 0} → Option ℕ → List A → List A
@@ -32,3 +40,30 @@ pub record IsFit (q : TypedSelect) : Type 0 where
 pub record AreInFront (keys : List TypedKey) (count : ℕ) (rows : List Row) : Type 0 where
   pub sorted : IsSortedBy (precedes keys) rows
   pub few : length rows ≤ count
+
+-- ---- tuples of a front
+
+-- A key of ORDER BY is the first part of the first variable's key, falling or not.
+pub record IsFirstPart (is_descending : Bool) (key : TypedKey) : Type 0 where
+  pub path : TypedPath
+  pub along : key.by ≡ TypedSorted.Path path
+  pub way : key.is_descending ≡ is_descending
+  pub of_first : path.variable ≡ 0
+  pub leads : IsKeyPart 0 path
+
+-- ORDER BY begins at this side of the order of identities: there is none, or it is by that part alone
+abbrev pub GoesBy : Side → List TypedKey → Type 0
+GoesBy Side.First [] = Unit {0}
+GoesBy Side.First (key ∷ []) = IsFirstPart false key
+GoesBy Side.Last (key ∷ []) = IsFirstPart true key
+GoesBy _ _ = ⊥
+
+-- of these tuples the first rows are those of all
+abbrev pub AreEnough : Run → TypedSelect → ℕ → List Tuple → Type 0
+AreEnough run q n ts =
+    under (take n) (selected run.metamodel.now (now run.set.now) run.parameters.now q)
+    ≡ under items_in (under (λ rows. take n (in_order q.order rows)) (every (map (row_of run q) (map alone ts))))
+
+-- of these tuples the first rows are those of all, as many as they are
+abbrev pub AreFirst : Run → TypedSelect → List Tuple → Type 0
+AreFirst run q ts = (n : ℕ) → n ≤ length ts → AreEnough run q n ts

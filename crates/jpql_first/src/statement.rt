@@ -10,11 +10,12 @@ ghost use Rattle.jpql_first.specs.First.{first_of, IsFit};
 
 use crate::best::best_rows;
 use crate::fit::is_fit;
+use crate::fronts::enough_tuples;
 use jpa_model::Metamodel;
 use jpa_open::OpenSet;
 use jpql_eval::{Datum, Failure};
 use jpql_run::Run;
-use jpql_select::{Table, select, selected_tuples, table_of};
+use jpql_select::{Table, select, table_of};
 use jpql_types::TypedSelect;
 use std::alloc::Global;
 
@@ -33,7 +34,7 @@ fn first_rows<'a>(
     ensures { Finds rows_in result (under (take count) (selection.selected run.now.metamodel.now
         (opened.now run.now.set.now) run.now.parameters.now statement.now)) }
 {
-    let tuples = selected_tuples(alloc, run, statement)?;
+    let tuples = enough_tuples(alloc, run, statement, count)?;
     let rows = best_rows(alloc, run, statement, count, &tuples)?;
     Ok(table_of(alloc, rows)?)
 }

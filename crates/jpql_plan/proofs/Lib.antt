@@ -5,3 +5,5 @@ pub mod Stable
 pub mod Ordered
 pub mod Once
 pub mod Grouped
+pub mod Fronts
+mod Examples

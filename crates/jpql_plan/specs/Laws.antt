@@ -1,7 +1,7 @@
 -- Laws of what queries mean, in a reader's words.
 use Rattle.std.specs.Prelude.{◌≡◌, ℕ, Bool, true, false, not, ◌||◌, List, [], ◌∷◌, ◌++◌, map, Option, Some, None}
 use Rattle.std.specs.Prelude.{if◌then◌else◌}
-use Rattle.std.specs.List.{filter, list_any}
+use Rattle.std.specs.List.{AllByRecursion, filter, list_any}
 use Rattle.std.specs.List.Sorted.{IsSortedBy, IsStableBy}
 use Rattle.jpa_model.specs.declared.unit.PersistenceUnit.{PersistenceUnit}
 use Rattle.jpa_stored.specs.Sets.{StoredSet}
@@ -86,6 +86,25 @@ pub record OrderLaws (keys : List TypedKey) (rows : List Row) : Type 0 where
   -- and there is no other
   pub one : (others : List Row) → IsSortedBy (precedes keys) others → IsStableBy (precedes keys) rows others →
       others ≡ in_order keys rows
+
+-- What parts two rows, the one of the earlier tuple being the first. Where it is in front and the
+-- other behind, the other doesn't precede it; where it is the other way round, the other does.
+abbrev pub StandsCut : List TypedKey → Bool → Bool → Row → Row → Type 0
+StandsCut keys true true x y = Unit {0}
+StandsCut keys true false x y = precedes keys y x ≡ false
+StandsCut keys false true x y = precedes keys y x ≡ true
+StandsCut keys false false x y = Unit {0}
+
+-- a test parts tuples into a front of the order and the rest
+abbrev pub AreCut : List TypedKey → (Tuple → Bool) → (Tuple → Row) → List Tuple → Type 0
+AreCut keys p row [] = Unit {0}
+AreCut keys p row (t ∷ ts) =
+    AllByRecursion (λ u. StandsCut keys (p t) (p u) (row t) (row u)) ts × AreCut keys p row ts
+
+-- ORDER BY of a front (chapter 4.10): the rows of all are those of the front, and then the others.
+pub record FrontLaws (keys : List TypedKey) (p : Tuple → Bool) (row : Tuple → Row) (ts : List Tuple) : Type 0 where
+  pub parted : AreCut keys p row ts → in_order keys (map row ts)
+      ≡ in_order keys (map row (filter p ts)) ++ in_order keys (map row (filter (λ t. not (p t)) ts))
 
 -- DISTINCT goes by the items of rows.
 abbrev pub is_same_row : Row → Row → Bool

@@ -8,7 +8,8 @@ ghost use Rattle.jpql_eval.specs.declared.datum.Truth.{Truth};
 ghost use Rattle.jpql_eval.specs.Answers.{Answer};
 ghost use Rattle.jpql_plan.specs.Paths.{Tuple};
 ghost use Rattle.jpql_plan.specs.Selection.{Row};
-ghost use Rattle.jpql_plan.specs.Laws.{FromLaws, WhereLaws, GroupLaws, OrderLaws, DistinctLaws};
+ghost use Rattle.jpql_plan.specs.Laws.{FromLaws, WhereLaws, GroupLaws, OrderLaws, FrontLaws};
+ghost use Rattle.jpql_plan.specs.Laws.{DistinctLaws};
 
 /// The laws of FROM and EXISTS (chapters 4.4 and 4.6.16); it does nothing. A range is the objects
 /// of its class in rising order, an inner join a filter of related objects; a LEFT JOIN loses no
@@ -34,6 +35,14 @@ pub fn group_laws()
 /// The laws of ORDER BY (chapter 4.10); it does nothing. It is the one stable sort by the keys.
 pub fn order_laws()
     ensures { (keys : List TypedKey) (rows : List Row) → OrderLaws keys rows }
+{}
+
+/// The law of a front of an order (chapter 4.10); it does nothing. Where a test parts tuples so that
+/// no row behind precedes one in front, and one in front precedes those behind that come before it,
+/// ORDER BY gives the rows in front, in their order, and then the others in theirs.
+pub fn front_laws()
+    ensures { (keys : List TypedKey) (p : Tuple → Bool) (row : Tuple → Row) (ts : List Tuple) →
+        FrontLaws keys p row ts }
 {}
 
 /// The law of DISTINCT (chapter 4.9); it does nothing. One more row is kept exactly where no row

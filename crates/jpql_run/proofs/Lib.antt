@@ -25,5 +25,7 @@ pub mod ByLink
 pub mod Left
 pub mod LeftOne
 pub mod Narrowed
-pub mod KeyEnds
+pub mod Past
 pub mod KeySpans
+pub mod Outside
+pub mod InFront

@@ -13,5 +13,8 @@ pub mod Refused
 pub mod Grown
 pub mod Indexes
 pub mod Bounds
+pub mod Ends
+pub mod Spans
 pub mod KeySpans
 pub mod ByLink
+pub mod Fronts

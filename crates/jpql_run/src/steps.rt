@@ -4,7 +4,8 @@ ghost use Rattle.std.specs.Prelude.{◌≡◌, true};
 use jpa_model::Member;
 use jpql_types::Step;
 
-fn is_same_member(one: Member, other: Member) -> bool
+/// Whether two members are the same.
+pub(crate) fn is_same_member(one: Member, other: Member) -> bool
     ensures { result ≡ true → one ≡ other }
 {
     match (one, other) {

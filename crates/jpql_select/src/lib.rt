@@ -29,4 +29,4 @@ pub use row::{Row, Sorting};
 pub use rows::{items_of, sorting_of};
 pub use statement::select;
 pub use table::{Table, table_of};
-pub use tuples::selected_tuples;
+pub use tuples::{left_of, selected_tuples};

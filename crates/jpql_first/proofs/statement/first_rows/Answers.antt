@@ -9,7 +9,6 @@ use Rattle.jpql_plan.specs.Selection.{selected, in_order}
 use Rattle.jpql_run.proofs.Turns.{fails_on}
 use Rattle.jpql_select.specs.Selects.{row_of}
 use Rattle.jpql_select.specs.Tables.{items_in}
-use Rattle.jpql_first.proofs.Firsts.{firsts}
 use Rattle.jpql_first.proofs.statement.first_rows.Goals as goal
 
 pub returns-in_err-rows : goal.returns-in_err-rows
@@ -23,7 +22,7 @@ returns-in_err-rows c =
     let failed : Fails e (best all) = subst (λ ts. Fails e (best ts)) c.deref.ensures.value c.in_err-rows.ensures in
     let fails : Fails e (under (take n) (selected run.metamodel.now (now run.set.now) run.parameters.now q)) =
     fails_on e (best all) (under (take n) (selected run.metamodel.now (now run.set.now) run.parameters.now q))
-    (λ over. firsts run q c.requires.fit n all c.in_ok-tuples.ensures ∙ ap (under items_in) over) failed in
+    (λ over. c.in_ok-tuples.ensures.ok ∙ ap (under items_in) over) failed in
     first_of (search (rules, fails), grind (arith, common_steps, fails))
 
 pub returns : goal.returns
@@ -32,6 +31,6 @@ returns c =
     let q = c.args.statement.now in
     let n = c.args.count in
     let best = λ (ts : List Tuple). under (λ rows. take n (in_order q.order rows)) (every (map (row_of run q) (map alone ts))) in
-    firsts run q c.requires.fit n c.in_ok-tuples.tuples.items c.in_ok-tuples.ensures
+    c.in_ok-tuples.ensures.ok
     ∙ ap (under items_in) (ap best (sym c.deref.ensures.value) ∙ c.in_ok-rows.ensures)
     ∙ ap gives (sym c.in_ok-table_of.ensures)

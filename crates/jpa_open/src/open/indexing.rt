@@ -1,0 +1,75 @@
+//! Indexes of values.
+ghost use Rattle.std.specs.Prelude.{◌≡◌, IfErr};
+ghost use Rattle.jpa_value.specs.declared.refusal.Cause.{Cause};
+
+use crate::index::most_references;
+use crate::open::OpenSet;
+use crate::values::{add_columns, next_number, values_of};
+use jpa_model::{Member, Metamodel};
+use jpa_ordered::Column;
+use jpa_value::Cause;
+
+impl OpenSet {
+    /// Whether there is an index of what objects of a class, and of each class below it, have in a
+    /// member. Takes no memory.
+    pub fn has_index(&self, metamodel: &Metamodel, class: usize, member: Member) -> bool {
+        class < metamodel.entities().len()
+            && self.values.column_of(metamodel, class, member).is_some()
+    }
+
+    /// Makes an index of what objects of a class, and of each class below it, have in a member,
+    /// which is a part of the key or an attribute. From then on it goes with each commit. One that
+    /// is there stays, and while there is room to commit, none is made.
+    ///
+    /// It takes O(n log n) steps for n committed objects. What is seen stays as it is, and for want
+    /// of memory, which is the only refusal, there is no index.
+    pub fn index_by(
+        &mut self,
+        metamodel: &Metamodel,
+        class: usize,
+        member: Member,
+    ) -> Result<(), Cause>
+        ensures same { self.new ≡ self.old }
+        ensures err { IfErr result (λ cause. cause ≡ Cause.OutOfMemory) }
+    {
+        if self.is_ready
+            || class >= metamodel.entities().len()
+            || self.has_index(metamodel, class, member)
+        {
+            return Ok(());
+        }
+        let column = Column {
+            class,
+            member,
+            number: next_number(self.values.columns()),
+        };
+        add_columns(
+            &mut self.values,
+            metamodel,
+            column,
+            self.committed.as_slice(),
+        )?;
+        let most = most_references(self.values.len(), self.committed.len());
+        self.values.allow(most);
+        Ok(())
+    }
+
+    /// Makes the indexes of values anew where they have outgrown the committed objects: what these
+    /// had once stays in them until then. For want of memory, which is the only refusal, all stays
+    /// as it was.
+    pub(crate) fn renew_values(&mut self) -> Result<(), Cause>
+        ensures same { self.new ≡ self.old }
+        ensures err { IfErr result (λ cause. cause ≡ Cause.OutOfMemory) }
+    {
+        if self.is_ready || !self.values.is_outgrown() {
+            return Ok(());
+        }
+        let values = values_of(
+            *self.committed.allocator(),
+            self.values.columns(),
+            self.committed.as_slice(),
+        )?;
+        self.values = values;
+        Ok(())
+    }
+}
