@@ -62,6 +62,31 @@ cmp "$program" "$cached" || fail "a damaged program in the cache was left"
 said=$(XDG_CACHE_HOME=$folder/file "${run[@]}" "$folder/fourth.db" 2>&1)
 grep -q "the program in the JAR can't be unpacked" <<<"$said" || fail "without a cache: $said"
 
+# The mapping of a store, without a library; by it the program and the Python client read the store.
+mapping=$folder/first.json
+java -jar "$jar" mapping "$folder/first.db" >"$mapping" || fail "no mapping of the first store"
+prints '["Bob","Ada"]' "$program" --mapping "$mapping" --db "$folder/first.db" \
+    --query "SELECT p.name, p.friend.name FROM Person p"
+if command -v python3 >/dev/null 2>&1; then
+    PYTHONPATH=clients/python python3 -m karzhoul show "$folder/first.db" --mapping "$mapping" --program "$program" >"$folder/shown"
+    grep -q 'Ada' "$folder/shown" || fail "the Python client shows $(cat "$folder/shown")"
+fi
+
+# What isn't given or isn't there is told, with a status: told STATUS WORDS WORD..
+told() {
+    local status=$1 wanted=$2 said ended
+    shift 2
+    said=$(java -jar "$jar" "$@" 2>&1)
+    ended=$?
+    [ "$ended" = "$status" ] && grep -qF -- "$wanted" <<<"$said" || fail "'$*' ended with $ended, and said $said"
+}
+told 2 "Usage: java -jar karzhoul-jpa.jar mapping STORE"
+told 2 "Usage: java -jar" mapping "$folder/first.db" --program
+told 0 "Usage: java -jar" --help
+told 4 "karzhoul: there is no file $folder/none.db" mapping "$folder/none.db"
+"$program" --db "$folder/lines.db" </dev/null || fail "a store of lines"
+told 4 "doesn't say with which classes it was written" mapping "$folder/lines.db"
+
 # Applications in modules of their own.
 javac -d "$folder/open" --module-path "$modules:$jar" tests/java-jar/open/*.java tests/java-jar/shop/*.java || exit 1
 javac -d "$folder/closed" --module-path "$modules:$jar" tests/java-jar/closed/*.java tests/java-jar/shop/*.java || exit 1

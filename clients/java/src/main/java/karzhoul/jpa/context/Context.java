@@ -51,6 +51,7 @@ final class Context {
     private final Map<Long, WeakReference<Object>> lost = new HashMap<>();
     private final List<Entry> touched = new ArrayList<>();
     private final List<Entry> locked = new ArrayList<>();
+    private final List<Entry> made = new ArrayList<>();
     private final Map<Entry, Entry.Row> written = new IdentityHashMap<>();
     private final HiddenRows hiddenRows = new HiddenRows(this);
     private final UniqueValues uniques = new UniqueValues(this);
@@ -377,6 +378,7 @@ final class Context {
         forgetRemoved();
         locked.forEach(entry -> entry.lock(LockModeType.NONE));
         locked.clear();
+        made.clear();
         forgetRunAhead();
         clear(written);
         forgetHidden();
@@ -404,6 +406,22 @@ final class Context {
         locked.add(entry);
     }
 
+    /** A new instance is managed from now on: its key is that of a row if this transaction is committed. */
+    void isMade(Entry entry) {
+        made.add(entry);
+        factory.neverStored().remove(entry.instance());
+    }
+
+    /** Whether a transaction made the instance, and was rolled back. */
+    boolean isNeverStored(Object instance) {
+        return factory.neverStored().has(instance);
+    }
+
+    /** Whether the transaction's instances were stored isn't known. */
+    void forgetMade() {
+        made.clear();
+    }
+
     /** The transaction ends without a commit: all is detached (chapter 3.3.3). */
     void rolledBack(boolean isOverThere) {
         boolean isOpenThere = isBeginSent && !isOverThere;
@@ -413,6 +431,7 @@ final class Context {
         isBeginSent = false;
         queue.clear();
         sentAhead.clear();
+        made.forEach(entry -> factory.neverStored().add(entry.instance()));
         letAllGo();
         if (session == null) {
             return;
@@ -617,6 +636,7 @@ final class Context {
         clear(heard);
         touched.clear();
         locked.clear();
+        made.clear();
         clear(written);
         forgetHidden();
         isTouched = false;

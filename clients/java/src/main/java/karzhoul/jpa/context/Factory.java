@@ -47,6 +47,7 @@ public final class Factory implements EntityManagerFactory {
     private final Set<EntityModel> writingFirst;
     private final Map<String, EntityModel> mapped = new HashMap<>();
     private final Map<String, Object> properties;
+    private final NeverStored neverStored = new NeverStored();
     private final AtomicBoolean isOpen = new AtomicBoolean(true);
     private final Statements statements;
     private final Graphs graphs;
@@ -134,6 +135,10 @@ public final class Factory implements EntityManagerFactory {
 
     long waitMillis() {
         return settings.poolWait().toMillis();
+    }
+
+    NeverStored neverStored() {
+        return neverStored;
     }
 
     /** Whether a flush of one of these may have callbacks before the writes, so that the program is asked which. */

@@ -153,6 +153,7 @@ final class Fill {
             context.hasTouched(entry);
             if (persisted.contains(number)) {
                 entry.stored(false);
+                context.isMade(entry);
             }
         }
     }

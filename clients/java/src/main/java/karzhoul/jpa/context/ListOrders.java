@@ -57,6 +57,13 @@ final class ListOrders {
         }
     }
 
+    /** The owners of these keys, each in one text, were deleted by a statement. */
+    void gone(ListOrder order, List<String> owners) {
+        Map<String, List<String>> wanted = new LinkedHashMap<>();
+        owners.forEach(owner -> wanted.put(owner, List.of()));
+        write(order, wanted);
+    }
+
     /** Lets the rows follow what a flush wrote; their own flush is still to come. */
     void settle() {
         if (changed.isEmpty() && gone.isEmpty()) {

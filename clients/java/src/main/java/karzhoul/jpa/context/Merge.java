@@ -164,7 +164,7 @@ final class Merge {
         List<List<Object>> keys = new ArrayList<>();
         for (Object instance : reached) {
             EntityModel model = context.modelOf(instance);
-            List<Object> key = Targets.keyOf(model, instance);
+            List<Object> key = keyOf(model, instance);
             Entry known = key == null ? null : context.identities().of(model, key);
             if (known != null && known.isHollow()) {
                 new Fill(context).proxy(known);
@@ -191,6 +191,12 @@ final class Merge {
         }
     }
 
+    /** Its key as it is kept; null where the program gives one, since that of before was rolled back. */
+    private List<Object> keyOf(EntityModel model, Object instance) {
+        boolean isGivenAgain = model.key().generation() == KeyModel.Generation.COUNTER && context.isNeverStored(instance);
+        return isGivenAgain ? null : Targets.keyOf(model, instance);
+    }
+
     private void makeSource(Object instance) {
         Entry before = context.entryOf(instance);
         if (before != null) {
@@ -199,7 +205,7 @@ final class Merge {
         EntityModel model = context.modelOf(instance);
         Entry source = new Entry(model, context, Entry.State.NEW);
         source.instance(instance);
-        source.key(Targets.keyOf(model, instance));
+        source.key(keyOf(model, instance));
         sources.put(source, instance);
         Entry image = source.key() == null ? null : context.identities().of(model, source.key());
         if (image != null) {
@@ -348,7 +354,7 @@ final class Merge {
     private boolean saysVersion(Entry source) {
         Object version = versionOf(source);
         Entry image = images.get(source);
-        if (version == null) {
+        if (version == null || image == null && context.isNeverStored(source.instance())) {
             return false;
         } else if (image != null) {
             return image.isStored() || !version.equals(versionOf(image));

@@ -103,9 +103,9 @@ final class Persist {
     }
 
     /** A generated key that is set, or a proxy that isn't this context's, is of what was stored before. */
-    private static boolean isKnownDetached(EntityModel model, Object instance) {
-        return instance instanceof Proxied
-            || model.key().generation() == KeyModel.Generation.COUNTER && Targets.keyOf(model, instance) != null;
+    private boolean isKnownDetached(EntityModel model, Object instance) {
+        return instance instanceof Proxied || model.key().generation() == KeyModel.Generation.COUNTER
+            && Targets.keyOf(model, instance) != null && !context.isNeverStored(instance);
     }
 
     private Entry aheadOf(EntityModel model, Object instance) {
@@ -155,6 +155,9 @@ final class Persist {
             }
         }
         for (Entry entry : persisted) {
+            if (entry.state() == Entry.State.NEW) {
+                context.isMade(entry);
+            }
             entry.state(Entry.State.MANAGED);
             context.identities().put(entry);
         }

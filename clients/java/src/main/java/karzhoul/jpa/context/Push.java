@@ -146,11 +146,11 @@ class Push {
         return now == null && entry.state() == Entry.State.NEW && Values.column(attribute, null) != null;
     }
 
-    /** Whether this is the zero of a primitive key that the program is to give. */
-    private static boolean isUngiven(Entry entry, Attribute attribute, Object now) {
+    /** Whether the program is to give this key: one is the zero of a primitive, or was given and rolled back. */
+    private boolean isUngiven(Entry entry, Attribute attribute, Object now) {
         return attribute.role() == Attribute.Role.KEY
             && entry.model().key().generation() == KeyModel.Generation.COUNTER
-            && Long.valueOf(0).equals(attribute.codec().toColumn(now));
+            && (Long.valueOf(0).equals(attribute.codec().toColumn(now)) || context.isNeverStored(entry.instance()));
     }
 
     private void touch(Entry entry) {

@@ -11,6 +11,7 @@ import karzhoul.jpa.engine.Reply;
 import karzhoul.jpa.engine.Shown;
 import karzhoul.jpa.graph.RootGraph;
 import karzhoul.jpa.model.EntityModel;
+import karzhoul.jpa.model.ListOrder;
 import karzhoul.jpa.model.Relation;
 import karzhoul.jpa.model.UnitModel;
 import karzhoul.jpa.query.Asking;
@@ -135,6 +136,19 @@ final class Questions implements Asking {
         context.needTransaction();
         context.touched(true);
         return context.within(() -> ((Long) ask("executeUpdate", text, parameters, null, null, null)[0].ok()).intValue());
+    }
+
+    @Override
+    public void ordersGone(ListOrder order, List<String> owners) {
+        try {
+            context.within(() -> {
+                context.listOrders().gone(order, owners);
+                context.hiddenRows().flush();
+                return null;
+            });
+        } catch (RuntimeException e) {
+            throw context.marked(e);
+        }
     }
 
     @Override

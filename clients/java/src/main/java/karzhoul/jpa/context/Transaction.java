@@ -43,6 +43,7 @@ final class Transaction implements EntityTransaction {
             context.rolledBack(true);
             throw culprits.named(e);
         } catch (CommitUnknown e) {
+            context.forgetMade();
             rollBackAfter(e);
             throw e;
         } catch (RuntimeException e) {
@@ -50,6 +51,7 @@ final class Transaction implements EntityTransaction {
             rollBackAfter(e);
             throw Refusals.rolledBack(culprits.named(e));
         } catch (Error e) {
+            context.forgetMade();
             rollBackAfter(e);
             throw e;
         }

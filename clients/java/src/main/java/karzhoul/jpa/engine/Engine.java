@@ -65,7 +65,7 @@ public final class Engine implements AutoCloseable {
     Engine(List<String> command, Journal journal) {
         this.journal = journal;
         try {
-            process = new ProcessBuilder(command).redirectError(ProcessBuilder.Redirect.PIPE).start();
+            process = ProgramProcess.start(command, ProcessBuilder.Redirect.PIPE);
         } catch (IOException e) {
             throw new PersistenceException("the program " + command.get(0) + " can't be started: " + e.getMessage(), e);
         }

@@ -17,6 +17,9 @@ import karzhoul.jpa.model.UnitModel;
  * Safe for all threads.
  */
 public final class Program {
+    /** The property by which a store that says nothing of itself is taken for one of the unit's classes. */
+    public static final String ADOPT = "karzhoul.adopt";
+
     private static final String SCHEME = "karzhoul:";
     private static final String MEMORY = "memory";
     private static final List<String> SUFFIXES = List.of("", "-wal", "-shm", "-journal");
@@ -62,6 +65,9 @@ public final class Program {
             Map<String, Object> properties) {
         if (described == null) {
             return new Engine(command, journal);
+        }
+        if (String.valueOf(properties.get(ADOPT)).equals("true")) {
+            described.adopt();
         }
         described.prepare();
         try {

@@ -17,7 +17,6 @@ import java.util.ArrayList;
 import java.util.Arrays;
 import java.util.HexFormat;
 import java.util.List;
-import java.util.concurrent.TimeUnit;
 import karzhoul.jpa.model.StoredDescription;
 import karzhoul.jpa.model.Transition;
 import karzhoul.jpa.model.Unique;
@@ -41,6 +40,7 @@ public final class StoreDescription {
     private final String description;
     private final Path mark;
     private boolean isNew;
+    private boolean isAdopting;
     private String before;
 
     /** @param description what the classes say, as {@link karzhoul.jpa.model.UnitModel#description()} */
@@ -48,6 +48,11 @@ public final class StoreDescription {
         this.store = store;
         this.description = description;
         this.mark = store.resolveSibling(store.getFileName() + MARK);
+    }
+
+    /** A store that says nothing of itself is taken for one of these classes: the program judges whether its rows can be. */
+    public void adopt() {
+        isAdopting = true;
     }
 
     /**
@@ -83,7 +88,7 @@ public final class StoreDescription {
         Dialogue program = new Dialogue(out, in);
         program.ask("{\"call\":\"createEntityManager\"}");
         String stored = read(program);
-        if (stored == null && !isNew) {
+        if (stored == null && !isNew && !isAdopting) {
             throw new PersistenceException("The store " + store + " doesn't say with which classes it was written, as "
                     + "one of a Java unit does: it is another client's. " + REMEDY);
         }
@@ -151,7 +156,7 @@ public final class StoreDescription {
                 Files.deleteIfExists(mark);
                 return refused;
             }
-            String stored = readAlone(program);
+            String stored = StoredText.read(program, store);
             before = stored;
             return stored == null || stored.equals(description) ? refused : otherClasses(stored);
         } catch (IOException | InterruptedException fault) {
@@ -184,36 +189,6 @@ public final class StoreDescription {
             throw new IOException("the program answered " + reply);
         }
         return HexFormat.of().parseHex(reply, from + "{\"hex\":\"".length(), to);
-    }
-
-    /** Reads the description of a store that the mapping of the classes doesn't open. */
-    private String readAlone(String program) throws IOException, InterruptedException {
-        Path mapping = Files.createTempFile("karzhoul", ".json");
-        try {
-            Files.writeString(mapping, StoredDescription.mapping());
-            ByteArrayOutputStream bytes = new ByteArrayOutputStream();
-            for (int part = 1;; part++) {
-                String line = ask(List.of(program, "--mapping", mapping.toString(), "--db", store.toString(), "--query",
-                        "SELECT d." + TEXT + " FROM " + ENTITY + " d WHERE d." + PART + " = " + part));
-                if (line.isEmpty()) {
-                    return part == 1 ? null : bytes.toString(StandardCharsets.UTF_8);
-                }
-                bytes.write(HexFormat.of().parseHex(line, "{\"hex\":\"".length(), line.length() - "\"}".length()));
-            }
-        } finally {
-            Files.delete(mapping);
-        }
-    }
-
-    private static String ask(List<String> command) throws IOException, InterruptedException {
-        Process process = new ProcessBuilder(command).redirectError(ProcessBuilder.Redirect.DISCARD).start();
-        process.getOutputStream().close();
-        String answer = new String(process.getInputStream().readAllBytes(), StandardCharsets.UTF_8).trim();
-        if (!process.waitFor(1, TimeUnit.MINUTES) || process.exitValue() != 0) {
-            process.destroy();
-            throw new IOException("the description of the store can't be read");
-        }
-        return answer;
     }
 
     /** A line out, a line in. */

@@ -8,6 +8,7 @@ import java.util.HashMap;
 import java.util.List;
 import java.util.Map;
 import karzhoul.jpa.model.EntityModel;
+import karzhoul.jpa.model.Repeated;
 import karzhoul.jpa.model.UnitModel;
 
 /** Reads {@code @NamedEntityGraph} (chapter 10.3). A subgraph may lead to itself. */
@@ -22,7 +23,7 @@ final class NamedGraphs {
     NamedGraphs(UnitModel unit) {
         this.unit = unit;
         for (EntityModel entity : unit.entities()) {
-            for (NamedEntityGraph named : entity.javaClass().getDeclaredAnnotationsByType(NamedEntityGraph.class)) {
+            for (NamedEntityGraph named : Repeated.of(entity.javaClass(), NamedEntityGraph.class)) {
                 String name = named.name().isEmpty() ? entity.name() : named.name();
                 try {
                     add(name, new One(named).read(entity, name));

@@ -32,9 +32,9 @@ final class Classes {
         if (javaClass.isAnnotationPresent(Embeddable.class) || javaClass.isAnnotationPresent(MappedSuperclass.class)) {
             faults.add(javaClass, "it is an entity, and an embeddable or a mapped superclass too", "Leave one of them");
         }
-        if (javaClass.getAnnotationsByType(NamedNativeQuery.class).length > 0
-                || javaClass.getAnnotationsByType(NamedStoredProcedureQuery.class).length > 0
-                || javaClass.getAnnotationsByType(SqlResultSetMapping.class).length > 0) {
+        if (Repeated.of(javaClass, NamedNativeQuery.class).length > 0
+                || Repeated.of(javaClass, NamedStoredProcedureQuery.class).length > 0
+                || Repeated.of(javaClass, SqlResultSetMapping.class).length > 0) {
             faults.add(javaClass, "there is no SQL", "Write the query in JPQL, as @NamedQuery");
         }
     }

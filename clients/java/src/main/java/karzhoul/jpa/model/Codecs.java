@@ -70,7 +70,7 @@ final class Codecs {
     /** The codec of a map's keys; empty where they have none, which was told then (chapters 11.1.34 and 11.1.36). */
     Optional<Codec> ofMapKey(Member member, Class<?> type, Scope scope, String path) {
         Optional<Convert> convert = scope.convert(path + ".key")
-                .or(() -> Arrays.stream(member.annotated().getAnnotationsByType(Convert.class))
+                .or(() -> Arrays.stream(Repeated.of(member.annotated(), Convert.class))
                         .filter(it -> it.attributeName().equals("key")).findFirst());
         boolean isOff = convert.isPresent() && convert.get().disableConversion();
         boolean isNamed = member.find(MapKeyEnumerated.class).filter(it -> it.value() == EnumType.STRING).isPresent();

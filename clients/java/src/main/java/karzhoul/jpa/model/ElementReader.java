@@ -34,6 +34,11 @@ import karzhoul.jpa.model.Relation.Container;
  * application doesn't see, and a relation to it, along which all cascades.
  */
 final class ElementReader {
+    /** The paths of the columns that no attribute of an embeddable has: a place, a key of a map, a basic value. */
+    static final String INDEX = "#index";
+    static final String KEY = "#key";
+    static final String VALUE = "#element";
+
     private static final Set<CascadeType> ALL = Set.copyOf(EnumSet.complementOf(EnumSet.of(CascadeType.ALL)));
     private static final String ROW = "row_";
     private static final String ELEMENT = "element_";
@@ -177,7 +182,7 @@ final class ElementReader {
             faults.add(member, "@OrderColumn orders a List", "Declare it as List");
         }
         String column = order.get().name().isEmpty() ? last(path) + "_ORDER" : order.get().name();
-        return draft.has("#index", PLACE, BasicCodecs.fixed(Integer.class), true, column);
+        return draft.has(INDEX, PLACE, BasicCodecs.fixed(Integer.class), true, column);
     }
 
     private static String last(String path) {
@@ -201,7 +206,7 @@ final class ElementReader {
         String column = member.find(MapKeyColumn.class).map(MapKeyColumn::name).filter(it -> !it.isEmpty())
                 .orElse(last(path) + "_KEY");
         Optional<Codec> codec = codecs.ofMapKey(member, type.get(), scope, inScope);
-        return codec.map(it -> draft.has("#key", PLACE, it, true, column)).orElse(null);
+        return codec.map(it -> draft.has(KEY, PLACE, it, true, column)).orElse(null);
     }
 
     /** Reads what elements have; answers the constructor of an embeddable, or null. */
@@ -234,7 +239,7 @@ final class ElementReader {
         boolean isRequired = column.filter(it -> !it.nullable()).isPresent();
         boolean isUnique = column.filter(Column::unique).isPresent();
         codec.ifPresent(it -> draft.parts.add(new ElementShape.Part(
-                draft.has("#element", ELEMENT, it, isRequired, name).unique(isUnique), null)));
+                draft.has(VALUE, ELEMENT, it, isRequired, name).unique(isUnique), null)));
     }
 
     private void part(Member member, Way way, String path, Scope scope, String inScope, Draft draft, int depth) {

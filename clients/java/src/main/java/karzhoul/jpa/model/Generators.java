@@ -37,12 +37,12 @@ final class Generators {
 
     /** Takes what a class, a member or a package defines. */
     void define(AnnotatedElement element) {
-        for (SequenceGenerator it : element.getAnnotationsByType(SequenceGenerator.class)) {
+        for (SequenceGenerator it : Repeated.of(element, SequenceGenerator.class)) {
             String sequence = it.sequenceName().isEmpty() ? it.name() : it.sequenceName();
             defined.put(it.name(), new Said("sequence " + RelationReader.qualified(it.catalog(), it.schema(), sequence),
                     it.initialValue(), it.allocationSize()));
         }
-        for (TableGenerator it : element.getAnnotationsByType(TableGenerator.class)) {
+        for (TableGenerator it : Repeated.of(element, TableGenerator.class)) {
             String row = it.pkColumnValue().isEmpty() ? it.name() : it.pkColumnValue();
             String table = RelationReader.qualified(it.catalog(), it.schema(), it.table());
             // a table has the number that was given last

@@ -88,7 +88,7 @@ final class Joiner {
     private void checkReferenced(PlainRelation relation) {
         PlainKey key = ((PlainEntity) relation.target()).plainKey();
         Member member = relation.said().declared();
-        for (JoinColumn column : member.annotated().getAnnotationsByType(JoinColumn.class)) {
+        for (JoinColumn column : Repeated.of(member.annotated(), JoinColumn.class)) {
             String name = column.referencedColumnName();
             boolean isKey = name.isEmpty() || key == null || relation.isMany() || key.hasColumn(name);
             if (!isKey) {

@@ -256,7 +256,8 @@ final class KeyReader {
             return Generation.ASSIGNED;
         }
         Class<?> type = Types.boxed(only.javaType());
-        boolean isUuid = generated.get().strategy() == GenerationType.UUID
+        // (by its name, which versions before 3.1 don't have)
+        boolean isUuid = generated.get().strategy().name().equals("UUID")
                 || generated.get().strategy() == GenerationType.AUTO && type == UUID.class;
         if (members.size() > 1) {
             faults.add(only, "a part of a key isn't generated", "Leave out @GeneratedValue, or make it the whole key");

@@ -9,7 +9,8 @@ import java.util.List;
 public final class ListOrder implements KeyedRows {
     private static final String OWNER = "id.owner";
     private static final String PART = "id.part";
-    private static final String MEMBERS = "members";
+    /** Its attribute: the keys of members, a line each. */
+    static final String MEMBERS = "members";
 
     private final PlainEntity rows;
 

@@ -62,7 +62,7 @@ final class MemberCheck {
     }
 
     private void checkJoinColumns(Member member) {
-        for (JoinColumn column : member.annotated().getAnnotationsByType(JoinColumn.class)) {
+        for (JoinColumn column : Repeated.of(member.annotated(), JoinColumn.class)) {
             if (!column.insertable() || !column.updatable()) {
                 faults.add(member, "a relation whose column isn't written isn't kept",
                         "Let the relation be written, and the attribute beside it be insertable = false and"
@@ -93,12 +93,12 @@ final class MemberCheck {
     /** By annotation the first attribute that it names, and that isn't there. */
     private static Map<String, String> unknown(AnnotatedElement element, Set<String> paths) {
         Map<String, String> unknown = new LinkedHashMap<>();
-        for (AttributeOverride override : element.getAnnotationsByType(AttributeOverride.class)) {
+        for (AttributeOverride override : Repeated.of(element, AttributeOverride.class)) {
             if (!paths.contains(override.name())) {
                 unknown.putIfAbsent("@AttributeOverride", override.name());
             }
         }
-        for (Convert convert : element.getAnnotationsByType(Convert.class)) {
+        for (Convert convert : Repeated.of(element, Convert.class)) {
             if (!paths.contains(convert.attributeName())) {
                 unknown.putIfAbsent("@Convert", convert.attributeName());
             }

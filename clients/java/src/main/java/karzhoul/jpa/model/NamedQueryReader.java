@@ -21,7 +21,7 @@ final class NamedQueryReader {
         Map<String, UnitModel.Named> all = new HashMap<>();
         Map<String, Class<?>> places = new HashMap<>();
         for (Class<?> javaClass : withSuperclasses(classes)) {
-            for (NamedQuery query : javaClass.getDeclaredAnnotationsByType(NamedQuery.class)) {
+            for (NamedQuery query : Repeated.of(javaClass, NamedQuery.class)) {
                 Map<String, Object> hints = new LinkedHashMap<>();
                 for (QueryHint hint : query.hints()) {
                     hints.put(hint.name(), hint.value());

@@ -79,7 +79,7 @@ final class RelationReader {
             return Optional.empty();
         }
         boolean isNeeded = isRequired || kind != Kind.ONE_TO_MANY && kind != Kind.MANY_TO_MANY && mappedBy.isEmpty()
-                && Arrays.stream(member.annotated().getAnnotationsByType(JoinColumn.class))
+                && Arrays.stream(Repeated.of(member.annotated(), JoinColumn.class))
                         .anyMatch(it -> !it.nullable());
         return Optional.of(new PlainRelation.Said(member, target, mappedBy, kind, container, cascades(cascade),
                 removesOrphans,
@@ -143,7 +143,7 @@ final class RelationReader {
         JoinTable joinTable = override.map(AssociationOverride::joinTable).filter(it -> !it.name().isEmpty())
                 .or(() -> member.find(JoinTable.class)).orElse(null);
         JoinColumn[] columns = override.map(AssociationOverride::joinColumns).filter(it -> it.length > 0)
-                .orElseGet(() -> member.annotated().getAnnotationsByType(JoinColumn.class));
+                .orElseGet(() -> Repeated.of(member.annotated(), JoinColumn.class));
         if (columns.length == 0 && joinTable != null) {
             columns = joinTable.inverseJoinColumns();
         }

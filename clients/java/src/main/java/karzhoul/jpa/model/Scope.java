@@ -20,18 +20,18 @@ import java.util.function.Predicate;
 record Scope(Scope outer, String prefix, AnnotatedElement element) {
     Optional<Column> column(String path) {
         return inOuter(path, Scope::column)
-                .or(() -> first(element.getAnnotationsByType(AttributeOverride.class), it -> it.name().equals(path))
+                .or(() -> first(Repeated.of(element, AttributeOverride.class), it -> it.name().equals(path))
                         .map(AttributeOverride::column));
     }
 
     Optional<AssociationOverride> association(String path) {
         return inOuter(path, Scope::association)
-                .or(() -> first(element.getAnnotationsByType(AssociationOverride.class), it -> it.name().equals(path)));
+                .or(() -> first(Repeated.of(element, AssociationOverride.class), it -> it.name().equals(path)));
     }
 
     Optional<Convert> convert(String path) {
         return inOuter(path, Scope::convert)
-                .or(() -> first(element.getAnnotationsByType(Convert.class), it -> it.attributeName().equals(path)));
+                .or(() -> first(Repeated.of(element, Convert.class), it -> it.attributeName().equals(path)));
     }
 
     private <A> Optional<A> inOuter(String path, BiFunction<Scope, String, Optional<A>> find) {

@@ -3,7 +3,6 @@ package karzhoul.jpa.model;
 import jakarta.persistence.JoinColumn;
 import jakarta.persistence.SecondaryTable;
 import jakarta.persistence.Table;
-import jakarta.persistence.UniqueConstraint;
 import java.util.ArrayList;
 import java.util.Comparator;
 import java.util.HashSet;
@@ -49,9 +48,11 @@ final class UniqueReader {
             }
         }
         for (PlainRelation relation : entity.ownRelations()) {
-            if (isUnique(relation)) {
+            TableConstraints tables = new TableConstraints(faults, entity, relation);
+            if (tables.ofJoinTable() || isUnique(relation)) {
                 add(List.of(found(entity, relation)));
             }
+            tables.ofCollectionTable((rows, columns) -> ofConstraint(rows, columns, ""));
         }
         if (entity.above() == null && entity.key().parts().size() > 1) {
             for (Attribute part : entity.key().parts()) {
@@ -68,7 +69,7 @@ final class UniqueReader {
             return false;
         }
         Member member = relation.said().declared();
-        JoinColumn[] columns = member.annotated().getAnnotationsByType(JoinColumn.class);
+        JoinColumn[] columns = Repeated.of(member.annotated(), JoinColumn.class);
         boolean isAny = false;
         for (JoinColumn column : columns) {
             isAny |= column.unique();
@@ -83,27 +84,27 @@ final class UniqueReader {
     private void ofTables(PlainEntity entity) {
         Table table = entity.javaClass().getAnnotation(Table.class);
         if (table != null) {
-            for (UniqueConstraint constraint : table.uniqueConstraints()) {
-                ofConstraint(entity, constraint, "");
+            for (List<String> columns : TableConstraints.of(table.uniqueConstraints(), table.indexes())) {
+                ofConstraint(entity, columns, "");
             }
         }
-        for (SecondaryTable secondary : entity.javaClass().getAnnotationsByType(SecondaryTable.class)) {
-            for (UniqueConstraint constraint : secondary.uniqueConstraints()) {
-                ofConstraint(entity, constraint, secondary.name() + ".");
+        for (SecondaryTable secondary : Repeated.of(entity.javaClass(), SecondaryTable.class)) {
+            for (List<String> columns : TableConstraints.of(secondary.uniqueConstraints(), secondary.indexes())) {
+                ofConstraint(entity, columns, secondary.name() + ".");
             }
         }
     }
 
-    private void ofConstraint(PlainEntity entity, UniqueConstraint constraint, String before) {
+    private void ofConstraint(PlainEntity entity, List<String> columns, String before) {
         List<Found> found = new ArrayList<>();
         Set<String> names = new HashSet<>();
-        for (String name : constraint.columnNames()) {
+        for (String name : columns) {
             names.add((before + name).toLowerCase(Locale.ROOT));
         }
-        for (String name : constraint.columnNames()) {
+        for (String name : columns) {
             Optional<Found> part = find(entity, before + name, names);
             if (part.isEmpty()) {
-                faults.add(entity.javaClass(), "@UniqueConstraint names the column \"" + name
+                faults.add(entity.declaredAt(), "@UniqueConstraint names the column \"" + name
                         + "\", which it doesn't have, or has only beside others that aren't named",
                         "Name columns of its attributes, and all columns of a relation to one");
                 return;

@@ -5,6 +5,7 @@ import jakarta.persistence.LockModeType;
 import java.util.List;
 import karzhoul.jpa.graph.RootGraph;
 import karzhoul.jpa.model.EntityModel;
+import karzhoul.jpa.model.ListOrder;
 import karzhoul.jpa.model.Relation;
 import karzhoul.jpa.model.Unique;
 import karzhoul.jpa.model.UnitModel;
@@ -66,6 +67,9 @@ public interface Asking {
      * @throws jakarta.persistence.PersistenceException where two objects would have one value; the transaction is marked
      */
     void moved(List<Moved> all);
+
+    /** Lets the orders of a list go with their owners, each by its key in one text. */
+    void ordersGone(ListOrder order, List<String> owners);
 
     /** A parameter: a name (a text) or a number, and its value. */
     record Parameter(Object name, Object value) {}

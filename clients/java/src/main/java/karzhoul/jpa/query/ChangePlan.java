@@ -24,9 +24,10 @@ record ChangePlan(Texts whole, ByKeys byKeys, Inexact.Instead<ByKeys> instead, L
      * @param text what changes them
      * @param check a SELECT that counts objects whose new values are beyond their type, or null
      * @param rows those of collections of values, which go with what is deleted
+     * @param orders those of lists of entities, which go likewise
      * @param uniques the unique values that it moves
      */
-    record Texts(Text text, Text check, List<RowsGone> rows, List<UniquesMoved> uniques) {
+    record Texts(Text text, Text check, List<RowsGone> rows, List<OrdersGone> orders, List<UniquesMoved> uniques) {
         private void check(Binding binding) {
             if (check == null) {
                 return;
@@ -48,12 +49,16 @@ record ChangePlan(Texts whole, ByKeys byKeys, Inexact.Instead<ByKeys> instead, L
                 gone.add(each.found(binding));
                 before.addAll(UniquesMoved.of(each.entity(), binding, gone.get(gone.size() - 1)));
             }
+            List<List<String>> owners = orders.stream().map(each -> each.owners(binding)).toList();
             binding.clear();
             String written = text.written(binding);
             binding.checkLength(written);
             int done = binding.asking.update(written, binding.parameters());
             for (int i = 0; i < gone.size(); i++) {
                 rows.get(i).delete(binding, gone.get(i));
+            }
+            for (int i = 0; i < owners.size(); i++) {
+                binding.asking.ordersGone(orders.get(i).order(), owners.get(i));
             }
             if (!before.isEmpty()) {
                 binding.asking.moved(before.stream().flatMap(each -> each.after(binding).stream()).toList());

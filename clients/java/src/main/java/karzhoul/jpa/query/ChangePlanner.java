@@ -59,7 +59,7 @@ final class ChangePlanner {
         String name = writer.names.of(range.variable());
         EntityModel entity = range.variable().entity;
         return where -> new Texts(Text.of("DELETE FROM " + of).add(where), null, RowsGone.of(entity, name, where),
-                UniquesMoved.of(entity, name, where, unique -> true));
+                OrdersGone.of(entity, name, where), UniquesMoved.of(entity, name, where, unique -> true));
     }
 
     private Function<Text, Texts> updating(Update update) {
@@ -77,7 +77,7 @@ final class ChangePlanner {
         return where -> new Texts(Text.of("UPDATE " + range + " SET ").add(set).add(where),
                 beyond == null ? null : Text.of("SELECT COUNT(" + name + ") FROM " + range).add(where)
                         .add(where.isEmpty() ? " WHERE (" : " AND (").add(beyond).add(")"), List.of(),
-                UniquesMoved.of(update.range().variable().entity, name, where, unique -> unique.parts().stream()
+                List.of(), UniquesMoved.of(update.range().variable().entity, name, where, unique -> unique.parts().stream()
                         .anyMatch(part -> changed.contains(part.attribute()) || changed.contains(part.relation()))));
     }
 

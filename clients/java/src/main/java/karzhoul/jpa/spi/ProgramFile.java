@@ -15,7 +15,10 @@ import java.util.Optional;
 import karzhoul.jpa.model.Fault;
 
 /** The program: the one that a unit names, or the one in the JAR, which is unpacked once and checked by its sum. */
-final class ProgramFile {
+public final class ProgramFile {
+    /** The property that names a program, of a unit or of the JVM. */
+    public static final String PROPERTY = Settings.PROGRAM;
+
     static final String RESOURCE = "/karzhoul/jpa/program/jpa";
     static final String SUM = RESOURCE + ".sha256";
     private static final String REMEDY = "Name a program with " + Settings.PROGRAM;
@@ -23,14 +26,19 @@ final class ProgramFile {
     private final String place;
     private final List<Fault> faults;
 
-    /** @param place of what unit the program is, for words */
-    ProgramFile(String place, List<Fault> faults) {
+    /**
+     * One that wasn't looked for yet.
+     *
+     * @param place of what unit the program is, for words
+     * @param faults is given what is wrong with it
+     */
+    public ProgramFile(String place, List<Fault> faults) {
         this.place = place;
         this.faults = faults;
     }
 
     /** The program's path; null where there is none, which is told then. */
-    String find(Optional<String> named) {
+    public String find(Optional<String> named) {
         if (named.isEmpty()) {
             return unpack();
         }

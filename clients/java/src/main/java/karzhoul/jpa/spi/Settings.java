@@ -5,6 +5,7 @@ import java.util.List;
 import java.util.Map;
 import java.util.Optional;
 import java.util.function.Consumer;
+import karzhoul.jpa.engine.Program;
 import karzhoul.jpa.model.Fault;
 
 /** Reads the properties of a unit (chapters 8.2.1.9 and 9.6), and collects what is wrong with them. */
@@ -96,6 +97,13 @@ final class Settings {
         if (action != null && action.toString().contains("drop")) {
             tell(SCHEMA_ACTION + " is " + action + ", and nothing is dropped",
                     "Delete the store's file, or use karzhoul:memory");
+        }
+    }
+
+    void checkAdopt() {
+        Object adopt = properties.getOrDefault(Program.ADOPT, "false");
+        if (!adopt.toString().equals("true") && !adopt.toString().equals("false")) {
+            tell(Program.ADOPT + " is " + adopt, "Write true or false");
         }
     }
 

@@ -49,6 +49,7 @@ final class UnitReader {
         Settings settings = new Settings(place, properties, faults);
         String url = settings.url();
         settings.checkSchema();
+        settings.checkAdopt();
         checkDeclared();
         var wait = settings.poolWait();
         var log = settings.log();

@@ -23,6 +23,8 @@ import java.util.ArrayList;
 import java.util.Collections;
 import java.util.List;
 import java.util.Random;
+import java.util.Set;
+import java.util.TreeSet;
 import java.util.function.Consumer;
 import java.util.function.Function;
 import karzhoul.jpa.model.EntityModel;
@@ -90,12 +92,32 @@ class OrderedListsTest {
         List<Sheet> sheets = new ArrayList<>();
     }
 
+    @Entity
+    static class Box {
+        @Id int number;
+        @OneToMany(mappedBy = "box") @OrderColumn
+        List<Leaf> leaves = new ArrayList<>();
+    }
+
+    @Entity
+    static class Crate extends Box {
+        @ManyToMany @OrderColumn
+        List<Sheet> sheets = new ArrayList<>();
+    }
+
+    @Entity
+    static class Leaf {
+        @Id int number;
+        @ManyToOne Box box;
+    }
+
     @TempDir Path folder;
     private Factory factory;
 
     @BeforeEach
     void open() {
-        factory = Units.over("karzhoul:memory", Album.class, Song.class, Sheet.class);
+        factory = Units.over("karzhoul:memory", Album.class, Song.class, Sheet.class,
+            Box.class, Crate.class, Leaf.class);
     }
 
     @AfterEach
@@ -139,15 +161,15 @@ class OrderedListsTest {
         Context context = new Context(factory);
         long rows = context.within(() -> {
             long sum = 0;
+            Set<String> orders = new TreeSet<>();
             for (EntityModel entity : factory.unit().entities()) {
-                for (Relation relation : entity.relations()) {
-                    if (relation.listOrder().isPresent()) {
-                        int from = context.queue().count();
-                        String text = "SELECT COUNT(o) FROM " + relation.listOrder().get().mappedName() + " o";
-                        context.queue().statement("query", context.manager(), text, List.of(), null, null);
-                        sum += (Long) context.ask(from)[0].list().get(0);
-                    }
-                }
+                entity.relations().forEach(relation -> relation.listOrder().ifPresent(it -> orders.add(it.mappedName())));
+            }
+            for (String order : orders) {
+                int from = context.queue().count();
+                String text = "SELECT COUNT(o) FROM " + order + " o";
+                context.queue().statement("query", context.manager(), text, List.of(), null, null);
+                sum += (Long) context.ask(from)[0].list().get(0);
             }
             return sum;
         });
@@ -392,6 +414,53 @@ class OrderedListsTest {
                     manager.close();
                 }
             }
+        }
+    }
+
+    /** A DELETE of owners takes the orders along: who comes again by the same key has none. */
+    @Test
+    void aDeletedOwnerLeavesNoOrder() {
+        for (String delete : List.of("DELETE FROM Box b WHERE b.number = 1", "DELETE FROM Box b WHERE SQRT(b.number) = 1",
+                "DELETE FROM Crate c")) {
+            commit(manager -> {
+                Crate box = new Crate();
+                box.number = 1;
+                manager.persist(box);
+                for (int number : new int[] {3, 1, 2}) {
+                    Leaf leaf = new Leaf();
+                    leaf.number = number;
+                    leaf.box = box;
+                    manager.persist(leaf);
+                    box.leaves.add(leaf);
+                    box.sheets.add(manager.merge(new Sheet("s" + number)));
+                }
+            });
+            assertEquals(List.of(3, 1, 2), leaves());
+            assertEquals(2, rows());
+            commit(manager -> {
+                manager.createQuery("UPDATE Leaf l SET l.box = NULL").executeUpdate();
+                manager.find(Crate.class, 1).sheets.clear();
+                manager.flush();
+                assertEquals(1, manager.createQuery(delete).executeUpdate());
+            });
+            assertEquals(0, rows());
+            commit(manager -> {
+                Crate again = new Crate();
+                again.number = 1;
+                manager.persist(again);
+                manager.createQuery("SELECT l FROM Leaf l", Leaf.class).getResultList().forEach(leaf -> leaf.box = again);
+            });
+            assertEquals(List.of(1, 2, 3), leaves());
+            commit(manager -> {
+                manager.createQuery("DELETE FROM Leaf l").executeUpdate();
+                manager.remove(manager.find(Box.class, 1));
+            });
+        }
+    }
+
+    private List<Integer> leaves() {
+        try (EntityManager manager = factory.createEntityManager()) {
+            return manager.find(Box.class, 1).leaves.stream().map(leaf -> leaf.number).toList();
         }
     }
 }

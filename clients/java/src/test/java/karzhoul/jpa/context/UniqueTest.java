@@ -6,18 +6,28 @@ import static org.junit.jupiter.api.Assertions.assertNull;
 import static org.junit.jupiter.api.Assertions.assertThrows;
 import static org.junit.jupiter.api.Assertions.assertTrue;
 
+import jakarta.persistence.CollectionTable;
 import jakarta.persistence.Column;
 import jakarta.persistence.ElementCollection;
 import jakarta.persistence.Embeddable;
 import jakarta.persistence.EmbeddedId;
 import jakarta.persistence.Entity;
 import jakarta.persistence.EntityManager;
+import jakarta.persistence.Id;
+import jakarta.persistence.Index;
+import jakarta.persistence.JoinColumn;
+import jakarta.persistence.JoinTable;
+import jakarta.persistence.ManyToMany;
+import jakarta.persistence.ManyToOne;
 import jakarta.persistence.PersistenceException;
 import jakarta.persistence.RollbackException;
 import jakarta.persistence.SecondaryTable;
+import jakarta.persistence.Table;
 import jakarta.persistence.UniqueConstraint;
 import java.util.ArrayList;
+import java.util.HashSet;
 import java.util.List;
+import java.util.Set;
 import java.util.concurrent.ExecutorService;
 import java.util.concurrent.Executors;
 import java.util.concurrent.TimeUnit;
@@ -441,6 +451,64 @@ class UniqueTest {
         commit(manager -> manager.createQuery("DELETE FROM Shelf s WHERE s.spot.number = 1").executeUpdate());
         assertEquals(3, rows());
         store(new Shelf(1, "b", "x", "c1", "c3"));
+    }
+
+    @Entity
+    @Table(indexes = {@Index(columnList = "line DESC, side", unique = true), @Index(columnList = "side")})
+    static class Rack {
+        @Id int number;
+        int line;
+        String side;
+        @ElementCollection
+        @CollectionTable(name = "rack_codes", uniqueConstraints = @UniqueConstraint(columnNames = "code"))
+        @Column(name = "code")
+        List<String> codes = new ArrayList<>();
+        @ElementCollection
+        @CollectionTable(name = "rack_tags", joinColumns = @JoinColumn(name = "rack"),
+            uniqueConstraints = @UniqueConstraint(columnNames = {"rack", "tag"}))
+        @Column(name = "tag")
+        Set<String> tags = new HashSet<>();
+        @ManyToOne
+        @JoinTable(name = "rack_above", joinColumns = @JoinColumn(name = "rack"), inverseJoinColumns = @JoinColumn(name = "above"),
+            uniqueConstraints = {@UniqueConstraint(columnNames = "above"), @UniqueConstraint(columnNames = "rack")})
+        Rack above;
+        @ManyToMany
+        @JoinTable(name = "rack_next", joinColumns = @JoinColumn(name = "one"), inverseJoinColumns = @JoinColumn(name = "other"),
+            indexes = @Index(columnList = "other, one", unique = true))
+        List<Rack> next = new ArrayList<>();
+
+        Rack() {}
+
+        Rack(int number, int line, String side, String... codes) {
+            this.number = number;
+            this.line = line;
+            this.side = side;
+            this.codes.addAll(List.of(codes));
+            this.tags.add("tag");
+        }
+    }
+
+    /** Constraints of the tables of collections and relations, and unique indexes (chapters 11.1.8, 11.1.23 and 11.1.27). */
+    @Test
+    void tablesOfCollectionsAndRelations() {
+        factory.close();
+        factory = Units.over("karzhoul:memory", Rack.class);
+        Rack first = new Rack(1, 1, "left", "c1", "c2");
+        Rack second = new Rack(2, 1, "right", "c3");
+        second.above = first;
+        second.next.addAll(List.of(first, second));
+        first.next.add(first);
+        store(first, second);
+        assertTrue(refused(manager -> manager.persist(new Rack(3, 1, "left")))
+            .contains("Rack 3: it would have the line 1 and the side left of Rack 1, and they are unique together"));
+        assertTrue(refused(manager -> manager.persist(new Rack(3, 2, "left", "c2")))
+            .contains("Rack 3.codes: it would have the element c2 of Rack 1.codes, and that is unique"));
+        assertTrue(refused(manager -> {
+            Rack third = new Rack(3, 2, "left");
+            third.above = manager.find(Rack.class, 1);
+            manager.persist(third);
+        }).contains("Rack 3: it would have the above 1 of Rack 2, and that is unique"));
+        store(new Rack(3, 2, "left", "c4"));
     }
 
     @Test

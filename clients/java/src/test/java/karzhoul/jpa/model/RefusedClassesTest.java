@@ -26,6 +26,7 @@ import jakarta.persistence.Id;
 import jakarta.persistence.IdClass;
 import jakarta.persistence.JoinColumn;
 import jakarta.persistence.JoinColumns;
+import jakarta.persistence.JoinTable;
 import jakarta.persistence.ManyToOne;
 import jakarta.persistence.MapKey;
 import jakarta.persistence.MapKeyColumn;
@@ -85,6 +86,17 @@ class RefusedClassesTest {
     @Entity @Table(uniqueConstraints = @UniqueConstraint(columnNames = {"a", "c"})) static class UniqueOfNone { @Id int id; int a; }
     @Entity @Table(uniqueConstraints = @UniqueConstraint(columnNames = {"a", "b", "c", "d", "e"}))
     static class UniqueOfFive { @Id int id; int a; int b; int c; int d; int e; }
+    @Entity static class JoinedUniquely {
+        @Id int id;
+        @OneToMany @JoinTable(name = "kept", inverseJoinColumns = @JoinColumn(name = "good"),
+                uniqueConstraints = @UniqueConstraint(columnNames = "good"))
+        List<Good> goods;
+    }
+    @Entity static class CollectedUniquely {
+        @Id int id;
+        @ElementCollection @CollectionTable(uniqueConstraints = @UniqueConstraint(columnNames = {"CollectedUniquely_id", "names"}))
+        List<String> names;
+    }
     @Entity static class UniqueMap { @Id int id; @Column(unique = true) java.util.HashMap<String, String> names; }
     @Entity @Table(uniqueConstraints = @UniqueConstraint(columnNames = {"left", "right"})) static class Trunk { @Id int id; }
     @Entity static class LeftBough extends Trunk { int left; }
@@ -235,6 +247,12 @@ class RefusedClassesTest {
                 row("UniqueOfNone", "@UniqueConstraint names the column \"c\", which it doesn't have, or has only beside others that "
                         + "aren't named", "Name columns of its attributes, and all columns of a relation to one", UniqueOfNone.class),
                 row("UniqueOfFive.a", "a unique constraint of 5 columns isn't kept", "Let it have at most 4", UniqueOfFive.class),
+                row("JoinedUniquely.goods", "a unique constraint of its join table isn't kept: it is of [good], and a pair of "
+                        + "[joineduniquely_id] and [good] is kept once",
+                        "Leave it out, or make the table an entity with the constraint", JoinedUniquely.class, Good.class),
+                row("CollectedUniquely.names", "a unique constraint of its collection table isn't kept: it is of "
+                        + "[CollectedUniquely_id, names], where [collecteduniquely_id] is the owner",
+                        "Declare a Set of basic values, or make the elements entities", CollectedUniquely.class),
                 row("UniqueMap.names", "what is kept as Java writes it isn't unique", "Use a number, a String, a date or an enum",
                         UniqueMap.class),
                 row("LeftBough", "a unique constraint is of columns of classes beside each other",

@@ -220,6 +220,14 @@ class UnitsTest {
     }
 
     @Test
+    void adoptIsTrueOrFalse() throws IOException {
+        units(unit("mine", PROVIDER + LISTED, URL_PROPERTY, property("karzhoul.adopt", "yes")));
+        RefusedUnit refused = assertThrows(RefusedUnit.class, () -> Units.find("mine", null));
+        assertEquals(List.of("karzhoul.adopt is yes"), refused.faults().stream().map(Fault::what).toList());
+        assertTrue(Units.find("mine", Map.of("karzhoul.adopt", "false")).isPresent());
+    }
+
+    @Test
     void aUnitOfNothing() throws IOException {
         units(unit("empty", PROVIDER + "<mapping-file>META-INF/more.xml</mapping-file><exclude-unlisted-classes/>"));
         RefusedUnit refused = assertThrows(RefusedUnit.class, () -> Units.find("empty", null));

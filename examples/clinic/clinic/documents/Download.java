@@ -1,0 +1,4 @@
+package clinic.documents;
+
+/** A document with what is in it. */
+public record Download(String name, String type, byte[] content) {}

@@ -1,0 +1,4 @@
+package clinic.users;
+
+/** What somebody signs in with. */
+public record Credentials(String login, String password) {}

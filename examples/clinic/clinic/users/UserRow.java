@@ -1,0 +1,4 @@
+package clinic.users;
+
+/** A user in a list, and in a session. */
+public record UserRow(String login, Role role) {}

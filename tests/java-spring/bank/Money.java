@@ -1,0 +1,9 @@
+package bank;
+
+import javax.persistence.Embeddable;
+
+@Embeddable
+public class Money {
+    long amount;
+    String currency = "CHF";
+}
