@@ -4,21 +4,21 @@
 from __future__ import annotations
 
 import argparse
-import datetime
 import sys
+from datetime import date
 from pathlib import Path
 from typing import Any, Callable, Dict, List, Optional, Tuple
 
 # In a clone of the repository karzhoul needn't be installed.
 sys.path.insert(1, str(Path(__file__).resolve().parents[2] / "clients" / "python"))
 
+import entities  # noqa: E402
 import imports  # noqa: E402
 import karzhoul  # noqa: E402
 import orders  # noqa: E402
 import reports  # noqa: E402
 import samples  # noqa: E402
 
-MAPPING = Path(__file__).resolve().with_name("mapping.json")
 Command = Callable[[karzhoul.EntityManager, argparse.Namespace], str]
 
 
@@ -30,22 +30,21 @@ def main(words: Optional[List[str]] = None) -> int:
             samples.write_samples(given.folder, given.products, given.customers)
         else:
             print(_run(given))
-    except (orders.DeskError, karzhoul.KarzhoulError) as refused:
+    except (orders.DeskError, karzhoul.KarzhoulError, karzhoul.WrongValue) as refused:
         print(f"desk: {refused}", file=sys.stderr)
         return 1
     return 0
 
 
 def _run(given: argparse.Namespace) -> str:
-    with karzhoul.open(MAPPING, given.db) as app:
+    with karzhoul.open(entities, given.db) as app:
         if given.events:
             app.listen(_tell)
         return COMMANDS[given.command](app.create_entity_manager(), given)
 
 
 def _tell(event: karzhoul.Event) -> None:
-    ran = f", which ran {' '.join(event.ran)}" if event.ran else ""
-    print(f"{event.kind.value} of {type(event.object).__name__}{ran}", file=sys.stderr)
+    print(f"{event.kind.value} of {type(event.object).__name__}", file=sys.stderr)
 
 
 # ---- the commands
@@ -61,20 +60,17 @@ def _import(manager: karzhoul.EntityManager, given: argparse.Namespace) -> str:
 
 def _place(manager: karzhoul.EntityManager, given: argparse.Namespace) -> str:
     order = orders.place_order(manager, given.customer, given.wanted, given.day)
-    return f"order {order.id} is placed: {reports.money(orders.total_of(order))}"
+    return f"order {order.id} is placed: {order.total:.2f}"
 
 
 def _change(manager: karzhoul.EntityManager, given: argparse.Namespace) -> str:
     order = orders.change_order(manager, given.order, given.wanted)
-    return f"order {order.id} is changed: {reports.money(orders.total_of(order))}"
+    return f"order {order.id} is changed: {order.total:.2f}"
 
 
 def _ship(manager: karzhoul.EntityManager, given: argparse.Namespace) -> str:
     invoice = orders.ship_order(manager, given.order, given.day)
-    return (
-        f"order {given.order} is shipped, with invoice {invoice.number}: "
-        f"{reports.money(invoice.total)}"
-    )
+    return f"order {given.order} is shipped, with invoice {invoice.number}: {invoice.total:.2f}"
 
 
 def _cancel(manager: karzhoul.EntityManager, given: argparse.Namespace) -> str:
@@ -169,14 +165,12 @@ def _add_order_commands(commands: "argparse._SubParsersAction[argparse.ArgumentP
 
 
 def _add_day(parser: argparse.ArgumentParser) -> None:
-    parser.add_argument(
-        "--day", type=_day, default=datetime.date.today().isoformat(), help="YYYY-MM-DD (today)"
-    )
+    parser.add_argument("--day", type=_day, default=date.today(), help="YYYY-MM-DD (today)")
 
 
-def _day(word: str) -> str:
+def _day(word: str) -> date:
     try:
-        return datetime.date.fromisoformat(word).isoformat()
+        return date.fromisoformat(word)
     except ValueError:
         raise argparse.ArgumentTypeError(f"{word!r} is no day: write it as 2026-11-29") from None
 

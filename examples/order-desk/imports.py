@@ -8,12 +8,14 @@ import re
 import sys
 import time
 from contextlib import AbstractContextManager
+from decimal import Decimal
 from pathlib import Path
 from typing import (
     Any, Callable, Dict, Iterator, List, NamedTuple, Sequence, Set, TextIO, Tuple, TypeVar,
 )
 
 import karzhoul
+from entities import Category, Company, Customer, Product
 from karzhoul import EntityManager, EntityManagerFactory
 from orders import DeskError
 
@@ -30,11 +32,11 @@ class CustomerRow(NamedTuple):
 
 
 class ProductRow(NamedTuple):
-    """A product, its price in cents."""
+    """A product."""
 
     sku: str
     name: str
-    price: int
+    price: Decimal
     stock: int
     categories: Tuple[str, ...]
 
@@ -97,7 +99,7 @@ def _customer(cells: Dict[str, str]) -> CustomerRow:
 
 
 def _product(cells: Dict[str, str]) -> ProductRow:
-    price, stock = _cents("price", cells["price"]), _whole("stock", cells["stock"])
+    price, stock = _money("price", cells["price"]), _whole("stock", cells["stock"])
     categories = tuple(dict.fromkeys(filter(None, cells["categories"].split(";"))))
     return ProductRow(
         _text("sku", cells["sku"]), _text("name", cells["name"]), price, stock, categories
@@ -105,7 +107,7 @@ def _product(cells: Dict[str, str]) -> ProductRow:
 
 
 def _text(column: str, cell: str) -> str:
-    if not cell:
+    if not cell.strip():
         raise ValueError(f"{column} is missing")
     return cell
 
@@ -116,10 +118,10 @@ def _whole(column: str, cell: str) -> int:
     return int(cell)
 
 
-def _cents(column: str, cell: str) -> int:
+def _money(column: str, cell: str) -> Decimal:
     if not re.fullmatch(r"[0-9]{1,10}\.[0-9]{2}", cell):
         raise ValueError(f"{column} is to be a sum such as 12.50, and is {cell!r}")
-    return int(cell.replace(".", ""))
+    return Decimal(cell)
 
 
 # ---- storing
@@ -172,49 +174,49 @@ def _store_batch(manager: EntityManager, batch: Sequence[Row], store: Store[Row]
 
 
 def _store_customers(manager: EntityManager, rows: Sequence[CustomerRow]) -> None:
-    customers: List[Any] = manager.find_many("Customer", [row.number for row in rows])
-    for row, customer in zip(rows, customers):
+    for row, customer in zip(rows, manager.find_many(Customer, [row.number for row in rows])):
         if customer is None:
-            customer = manager.factory.new("Company" if row.vat else "Customer", number=row.number)
+            manager.persist(_new_customer(row))
+            continue
         customer.name, customer.city = row.name, row.city
-        if row.vat:
+        if isinstance(customer, Company):
             customer.vat = row.vat
-        manager.persist(customer)
+
+
+def _new_customer(row: CustomerRow) -> Customer:
+    if row.vat:
+        return Company(number=row.number, name=row.name, city=row.city, vat=row.vat)
+    return Customer(number=row.number, name=row.name, city=row.city)
 
 
 def _store_products(manager: EntityManager, rows: Sequence[ProductRow]) -> None:
     app = manager.factory
     categories = _categories(manager, {code for row in rows for code in row.categories})
-    products: List[Any] = manager.find_many("Product", [row.sku for row in rows])
-    found = list(zip(rows, products))
+    found = list(zip(rows, manager.find_many(Product, [row.sku for row in rows])))
     new = [row for row, product in found if product is None]
-    made: List[Any] = app.new_many("Product", [{"sku": row.sku} for row in new])
+    made = app.new_many(Product, [_values(row) for row in new])
     for row, product in zip(new, made):
-        _set_values(product, row)
-        for code in row.categories:
-            product.categories.append(categories[code])
-        manager.persist(product)
+        product.categories.extend(categories[code] for code in row.categories)
+    manager.persist_all(made)
     known = [(row, product) for row, product in found if product is not None]
     members = app.get_many([product for _, product in known], "categories")
     for (row, product), held in zip(known, members):
-        _set_values(product, row)
+        product.name, product.price, product.stock = row.name, row.price, row.stock
         wanted = [categories[code] for code in row.categories]
         if set(wanted) != set(held):
             product.categories = wanted
 
 
-def _set_values(product: Any, row: ProductRow) -> None:
-    product.name, product.price, product.stock = row.name, row.price, row.stock
+def _values(row: ProductRow) -> Dict[str, Any]:
+    return {"sku": row.sku, "name": row.name, "price": row.price, "stock": row.stock}
 
 
-def _categories(manager: EntityManager, codes: Set[str]) -> Dict[str, Any]:
+def _categories(manager: EntityManager, codes: Set[str]) -> Dict[str, Category]:
     """The category of each code. New ones are persisted along with the products that have them."""
     ordered = sorted(codes)
-    Category = manager.factory.entity("Category")
-    found = zip(ordered, manager.find_many(Category, ordered))
     return {
         code: it if it is not None else Category(code=code, title=code.capitalize())
-        for code, it in found
+        for code, it in zip(ordered, manager.find_many(Category, ordered))
     }
 
 

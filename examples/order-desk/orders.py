@@ -3,31 +3,33 @@ handed."""
 
 from __future__ import annotations
 
-from typing import Any, Iterable, Optional, Tuple
+from datetime import date
+from typing import Any, Iterable, Tuple, Type, TypeVar
 
-from karzhoul import EntityManager, LockModeType
+from entities import Customer, Invoice, Order, OrderLine, OrderStatus, Place, Product
+from karzhoul import Entity, EntityManager, LockModeType
 
 Wanted = Iterable[Tuple[str, int]]
 """Products by their SKU, each with a quantity."""
+E = TypeVar("E", bound=Entity)
 
 
 class DeskError(Exception):
     """What the desk doesn't do, in words for its clerk."""
 
 
-def found(manager: EntityManager, entity: str, key: Any) -> Any:
+def found(manager: EntityManager, kind: Type[E], key: Any) -> E:
     """The object of this key; a `DeskError` where there is none."""
-    it = manager.find(entity, key)
+    it = manager.find(kind, key)
     if it is None:
-        raise DeskError(f"there is no {entity.lower()} {key}")
+        raise DeskError(f"there is no {kind.__name__.lower()} {key}")
     return it
 
 
-def place_order(manager: EntityManager, customer: int, wanted: Wanted, day: str) -> Any:
+def place_order(manager: EntityManager, customer: int, wanted: Wanted, day: date) -> Order:
     """Places an order of a customer's for products, and takes them out of the stock."""
-    entity = manager.factory.entity
     with manager.transaction():
-        order = entity("Order")(customer=found(manager, "Customer", customer), day=day)
+        order = Order(customer=found(manager, Customer, customer), day=day)
         # Its id is generated now. The lines, whose keys have it, are persisted along with the
         # order.
         manager.persist(order)
@@ -38,7 +40,7 @@ def place_order(manager: EntityManager, customer: int, wanted: Wanted, day: str)
     return order
 
 
-def change_order(manager: EntityManager, number: int, wanted: Wanted) -> Any:
+def change_order(manager: EntityManager, number: int, wanted: Wanted) -> Order:
     """Sets how much an order takes of products; with a quantity of 0 a line goes."""
     with manager.transaction():
         order = _open_order(manager, number)
@@ -51,20 +53,20 @@ def change_order(manager: EntityManager, number: int, wanted: Wanted) -> Any:
     return order
 
 
-def ship_order(manager: EntityManager, number: int, day: str) -> Any:
+def ship_order(manager: EntityManager, number: int, day: date) -> Invoice:
     """Ships an order, and answers its invoice."""
     with manager.transaction():
         order = _open_order(manager, number)
-        order.status = "shipped"
-        order.invoice = manager.factory.new("Invoice", order=order, day=day, total=total_of(order))
-    return order.invoice
+        order.status = OrderStatus.SHIPPED
+        invoice = order.invoice = Invoice(order=order, day=day, total=order.total)
+    return invoice
 
 
-def cancel_order(manager: EntityManager, number: int) -> Any:
+def cancel_order(manager: EntityManager, number: int) -> Order:
     """Cancels an order, and puts its products back into the stock."""
     with manager.transaction():
         order = _open_order(manager, number)
-        order.status = "cancelled"
+        order.status = OrderStatus.CANCELLED
         for line in order.lines:
             line.product.stock += line.quantity
     return order
@@ -73,35 +75,26 @@ def cancel_order(manager: EntityManager, number: int) -> Any:
 def delete_order(manager: EntityManager, number: int) -> None:
     """Deletes a cancelled order; its lines go with it."""
     with manager.transaction():
-        order = found(manager, "Order", number)
-        if order.status != "cancelled":
-            raise DeskError(f"order {number} is {order.status}: cancel it before it is deleted")
+        order = found(manager, Order, number)
+        if order.status is not OrderStatus.CANCELLED:
+            is_now = order.status.value
+            raise DeskError(f"order {number} is {is_now}: cancel it before it is deleted")
         manager.remove(order)
 
 
-def total_of(order: Any) -> int:
-    """What an order costs, in cents."""
-    return sum(line.quantity * line.price for line in order.lines)
-
-
-def line_of(order: Any, product: Any) -> Optional[Any]:
-    """The line of an order that takes a product, or None."""
-    return next((line for line in order.lines if line.product is product), None)
-
-
-def _open_order(manager: EntityManager, number: int) -> Any:
-    order = found(manager, "Order", number)
-    if order.status != "placed":
-        raise DeskError(f"order {number} is {order.status}, and stays as it is")
+def _open_order(manager: EntityManager, number: int) -> Order:
+    order = found(manager, Order, number)
+    if order.status is not OrderStatus.PLACED:
+        raise DeskError(f"order {number} is {order.status.value}, and stays as it is")
     return order
 
 
-def _set_quantity(manager: EntityManager, order: Any, sku: str, quantity: int) -> None:
+def _set_quantity(manager: EntityManager, order: Order, sku: str, quantity: int) -> None:
     """Has an order take so much of a product, and no more out of the stock than there is."""
     if quantity < 0:
         raise DeskError(f"{quantity} of {sku} can't be ordered")
-    product = found(manager, "Product", sku)
-    line = line_of(order, product)
+    product = found(manager, Product, sku)
+    line = order.line_of(product)
     more = quantity - (line.quantity if line is not None else 0)
     if more > product.stock:
         raise DeskError(f"{sku}: {product.stock} in stock, and {more} more wanted")
@@ -111,11 +104,8 @@ def _set_quantity(manager: EntityManager, order: Any, sku: str, quantity: int) -
     elif line is not None:
         line.quantity = quantity
     elif quantity > 0:
-        _add_line(manager, order, product, quantity)
-
-
-def _add_line(manager: EntityManager, order: Any, product: Any, quantity: int) -> None:
-    line: Any = manager.factory.new("OrderLine", order=order, product=product)
-    line.at = (order.id, max((line.at.line for line in order.lines), default=0) + 1)
-    line.quantity, line.price = quantity, product.price
-    order.lines.append(line)
+        number = max((line.at.line for line in order.lines), default=0) + 1
+        order.lines.append(OrderLine(
+            at=Place(order=order.id, line=number), order=order, product=product, quantity=quantity,
+            price=product.price,
+        ))

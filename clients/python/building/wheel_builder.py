@@ -86,7 +86,7 @@ def build_sdist(sdist_directory: str, config_settings: Settings = None) -> str:
 
 def _modules() -> Dict[str, Path]:
     """The files of the package, by their names from its folder on."""
-    paths = (path for path in (TOP / NAME).rglob("*") if path.suffix in (".py", ".typed"))
+    paths = (path for path in (TOP / NAME).rglob("*") if path.suffix in (".py", ".typed", ".html"))
     return {path.relative_to(TOP).as_posix(): path for path in sorted(paths)}
 
 

@@ -21,16 +21,17 @@ from .classes.fields import (
     one_to_many, one_to_one, typed, validates, version,
 )
 from .classes.values import WrongValue
+from .connecting import connect
 from .entities import Collection, EmbeddedId, Entity, Event
 from .factory import EntityManagerFactory, open
 from .lines import FlushModeType, LifecycleEvent, LockModeType
 from .managers import EntityManager
 from .refusals import (
-    BadLine, Busy, Damaged, EntityExists, EntityNotFound, GivenUp, IllegalArgument, IllegalState,
-    KarzhoulError, Limit, LineLimit, Listener, ManagerLimit, Mapping, NoFreeManager, NoResult,
-    NoSuchManager, NoSuchObject, NonUniqueResult, NotServed, NotUnique, ObjectLimit, OptimisticLock,
-    OutOfMemory, Overflow, Persistence, ProgramEnded, ProgramNotFound, QueryLimit, Refused,
-    Restarted, Rollback, StoreFault, StoreInMemory, TextLimit, TransactionRequired,
+    BadLine, Busy, Damaged, Disconnected, EntityExists, EntityNotFound, GivenUp, IllegalArgument,
+    IllegalState, KarzhoulError, Limit, LineLimit, Listener, ManagerLimit, Mapping, NoFreeManager,
+    NoResult, NoSuchManager, NoSuchObject, NonUniqueResult, NotServed, NotUnique, ObjectLimit,
+    OptimisticLock, OutOfMemory, Overflow, Persistence, ProgramEnded, ProgramNotFound, QueryLimit,
+    Refused, Restarted, Rollback, StoreFault, StoreInMemory, TextLimit, TransactionRequired,
 )
 from .tally import Statistics
 from .transactions import Attempt, EntityTransaction
@@ -42,15 +43,15 @@ __version__ = "0.2.0"
 __all__ = [
     "Attempt", "Embedded", "EmbeddedId", "Entity", "EntityManager", "EntityManagerFactory",
     "EntityTransaction", "Event", "DeclarationError", "NotBroughtOver", "WrongValue", "by_value",
-    "embedded", "field", "generated", "json_text", "key", "many_to_many", "many_to_one", "money",
-    "naive", "one_to_many", "one_to_one", "typed", "validates", "version", "FlushModeType",
+    "connect", "embedded", "field", "generated", "json_text", "key", "many_to_many", "many_to_one",
+    "money", "naive", "one_to_many", "one_to_one", "typed", "validates", "version", "FlushModeType",
     "LifecycleEvent", "LockModeType", "Statistics", "refusals", "BadLine", "Busy", "Damaged",
-    "EntityExists", "EntityNotFound", "GivenUp", "IllegalArgument", "IllegalState", "KarzhoulError",
-    "Limit", "LineLimit", "Listener", "ManagerLimit", "NoFreeManager", "NoResult", "NoSuchManager",
-    "NoSuchObject", "NonUniqueResult", "NotServed", "NotUnique", "ObjectLimit", "OptimisticLock",
-    "OutOfMemory", "Overflow", "Persistence", "ProgramEnded", "ProgramNotFound", "QueryLimit",
-    "Refused", "Restarted", "Rollback", "StoreFault", "StoreInMemory", "TextLimit",
-    "TransactionRequired",
+    "Disconnected", "EntityExists", "EntityNotFound", "GivenUp", "IllegalArgument", "IllegalState",
+    "KarzhoulError", "Limit", "LineLimit", "Listener", "ManagerLimit", "NoFreeManager",
+    "NoResult", "NoSuchManager", "NoSuchObject", "NonUniqueResult", "NotServed", "NotUnique",
+    "ObjectLimit", "OptimisticLock", "OutOfMemory", "Overflow", "Persistence", "ProgramEnded",
+    "ProgramNotFound", "QueryLimit", "Refused", "Restarted", "Rollback", "StoreFault",
+    "StoreInMemory", "TextLimit", "TransactionRequired",
 ]
 if TYPE_CHECKING:
     __all__ += ["Collection", "Mapping", "open"]

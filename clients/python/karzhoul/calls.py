@@ -25,7 +25,7 @@ from .program import Exchange, Program, of_before
 from .refusals import BadLine, IllegalState, KarzhoulError, NotServed, Refused, Restarted
 from .refusing import manager_of
 from .replies import (
-    NULL, are_silent, is_of_reply, is_restart, loaded_in, numbers_of, objects_in, said_of,
+    NULL, are_null, are_silent, is_of_reply, is_restart, loaded_in, numbers_of, objects_in, said_of,
 )
 from .runs import Run
 from .shown import VALUES, Shown
@@ -34,6 +34,8 @@ from .tally import Tally
 # A callback, the event that it is to be told, and the run and the line of the call that told it.
 _Untold = Tuple[Callable[[Event], None], Event, Run, bytes]
 _taken_off: Callable[[Deque[_Untold]], _Untold] = deque.popleft
+# What a server takes for both of a block's first calls.
+_BEGIN = b'{"serve":"begin"}'
 _CREATE, RESTART = line_of("createEntityManager", {}), line_of("restart", {})
 _REPLIES = Program.replies.__code__
 
@@ -244,9 +246,10 @@ class Calls:
             answer: Optional[E] = self._answers(calls)[0]
             return answer
 
-    def ask_manager(self, run: Run) -> int:
-        """Creates a manager, and gives its number. Where that is interrupted, it is `_left`."""
-        calls = _Calls(run, [_CREATE])
+    def ask_manager(self, run: Run, is_begun: bool = False) -> int:
+        """Creates a manager, with its transaction open where that is wished, and gives its number.
+        Where that is interrupted, it is `_left`."""
+        calls = _Calls(run, [_BEGIN if is_begun else _CREATE])
         try:
             with self._lock:
                 while self._calls:  # As in `ask_lines`.
@@ -267,6 +270,16 @@ class Calls:
         if calls.is_left and calls.run is not None:
             for number in re.findall(rb'"ok":([0-9]+)}', b"".join(replies)):
                 self._left.append((calls.run, int(number)))
+
+    def let_go(self, run: Run, line: bytes) -> bool:
+        """Does the call of a line whose reply nobody needs to wait for, where that is of use;
+        whether it was done."""
+        with self._lock:
+            if self._calls or self._callbacks or not self.program.let_go(run, line):
+                return False
+            self._turn += 1
+            self._tally.note([line], NULL, 0.0)
+            return True
 
     def tell(self, run: Optional[Run], line: bytes, *more: bytes) -> None:
         """Does the calls of lines, which answer null; within a pipeline they are kept."""
@@ -457,6 +470,8 @@ class Calls:
             numbers = numbers_of(replies)
             if numbers is not None and (kind is not None or run.are_known(numbers)):
                 return run.objects(numbers, kind)
+        if are_null(replies) and not self._untold:
+            return [None] * len(replies)
         if not self._callbacks and not self.hidden and are_silent(replies):
             return [None] * len(replies)
         if kind is None and not self._callbacks and not self._untold and len(replies) == 1:

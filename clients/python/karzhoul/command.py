@@ -16,6 +16,8 @@ from typing import Any, List, Mapping, Optional, Sequence, Union
 from . import beginnings, carrying, factory, migration, selecting, show, stubs
 from .classes import printing
 from .classes.mapping import FORMS
+from .console import command as browsing
+from .exporting import command as going
 from .finding import find_program
 from .given import WrongMapping, given_of, mapping_data
 from .jpql import LanguageName
@@ -25,6 +27,7 @@ from .opening import why_unopened
 from .refusals import Damaged, KarzhoulError, Misused
 from .refusals import Mapping as MappingRefused
 from .schema import mapping_schema
+from .server import command as serving
 
 _MIGRATE = """With --from it brings a database over from the mapping or the classes that it was
 written with to those of --mapping: each object is read, stored in a new file beside the old one,
@@ -104,6 +107,9 @@ def _parser() -> argparse.ArgumentParser:
     _add_migrate(commands, [common, over, stored])
     _add_shell(commands, [common, over])
     carrying.add_commands(commands, [common, over], stored, _opened_over)
+    going.add_commands(commands, [common, over], stored)
+    serving.add_commands(commands, common, over, stored)
+    browsing.add_command(commands, common)
     told = commands.add_parser(
         "schema", help="print the JSON Schema of mappings, by which editors complete and check them"
     )

@@ -4,7 +4,7 @@ listener hears of it, and a store of any size is read."""
 from __future__ import annotations
 
 import heapq
-from typing import Any, Dict, Iterable, Iterator, List, Mapping, Sequence, Set, Tuple
+from typing import Any, Dict, Iterable, Iterator, List, Mapping, Optional, Sequence, Set, Tuple
 
 from .entities import Entity
 from .factory import EntityManagerFactory
@@ -15,8 +15,8 @@ from .unit import Member, entities_of
 # A query has at most eight variables.
 _LINKS_AT_A_TIME = 7
 _LEAST_PAGE, _MOST_PAGE = 1_000, 50_000
-# How many values a page aims at.
-_VALUES = 200_000
+# How many values a page aims at, and how many of its records tell what the next one may hold.
+_VALUES, _WEIGHED = 200_000, 1_000
 # The keys that are wanted, by class.
 Wanted = Mapping[str, Iterable[Key]]
 
@@ -28,6 +28,8 @@ class Stored:
     def __init__(self, app: EntityManagerFactory) -> None:
         self._app, self._em = app, app.create_entity_manager()
         self.shapes, self.described = shapes_of(app.mapping), entities_of(app.mapping)
+        # How many records the next page of a class has.
+        self._sizes: Dict[str, int] = {}
 
     # ---- keys
 
@@ -76,19 +78,42 @@ class Stored:
         to comes before them as far as that can be, and the keys of a hierarchy rise."""
         for top in tops_in_order(self.shapes):
             each = [self.records(name, list(wanted.get(name, ()))) for name in self._within(top)]
-            yield from heapq.merge(*each, key=lambda record: order_of(record.key or ()))
+            if len(each) == 1:
+                yield from each[0]
+            else:
+                yield from heapq.merge(*each, key=lambda record: order_of(record.key or ()))
 
     def records(self, entity: str, keys: Sequence[Key]) -> Iterator[Record]:
         """The records of objects of this very class, whose keys rise."""
-        shape, size, at = self.shapes[entity], _LEAST_PAGE, 0
+        shape, at = self.shapes[entity], 0
         while at < len(keys):
-            page = keys[at : at + size]
+            page = keys[at : at + self._sizes.get(entity, _LEAST_PAGE)]
             records = list(_Page(shape, self.shapes, self._em.query, page).records.values())
             yield from records
             at += len(page)
             # Each query walks all objects of the class, and each page takes room.
-            weight = sum(map(_weight, records)) // max(1, len(records))
+            some = records[:: max(1, len(records) // _WEIGHED)]
+            weight = sum(map(_weight, some)) // max(1, len(some))
             size = max(_LEAST_PAGE, min(_MOST_PAGE, _VALUES // max(1, weight)))
+            self._sizes[entity] = size
+
+    def walked(self, entity: str) -> Iterator[Record]:
+        """The records of all objects of this very class, whose keys rise. A page of them is held at
+        a time, and of the keys too."""
+        last: Optional[Key] = None
+        while keys := self._keys_behind(self.shapes[entity], last):
+            yield from self.records(entity, keys)
+            last = keys[-1]
+
+    def _keys_behind(self, shape: Shape, last: Optional[Key]) -> List[Key]:
+        parts = ", ".join(f"e.{part.name}" for part in shape.key)
+        text = f"SELECT {parts} FROM {shape.name} e WHERE TYPE(e) = {shape.name}"
+        params: Dict[str, Value] = {}
+        if last is not None:
+            text += f" AND ({_beyond(shape.key, '>', 'a', 0, is_own=False)})"
+            params = {f"a{place}": part for place, part in enumerate(last)}
+        rows = self._em.query(text, params=params, max=_MOST_PAGE)
+        return [tuple(row) if isinstance(row, list) else (row,) for row in rows]
 
     # ---- what is wanted
 
@@ -180,7 +205,7 @@ class _Page:
         text = f"SELECT {', '.join(items)} FROM {shape.name} e{joins}"
         text += f" WHERE TYPE(e) = {shape.name} AND {self._within}"
         for row in self._query(text, params=self._params):
-            values = row if isinstance(row, list) else [row]
+            values = list(row) if isinstance(row, list) else [row]
             yield tuple(values[: len(shape.key)]), values[len(shape.key) :]
 
 
@@ -229,9 +254,12 @@ def _between(parts: Sequence[Member], first: Key, last: Key) -> Tuple[str, Dict[
     return f"({_beyond(parts, '>', 'a', 0)}) AND ({_beyond(parts, '<', 'b', 0)})", params
 
 
-def _beyond(parts: Sequence[Member], sign: str, bound: str, place: int) -> str:
+def _beyond(
+    parts: Sequence[Member], sign: str, bound: str, place: int, is_own: bool = True
+) -> str:
+    """The condition that a key lies on one side of another, or is it where that is its own."""
     name = f"e.{parts[place].name}"
     if place == len(parts) - 1:
-        return f"{name} {sign}= :{bound}{place}"
-    rest = _beyond(parts, sign, bound, place + 1)
+        return f"{name} {sign}{'=' if is_own else ''} :{bound}{place}"
+    rest = _beyond(parts, sign, bound, place + 1, is_own)
     return f"{name} {sign} :{bound}{place} OR ({name} = :{bound}{place} AND ({rest}))"

@@ -113,6 +113,23 @@ class Entity:
         for name, value in values.items():  # Whose names are checked.
             object.__setattr__(self, name, value)
 
+    def _karzhoul_filling(self, values: Mapping[str, Any]) -> Tuple[List[bytes], Dict[str, Any]]:
+        """The lines that give a new object its values, as its constructor does, and what is to be
+        set behind them."""
+        if self._karzhoul_said is not None:
+            from .classes.binding import filling
+
+            return filling(self, values)
+        lines: List[bytes] = []
+        later: Dict[str, Any] = {}
+        for name, value in values.items():
+            attribute = getattr(type(self), name, None)
+            if isinstance(attribute, Attribute) and not attribute.is_viewed:
+                lines += attribute.lines(self, value)
+            else:
+                later[name] = value
+        return lines, later
+
     if TYPE_CHECKING:
         # A type checker doesn't know the members.
         def __getattr__(self, name: str) -> Any: ...

@@ -5,6 +5,7 @@ from __future__ import annotations
 import json
 import os
 import tempfile
+import time
 from contextlib import AbstractContextManager, closing, contextmanager, nullcontext, suppress
 from pathlib import Path
 from types import ModuleType
@@ -27,7 +28,7 @@ from .pausing import MOST_ATTEMPTS
 from .places import Place, Places
 from .program import Program, Words
 from .refusals import (
-    BadLine, KarzhoulError, ProgramEnded, ProgramNotFound, Refused, Restarted, StoreFault,
+    BadLine, KarzhoulError, Limit, ProgramEnded, ProgramNotFound, Refused, Restarted, StoreFault,
 )
 from .refusals import Mapping as MappingRefused
 from .retrying import Retry
@@ -40,6 +41,10 @@ if TYPE_CHECKING:
     from .classes.unique import Uniques
 
 T = TypeVar("T")
+PATIENCE = 10.0
+"""For how many seconds an opening waits for a file that a program of another process has open."""
+# How long between two looks at it.
+_BETWEEN = 0.05
 
 
 def open(
@@ -76,7 +81,7 @@ def open(
         raise ValueError("':memory:' would be a file of that name: leave db out for one in memory")
     if language is not None and language not in LANGUAGES:
         raise ValueError(f"language is \"profile\" or \"wide\", and not {language!r}")
-    if _are_classes(mapping):
+    if are_classes(mapping):
         from .classes.changes import open_classes
 
         def start(said: Mapping[str, Any], binding: Optional[Binding]) -> EntityManagerFactory:
@@ -89,7 +94,7 @@ def open(
     return _opened(said, db, program, echo, threads, wait, language or "profile")
 
 
-def _are_classes(given: object) -> bool:
+def are_classes(given: object) -> bool:
     if isinstance(given, type):
         raise TypeError(f"classes are given in a list, as [{given.__name__}]")
     return isinstance(given, ModuleType) or (
@@ -110,7 +115,7 @@ def _opened(
     try:
         # A restart finds the store again wherever the process has gone.
         place = os.path.abspath(db or "") if store is None else str(store.db)
-        running = _started(word, said, place, store, language)
+        running = started(word, said, place, store, language)
         app = EntityManagerFactory(running, json.loads(said), language, echo, store, binding)
         if threads:
             app._places = Places(app, wait)
@@ -138,10 +143,33 @@ def _said(mapping: Union[Words, Mapping[str, Any]]) -> Tuple[bytes, Tuple[str, .
         return b"", (f"{os.fspath(mapping)} can't be read: {unread.strerror}",)
 
 
-def _started(
+def started(
     program: Words, said: bytes, db: Words, store: Optional[MemoryStore], language: LanguageName
 ) -> Program:
-    """A program that answers calls, over a store; a `StoreFault` says what is in the way."""
+    """A program that answers calls, over a store; a `StoreFault` says what is in the way.
+
+    A file that a program of another process has open is waited for: behind a process that was
+    killed its program still takes a moment to end."""
+    if store is not None:
+        return _started_at_once(program, said, db, store, language)
+    from .opening import Held, held_by
+
+    until, held = time.monotonic() + PATIENCE, Held.BY_OTHERS
+    while True:
+        try:
+            return _started_at_once(program, said, db, store, language)
+        except StoreFault:
+            before, held = held, held_by(Path(db))
+            # It may have become free since, and then is tried once more.
+            if held is Held.BY_OWN or held is before is Held.BY_NOBODY or time.monotonic() > until:
+                raise
+        time.sleep(_BETWEEN)
+
+
+def _started_at_once(
+    program: Words, said: bytes, db: Words, store: Optional[MemoryStore], language: LanguageName
+) -> Program:
+    """A program that answers calls, or a `StoreFault`, without waiting for a file."""
     # The profile is that of a program that is told none, as older ones are.
     told = () if language == "profile" else ("--language", language)
     with _as_file(said) as file:
@@ -194,18 +222,21 @@ class EntityManagerFactory(Calls, AbstractContextManager["EntityManagerFactory"]
     def __init__(
         self, program: Program, mapping: Mapping[str, Any], language: LanguageName,
         echo: bool = False, store: Optional[MemoryStore] = None, binding: Optional[Binding] = None,
+        again: Optional[Callable[[], Program]] = None,
     ) -> None:
-        """With the language of its queries, the store, where it is in memory, and the classes that
-        a user wrote."""
+        """With the language of its queries, the store, where it is in memory, the classes that a
+        user wrote, and what gives a program in the place of one that has ended, where it isn't to
+        be started over its file."""
         super().__init__(mapping, classes_of(self, mapping, binding), echo)
         self.language = language
         self.binding = binding
         # What it does to queries, where it has classes, and what is unique of these.
         self.conversions: Optional[Conversions] = None
         self.uniques: Optional[Uniques] = None
-        self._store = store
-        # Where it is opened for threads.
+        self._store, self._again = store, again
+        # Where it is opened for threads; and how long a manager of a server is waited for.
         self._places: Optional[Places] = None
+        self._wait: Optional[float] = None
         self._begin_run(program)
 
     def _begin_run(self, program: Program) -> None:
@@ -300,12 +331,15 @@ class EntityManagerFactory(Calls, AbstractContextManager["EntityManagerFactory"]
         commit has stored are given again."""
         with self._lock:
             self._refuse_within()
-            program, *_, db = self.program.words
             self.program.close()
             self._calls = None
-            said = json.dumps(self.mapping).encode()
-            self._begin_run(_started(program, said, db, self._store, self.language))
+            self._begin_run((self._again or self._started_again)())
             self._ask_indexes()
+
+    def _started_again(self) -> Program:
+        program, *_, db = self.program.words
+        said = json.dumps(self.mapping).encode()
+        return started(program, said, db, self._store, self.language)
 
     @overload
     def entity(self, name: str) -> Type[Entity]: ...
@@ -357,12 +391,18 @@ class EntityManagerFactory(Calls, AbstractContextManager["EntityManagerFactory"]
         while True:
             run = self._run
             try:
-                number = self.ask_manager(run)
+                is_begun = place.is_block and self.program.begins
+                number = self.ask_manager(run, is_begun)
                 place.run, place.number = run, number  # First, so that it isn't left open.
                 run.managers = number
-                return EntityManager(run, number, place)
+                return EntityManager(run, number, place, is_begun)
             except Restarted:  # While it waited.
                 if run is self._run:
+                    raise
+            except Limit:  # Of managers.
+                # Of a server's managers others may have some. (Who waits holds no lock.)
+                wait = 0.0 if self._is_ahead() else self._wait
+                if not self.program.turn(wait):
                     raise
 
     def _close_left(self) -> None:
@@ -419,9 +459,7 @@ class EntityManagerFactory(Calls, AbstractContextManager["EntityManagerFactory"]
         """Why a commit can't be written, as far as that can be told."""
         if self._store is not None:
             return room_words(self._store.folder)
-        from .opening import why_unwritten
-
-        return why_unwritten(Path(self.program.words[-1]), self.program.pid)
+        return self.program.why_unwritten()
 
     def statistics(self) -> Statistics:
         """How many calls there were of each name, how long they took, what was refused, and how
@@ -449,22 +487,25 @@ class EntityManagerFactory(Calls, AbstractContextManager["EntityManagerFactory"]
     def new_many(
         self, entity: Union[str, Type[Entity]], rows: Iterable[Mapping[str, Any]]
     ) -> List[Any]:
-        """A new object for each row of values, sent without waiting for each."""
+        """A new object for each row of values, as its constructor makes it, sent without waiting
+        for each."""
         rows, kind = list(rows), entity_named(self._classes, entity)
+        if kind.__init__ is not Entity.__init__:
+            with self.pipeline():
+                return [kind(**row) for row in rows]
         check_names(kind, dict.fromkeys(name for row in rows for name in row))
         with self.pipeline():
             made = self.ask_lines(None, [kind._karzhoul_line] * len(rows), kind.__name__)
             run = made[0]._karzhoul_run if made else None
             lines: List[bytes] = []
             for each, row in zip(made, rows):
-                for member, value in row.items():
-                    attribute = getattr(kind, member, None)
-                    if isinstance(attribute, Attribute) and not attribute.is_viewed:
-                        lines += attribute.lines(each, value)
-                    else:
-                        self.tell_all(run, lines)
-                        lines = []
-                        setattr(each, member, value)
+                own, later = each._karzhoul_filling(row)
+                lines += own
+                if later:
+                    self.tell_all(run, lines)
+                    lines = []
+                for name, value in later.items():
+                    setattr(each, name, value)
             self.tell_all(run, lines)
         return made
 

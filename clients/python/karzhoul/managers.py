@@ -44,13 +44,14 @@ class EntityManager(Queries, AbstractContextManager["EntityManager"]):
     """A manager of objects, whose context lasts over its commits.
     `EntityManagerFactory.create_entity_manager` makes one."""
 
-    def __init__(self, run: Run, number: int, place: Place) -> None:
-        """With its place, which is taken where the factory has places."""
+    def __init__(self, run: Run, number: int, place: Place, is_begun: bool = False) -> None:
+        """With its place, which is taken where the factory has places, and whether its transaction
+        is open already, for the block that begins it."""
         self.factory, self.number, self._place = run.factory, number, place
         place.manager = ref(self)
         self._run, self._em = run, str(number)
         self._bytes = self._em.encode()
-        self._transaction = EntityTransaction(self)
+        self._transaction = EntityTransaction(self, is_begun)
         self._pending, self._mode = Pending(self), FlushModeType.AUTO
         self._concern = self._new_concern()
         # What keeps its objects' values unique, where that is asked for.
@@ -271,7 +272,10 @@ class EntityManager(Queries, AbstractContextManager["EntityManager"]):
         try:
             self.factory.tell_kept()
             lost = self._lost()
-            self._ask("close")
+            is_over = self._is_settled and not self._transaction.is_active
+            line = b'{"call":"close","em":%b}' % self._bytes
+            if not is_over or not self.factory.let_go(self._run, line):
+                self._ask("close")
         except (NoSuchManager, ProgramEnded, Restarted):  # It is gone already.
             self._give_place_back()
             raise

@@ -6,10 +6,20 @@ import os
 import resource
 import sqlite3
 from contextlib import suppress
+from enum import Enum
 from pathlib import Path
 from typing import Optional, Set
 
 from .migration import opened_to_read
+
+
+class Held(Enum):
+    """Who has a store's file open."""
+
+    BY_NOBODY = "nobody, as far as that can be told"
+    BY_OWN = "this process, or a program that it started"
+    BY_OTHERS = "another one"
+
 
 _HELD = "another program has it open, and one at a time has a file"
 _COLUMNS = ["t", "r", "c", "v"]
@@ -78,6 +88,18 @@ def _of_room(folder: Path) -> str:
 
 
 # ---- who has it open
+
+
+def held_by(db: Path) -> Held:
+    """Who has a store's file open; another one where the system doesn't tell whose its lock is."""
+    if not db.is_file():
+        return Held.BY_NOBODY
+    pids = _lockers(db)
+    if not pids:
+        return Held.BY_OTHERS if _of_content(db) == _HELD else Held.BY_NOBODY
+    holders = {pid for pid in pids if pid > 0} or _openers(db)
+    is_own = any(os.getpid() in (pid, _parent(pid)) for pid in holders)
+    return Held.BY_OWN if is_own else Held.BY_OTHERS
 
 
 def _of_lock(db: Path) -> Optional[str]:

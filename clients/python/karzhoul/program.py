@@ -14,8 +14,9 @@ import time
 import weakref
 from contextlib import suppress
 from copy import copy
+from pathlib import Path
 from subprocess import DEVNULL, PIPE, Popen, TimeoutExpired
-from typing import IO, TYPE_CHECKING, Iterator, List, Optional, Sequence, Set, Union
+from typing import IO, TYPE_CHECKING, Iterator, List, Optional, Sequence, Set, Tuple, Union
 
 from .refusals import GivenUp, KarzhoulError, ProgramEnded, ProgramNotFound, Restarted, refusal_of
 
@@ -293,11 +294,14 @@ class Program:
             left -= chunk.count(b"\n")
         replies = (read[0] if len(read) == 1 else b"".join(read)).split(b"\n")
         if replies.pop() or len(replies) != count:
-            self.fault = ProgramEnded(
-                _stopped(self._process, self._watch, 0), "the program told more than it was asked"
-            )
+            self.fault = self._told_more()
             raise self.fault
         return replies
+
+    def _told_more(self) -> KarzhoulError:
+        """The end of a program that told more than it was asked."""
+        status = _stopped(self._process, self._watch, 0)
+        return ProgramEnded(status, "the program told more than it was asked")
 
     def _comes(self, deadline: float) -> bool:
         """Waits until there is something to read, or a deadline; and whether there is."""
@@ -344,6 +348,14 @@ class Program:
         self.fault = self.fault or ProgramEnded(None)
         self._end()
 
+    def pipes(self) -> Tuple[int, int]:
+        """Where lines go in, and where replies come out, for who reads and writes them itself."""
+        return self._in[0], self._out[0]
+
+    def status(self) -> int:
+        """The status of a program whose output has ended, which is ended where it goes on."""
+        return _stopped(self._process, self._watch, _PATIENCE)
+
     def stop(self) -> None:
         """Ends the program under a call that waits for its replies, which is told so."""
         self._is_stopped = True
@@ -353,6 +365,25 @@ class Program:
         """Ends the program at once, with what it runs itself, as where it is being built."""
         _stopped(self._process, self._watch, 0)
         self.close()
+
+    # Whether it creates a manager and opens its transaction by one line.
+    begins = False
+
+    def let_go(self, run: Run, line: bytes) -> bool:
+        """Sends a line whose reply is of no use, and takes that with the next one's; whether it did
+        so: of a program of one's own, which answers at once, it is waited for."""
+        return False
+
+    def turn(self, wait: Optional[float]) -> bool:
+        """Waits for a manager that the program can create, at most so many seconds; whether that is
+        of use: no one else has any of the managers of a program of one's own."""
+        return False
+
+    def why_unwritten(self) -> str:
+        """Why a commit can't be written, as far as that can be told."""
+        from .opening import why_unwritten
+
+        return why_unwritten(Path(os.fspath(self.words[-1])), self.pid)
 
     def _why_it_ended(self) -> KarzhoulError:
         """Why the program ended: the refusal that it told where it never came to answer, as of its

@@ -80,6 +80,16 @@ class GivenUp(ProgramEnded):
         )
 
 
+class Disconnected(ProgramEnded):
+    """The connection to a server has ended (`karzhoul.connect`), or none can be made: the server
+    has ended, or its program, or it has ended the connection, which `told` says. What wasn't
+    committed is rolled back. `EntityManagerFactory.reopen` connects again, and `retry` does so by
+    itself, where no commit was under way."""
+
+    def _how(self) -> str:
+        return f"the connection to the server has ended: {self.told}"
+
+
 class Restarted(KarzhoulError):
     """An object or a manager is of before a restart, and can't be used any more: make or find it
     again."""
@@ -472,7 +482,8 @@ def refusal_of(text: str, events: Tuple[Event, ...] = (), line: str = "") -> Ref
 
 
 __all__ = [
-    "GivenUp", "KarzhoulError", "LineLimit", "ManagerLimit", "NoFreeManager", "NotServed",
+    "Disconnected", "GivenUp", "KarzhoulError", "LineLimit", "ManagerLimit", "NoFreeManager",
+    "NotServed",
     "ObjectLimit", "ProgramEnded", "ProgramNotFound", "QueryLimit", "Refused", "Restarted",
     "StoreInMemory", "TextLimit", *REFUSALS,
 ]

@@ -40,6 +40,11 @@ def are_silent(replies: List[bytes]) -> bool:
     return text.count(_NULL_END + b"\n") == len(replies) and text.find(_LOADED) < 0
 
 
+def are_null(replies: List[bytes]) -> bool:
+    """Whether replies answer null each, and tell no event."""
+    return replies.count(NULL[0]) == len(replies)
+
+
 def numbers_of(replies: List[bytes]) -> Optional[List[int]]:
     """The numbers of the objects that replies are; None where one is anything else, or tells an
     event."""

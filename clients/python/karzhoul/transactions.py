@@ -24,8 +24,9 @@ class EntityTransaction:
     the same: then `rollback` is refused.
     """
 
-    def __init__(self, manager: EntityManager) -> None:
-        self._manager, self.is_active = manager, False
+    def __init__(self, manager: EntityManager, is_begun: bool = False) -> None:
+        """With whether the program has opened it already, for the next `begin`."""
+        self._manager, self.is_active, self._is_begun = manager, is_begun, is_begun
 
     def begin(self) -> EntityTransaction:
         """Opens it."""
@@ -33,7 +34,10 @@ class EntityTransaction:
         try:
             # Before it is, so that no interrupt leaves one open that isn't known to be.
             self.is_active = True
-            self._ask("begin")
+            if self._is_begun:
+                self._is_begun = False
+            else:
+                self._ask("begin")
         except KarzhoulError:
             self.is_active = was_active
             raise

@@ -113,8 +113,12 @@ class ManagerTest(unittest.TestCase):
 
     mapping: Any
 
+    def opened(self) -> karzhoul.EntityManagerFactory:
+        """The factory of the test."""
+        return karzhoul.open(self.mapping, program=PROGRAM)
+
     def setUp(self) -> None:
-        self.app = karzhoul.open(self.mapping, program=PROGRAM)
+        self.app = self.opened()
         self.addCleanup(self.app.close)
         self.em = self.app.create_entity_manager()
 

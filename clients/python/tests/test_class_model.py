@@ -104,6 +104,11 @@ class Forty(ClassesTest):
             }
             self.assertEqual(_keys(getattr(found, attribute), classes), wanted, attribute)
 
+        for attribute, owner in each.made.backs.items():
+            back = getattr(found, attribute)
+            told = [] if back is None else [key_of(back, classes)]
+            self.assertEqual(told, [it.key for it in stored if it.links.get(owner) == key])
+
     def _is_found(
         self, manager: Any, module: ModuleType, each: Stored, attribute: str, value: Any
     ) -> None:

@@ -541,6 +541,35 @@ class Made(ClassesTest):
         with self.assertRaisesRegex(ValueError, "default or default_factory, and not both"):
             karzhoul.field(default=1, default_factory=int)
 
+    def test_many_are_made_as_each_is(self) -> None:
+        it = self.module(MADE + """
+class Seat(Entity):
+    row: int = key()
+    name: str
+    rank: int = 3
+
+class Pass(Entity):
+    id: int = generated()
+    said: str
+
+    def __init__(self, number: int) -> None:
+        self.said = f"pass {number}"
+""")
+        with self.open(it) as app, app.begin() as manager:
+            one, two = app.new_many(it.Ticket, [{}, {"day": date(2026, 1, 6)}])
+            self.assertNotEqual(one.code, two.code)
+            self.assertEqual((one.day.day, two.day.day, one.state), (5, 6, "open"))
+            seats = app.new_many(it.Seat, [{"row": 1, "name": "a"}, {"row": 2, "name": "b",
+                                                                     "rank": 4}])
+            self.assertEqual([seat.rank for seat in seats], [3, 4])
+            passes = app.new_many(it.Pass, [{"number": 7}, {"number": 8}])
+            self.assertEqual([each.said for each in passes], ["pass 7", "pass 8"])
+            manager.persist_all([one, two, *seats, *passes])
+            with self.assertRaisesRegex(TypeError, "Seat takes name, and none is given"):
+                app.new_many(it.Seat, [{"row": 3}])
+            with self.assertRaisesRegex(TypeError, "Ticket takes no state, which is init=False"):
+                app.new_many(it.Ticket, [{"state": "shut"}])
+
     def test_one_that_is_new_over_a_store_is_made_for_each_object(self) -> None:
         first = "class Ticket(Entity):\n    id: int = generated()\n"
         with self.open(first) as app, app.begin() as manager:

@@ -20,7 +20,7 @@ from typing import Any, List, NamedTuple, Optional, Sequence, Tuple
 from unittest import mock
 
 import karzhoul
-from karzhoul import DeclarationError, NotBroughtOver
+from karzhoul import DeclarationError, NotBroughtOver, factory
 from karzhoul.command import main
 from karzhoul.migrating.feeding import Feed
 
@@ -557,8 +557,8 @@ class ByHand(Migrated):
                 with mock.patch.object(Feed, "tell", autospec=True, side_effect=Feed.tell) as told:
                     self.assertEqual(self.migrated(self.mapping)[::2], (0, ""))
         lines = [line for call in told.call_args_list for line in call.args[1]]
-        self.assertGreater(lines.count(b'{"call":"restart"}'), 0)
-        self.assertTrue(any(b'"call":"find"' in line for line in lines))
+        self.assertGreater(lines.count('{"call":"restart"}'), 0)
+        self.assertTrue(any('"call":"find"' in line for line in lines))
         self.assertEqual(cells(self.db), self.before)
 
     def test_defaults_of_revision_2(self) -> None:
@@ -617,12 +617,10 @@ class Stopped(Migrated):
         return is_new
 
     def done(self) -> Tuple[int, str]:
-        """The status of a run and its words, once the program of the killed one has ended."""
-        for _ in range(40):
+        """The status of a run and its words, right behind one that was killed, whose program may
+        still end."""
+        with mock.patch.object(factory, "PATIENCE", 60):
             status, _, err = self.ran(*self.words())
-            if status != 4 or "can't be opened" not in err:
-                break
-            time.sleep(0.5)
         return status, err
 
     def restored(self, before: Path) -> None:

@@ -12,7 +12,7 @@ from pathlib import Path
 from unittest import mock
 
 import karzhoul
-from karzhoul import opening
+from karzhoul import factory, opening
 
 from .support import FLAT, HERE, PROGRAM, FolderTest, needs_program
 
@@ -39,7 +39,10 @@ class Opening(FolderTest):
         with karzhoul.open(FLAT, self.db, program=PROGRAM) as app:
             held = f"(process {app.program.pid}), which this process started"
             self.fails("another program has it open, and one at a time has a file: ", held)
-            words = f"import karzhoul\nkarzhoul.open({str(FLAT)!r}, {str(self.db)!r})"
+            words = (
+                "import karzhoul, karzhoul.factory\nkarzhoul.factory.PATIENCE = 0\n"
+                f"karzhoul.open({str(FLAT)!r}, {str(self.db)!r})"
+            )
             env = {**os.environ, "PYTHONPATH": str(HERE.parent), "KARZHOUL_PROGRAM": str(PROGRAM)}
             ran = subprocess.run(
                 [sys.executable, "-c", words], env=env, capture_output=True, text=True
@@ -56,7 +59,54 @@ class Opening(FolderTest):
     def test_a_locked_file_where_locks_are_not_listed(self) -> None:
         with karzhoul.open(FLAT, self.db, program=PROGRAM):
             with mock.patch.object(opening, "_LOCKS", self.place / "none"):
-                self.fails("another program has it open, and one at a time has a file")
+                with mock.patch.object(factory, "PATIENCE", 0):
+                    self.fails("another program has it open, and one at a time has a file")
+
+    def test_a_file_that_becomes_free_is_waited_for(self) -> None:
+        """As behind a process that was killed, whose program still ends."""
+        karzhoul.open(FLAT, self.db, program=PROGRAM).close()
+        words = (
+            "import sqlite3, sys\nheld = sqlite3.connect(sys.argv[1])\n"
+            "held.execute('PRAGMA locking_mode = EXCLUSIVE')\nheld.execute('BEGIN EXCLUSIVE')\n"
+            "print('held', flush=True)\nsys.stdin.read()"
+        )
+        for listed in (opening._LOCKS, self.place / "none"):
+            other = subprocess.Popen(
+                [sys.executable, "-c", words, str(self.db)], stdin=subprocess.PIPE,
+                stdout=subprocess.PIPE, text=True,
+            )
+            assert other.stdout is not None
+            self.assertEqual(other.stdout.readline(), "held\n")
+            told = []
+            held_by = opening.held_by
+
+            def seen(db: Path) -> opening.Held:
+                told.append(held_by(db))
+                other.communicate("")
+                return told[-1]
+
+            # It is as a process that another one has started.
+            with mock.patch.multiple(opening, _LOCKS=listed, held_by=seen, _parent=lambda _: 1):
+                karzhoul.open(FLAT, self.db, program=PROGRAM).close()
+            self.assertEqual(told, [opening.Held.BY_OTHERS])
+
+    def test_one_that_became_free_meanwhile_is_tried_once_more(self) -> None:
+        told = [opening.Held.BY_NOBODY] * 2
+        with karzhoul.open(FLAT, self.db, program=PROGRAM) as app:
+
+            def freed(_: Path) -> opening.Held:
+                app.close()
+                return told.pop()
+
+            with mock.patch.object(opening, "held_by", freed):
+                karzhoul.open(FLAT, self.db, program=PROGRAM).close()
+        self.assertEqual(len(told), 1)
+
+    def test_one_that_is_in_use_is_waited_for_some_seconds(self) -> None:
+        with karzhoul.open(FLAT, self.db, program=PROGRAM):
+            with mock.patch.object(opening, "held_by", lambda _: opening.Held.BY_OTHERS):
+                with mock.patch.object(factory, "PATIENCE", 0.2):
+                    self.fails("another program has it open")
 
     def test_folders(self) -> None:
         self.db.mkdir()

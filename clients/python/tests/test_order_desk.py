@@ -15,6 +15,8 @@ import subprocess
 import sys
 import tempfile
 import unittest
+from datetime import date
+from decimal import Decimal
 from pathlib import Path
 from typing import Any, Dict, List, Tuple
 from unittest import mock
@@ -28,10 +30,14 @@ DESK = TOP / "examples" / "order-desk"
 sys.path.insert(1, str(DESK))
 
 import desk  # noqa: E402
+import entities  # noqa: E402
 import imports  # noqa: E402
 import orders  # noqa: E402
 import reports  # noqa: E402
 import samples  # noqa: E402
+from entities import (  # noqa: E402
+    Company, Customer, Invoice, Order, OrderLine, OrderStatus, Place, Product,
+)
 
 ROWS = int(os.environ.get("KARZHOUL_DESK_ROWS", "120"))
 
@@ -40,6 +46,8 @@ P1,Lamp,12.50,10,light;office
 P2,Chair,40.00,5,office
 P3,Kettle,25.00,3,kitchen
 """
+DAY = date(2026, 1, 5)
+NEXT_DAY = date(2026, 1, 6)
 CUSTOMERS = """number,name,city,vat
 1,Ada,Ghent,
 2,Bob & Co,Porto,EU2
@@ -72,7 +80,7 @@ def stored_desk() -> Dict[str, bytes]:
         folder = Path(place)
         (folder / "products.csv").write_text(PRODUCTS, encoding="utf-8")
         (folder / "customers.csv").write_text(CUSTOMERS, encoding="utf-8")
-        with karzhoul.open(desk.MAPPING, folder / "desk.db", program=PROGRAM) as app:
+        with karzhoul.open(entities, folder / "desk.db", program=PROGRAM) as app:
             imports.import_products(app, imports.read_products(folder / "products.csv"), untold)
             imports.import_customers(app, imports.read_customers(folder / "customers.csv"), untold)
         return {file.name: file.read_bytes() for file in folder.glob("desk.db*")}
@@ -89,7 +97,7 @@ class DeskTest(FolderTest):
         self.open()
 
     def open(self) -> None:
-        self.app = karzhoul.open(desk.MAPPING, self.db, program=PROGRAM)
+        self.app = karzhoul.open(entities, self.db, program=PROGRAM)
         self.addCleanup(self.app.close)
         self.manager = self.app.create_entity_manager()
 
@@ -106,8 +114,7 @@ class DeskTest(FolderTest):
 
     def lines(self, number: int) -> List[Tuple[int, str, int]]:
         """The lines of an order, each as its place, its product and its quantity."""
-        order = self.manager.find("Order", number)
-        assert order is not None
+        order = present(self.manager, Order, number)
         return [(line.at.line, line.product.sku, line.quantity) for line in order.lines]
 
 
@@ -147,6 +154,8 @@ class Commands(FolderTest):
         self.does("ship 1 --day 2026-01-07", "order 1 is shipped, with invoice 1: 50.00")
         self.refuses("change 1 P1=1", "order 1 is shipped, and stays as it is")
         self.does("cancel 2", "order 2 is cancelled")
+        self.refuses("show order 99999999999999999999", "the key of Order is a whole number, and "
+                     "99999999999999999999 is no number of 64 bits as it is stored")
         self.does("show product P3", "product P3: Kettle at 25.00, 3 in stock", "  in Kitchen")
         self.shows_and_reports()
         self.refuses("delete 1", "order 1 is shipped: cancel it before it is deleted")
@@ -173,14 +182,14 @@ class Commands(FolderTest):
         self.does("report categories", *categories)
 
     @needs_program
-    def test_events_are_told_with_their_classes_and_what_ran(self) -> None:
+    def test_events_are_told_with_their_classes(self) -> None:
         path = self.written("customers.csv", CUSTOMERS)
         status, _, told = self.run_desk("--events", "import", "customers", path)
         wanted = [
-            "PrePersist of Customer, which ran named",
-            "PrePersist of Company, which ran named",
-            "PostPersist of Customer, which ran noted",
-            "PostPersist of Company, which ran noted",
+            "PrePersist of Customer",
+            "PrePersist of Company",
+            "PostPersist of Customer",
+            "PostPersist of Company",
         ]
         self.assertEqual((status, told.splitlines()), (0, wanted))
 
@@ -225,22 +234,21 @@ class Commands(FolderTest):
 
 class Orders(DeskTest):
     def test_lists_of_queried_orders_take_changes_that_stay(self) -> None:
-        orders.place_order(self.manager, 1, [("P1", 1), ("P2", 2)], "2026-01-05")
+        orders.place_order(self.manager, 1, [("P1", 1), ("P2", 2)], DAY)
         self.reopen()
         [order] = self.manager.query("SELECT o FROM Order o")
         [lamps, chairs] = order.lines
         with self.manager.transaction():
-            product = self.manager.find("Product", "P3")
-            kettles = self.app.new(
-                "OrderLine", order=order, product=product, quantity=1, price=2500
+            kettles = OrderLine(
+                at=Place(order=order.id, line=3), order=order, quantity=1, price=Decimal("25.00"),
+                product=present(self.manager, Product, "P3"),
             )
-            kettles.at = (order.id, 3)
             order.lines.append(kettles)
             order.lines.remove(lamps)
         self.assertEqual(list(order.lines), [chairs, kettles])
         self.reopen()
         self.assertEqual(self.lines(1), [(2, "P2", 2), (3, "P3", 1)])
-        self.assertIsNone(self.manager.find("OrderLine", (1, 1)))
+        self.assertIsNone(self.manager.find(OrderLine, (1, 1)))
         [order] = self.manager.query("SELECT o FROM Order o")
         with self.manager.transaction():
             order.lines.clear()
@@ -248,51 +256,45 @@ class Orders(DeskTest):
         self.assertEqual(self.manager.query_single("SELECT COUNT(l) FROM OrderLine l"), 0)
 
     def test_a_company_found_as_a_customer_is_a_company(self) -> None:
-        Customer, Company = self.app.entity("Customer"), self.app.entity("Company")
-        self.assertTrue(issubclass(Company, Customer))
-        company, person = present(self.manager, Customer, 2), present(self.manager, Customer, 1)
-        self.assertEqual((type(company), type(person)), (Company, Customer))
-        self.assertTrue(isinstance(company, Customer))
+        company, person = (present(self.manager, Customer, number) for number in (2, 1))
+        self.assertTrue(isinstance(company, Company))
+        self.assertTrue(isinstance(person, Customer) and not isinstance(person, Company))
         with self.assertRaises(AttributeError):
             person.vat = "EU1"
         with self.manager.transaction():
             company.vat = "EU22"
         self.reopen()
         [found] = self.manager.query("SELECT c FROM Customer c WHERE c.number = 2")
-        self.assertEqual((type(found), found.vat), (self.app.entity("Company"), "EU22"))
+        self.assertEqual((isinstance(found, Company), found.vat), (True, "EU22"))
 
     def test_the_customer_of_an_order_is_of_its_own_class(self) -> None:
-        orders.place_order(self.manager, 2, [("P1", 1)], "2026-01-05")
+        orders.place_order(self.manager, 2, [("P1", 1)], DAY)
         self.reopen()
-        order = self.manager.find("Order", 1)
-        assert order is not None
-        self.assertEqual(
-            (type(order.customer), order.customer.vat), (self.app.entity("Company"), "EU2")
-        )
+        customer = present(self.manager, Order, 1).customer
+        self.assertEqual((isinstance(customer, Company), customer.vat), (True, "EU2"))
 
     def test_events_name_their_classes(self) -> None:
-        orders.place_order(self.manager, 2, [("P1", 1)], "2026-01-05")
+        orders.place_order(self.manager, 2, [("P1", 1)], DAY)
         self.manager.clear()
         told: List[Tuple[str, str]] = []
         self.app.listen(lambda event: told.append((event.kind.value, type(event.object).__name__)))
-        orders.ship_order(self.manager, 1, "2026-01-06")
+        orders.ship_order(self.manager, 1, NEXT_DAY)
         self.assertEqual(
             told,
             [
                 ("PostLoad", "Order"), ("PostLoad", "OrderLine"), ("PrePersist", "Invoice"),
-                ("PreUpdate", "Order"),
-            ]
-            + [("PostUpdate", "Order"), ("PostPersist", "Invoice")],
+                ("PreUpdate", "Order"), ("PostUpdate", "Order"), ("PostPersist", "Invoice"),
+            ],
         )
 
     def test_with_lets_an_exception_through(self) -> None:
         with self.assertRaisesRegex(RuntimeError, "the telephone rang"):
             with self.app.create_entity_manager() as manager:
                 manager.transaction().begin()
-                manager.persist(self.app.new("Customer", number=3, name="Cy"))
+                manager.persist(Customer(number=3, name="Cy"))
                 raise RuntimeError("the telephone rang")
         with self.manager.transaction():  # Which is no longer Busy.
-            self.assertIsNone(self.manager.find("Customer", 3))
+            self.assertIsNone(self.manager.find(Customer, 3))
 
     def test_a_refused_order_takes_nothing_out_of_the_stock(self) -> None:
         for wanted, told in (
@@ -302,32 +304,27 @@ class Orders(DeskTest):
             ([("P1", -1)], "-1 of P1 can't be ordered"),
         ):
             with self.subTest(told), self.assertRaisesRegex(orders.DeskError, f"^{told}$"):
-                orders.place_order(self.manager, 1, wanted, "2026-01-05")
+                orders.place_order(self.manager, 1, wanted, DAY)
         with self.assertRaisesRegex(orders.DeskError, "^there is no customer 3$"):
-            orders.place_order(self.manager, 3, [("P1", 1)], "2026-01-05")
+            orders.place_order(self.manager, 3, [("P1", 1)], DAY)
         self.assertEqual([self.stock(sku) for sku in ("P1", "P3")], [10, 3])
         self.assertEqual(self.manager.query("SELECT o FROM Order o"), [])
 
-    def test_a_line_takes_exactly_the_parts_of_its_key(self) -> None:
-        order = orders.place_order(self.manager, 1, [("P1", 1)], "2026-01-05")
-        [line] = order.lines
-        self.assertEqual(
-            (tuple(line.at), line.at == (1, 1), hash(line.at)), ((1, 1), True, hash((1, 1)))
-        )
-        new = self.app.new("OrderLine")
-        for parts in ((7, 8, 9), (7,), (), {"order": 7}, {"order": 7, "line": 8, "page": 9}):
-            with self.subTest(parts), self.assertRaises(ValueError):
-                new.at = parts
-            self.assertEqual(tuple(new.at), (None, None))
-        new.at = (7, 8)
-        part: Any = new.at
-        self.assertEqual((part.order, part.line), (7, 8))
+    def test_a_line_is_found_by_its_order_and_number(self) -> None:
+        order = orders.place_order(self.manager, 1, [("P1", 1), ("P2", 2)], DAY)
+        self.assertEqual([line.at for line in order.lines],
+                         [Place(order=1, line=1), Place(order=1, line=2)])
+        self.reopen()
+        line = present(self.manager, OrderLine, Place(order=1, line=2))
+        self.assertEqual((line.product.sku, line.price), ("P2", Decimal("40.00")))
+        for key in ((1,), (1, 2, 3), (1, "2")):
+            with self.subTest(key), self.assertRaises(karzhoul.WrongValue):
+                self.manager.find(OrderLine, key)
 
     def test_an_order_that_another_clerk_changed_meanwhile(self) -> None:
-        orders.place_order(self.manager, 1, [("P1", 1)], "2026-01-05")
+        orders.place_order(self.manager, 1, [("P1", 1)], DAY)
         other = self.app.create_entity_manager()
-        held = other.find("Order", 1)  # As it is now, for as long as the other one holds it.
-        assert held is not None
+        held = present(other, Order, 1)  # As it is now, for as long as the other one holds it.
         orders.change_order(self.manager, 1, [("P2", 1)])
         with self.assertRaises(karzhoul.Rollback) as refused:
             orders.change_order(other, 1, [("P3", 1)])
@@ -335,23 +332,34 @@ class Orders(DeskTest):
         self.assertEqual((self.lines(1), self.stock("P3")), ([(1, "P1", 1), (2, "P2", 1)], 3))
 
     def test_a_status_is_one_of_three(self) -> None:
-        order = orders.place_order(self.manager, 1, [("P1", 1)], "2026-01-05")
-        with self.assertRaises(karzhoul.Rollback) as refused, self.manager.transaction():
+        order: Any = orders.place_order(self.manager, 1, [("P1", 1)], DAY)
+        with self.assertRaises(karzhoul.WrongValue):
             order.status = "lost"
-        self.assertEqual(refused.exception.detail, "Persistence(converter)")
-        self.assertEqual(self.manager.query("SELECT o.status FROM Order o"), ["placed"])
+        found = self.manager.query("SELECT o.status FROM Order o")
+        self.assertEqual(found, [OrderStatus.PLACED])
+
+    def test_a_name_is_no_blank(self) -> None:
+        told = "^a customer needs a name$"
+        with self.assertRaisesRegex(ValueError, told):
+            Customer(number=3, name=" ")
+        customer = present(self.manager, Customer, 1)
+        with self.assertRaisesRegex(ValueError, told), self.manager.transaction():
+            customer.name = ""
+        self.reopen()
+        self.assertEqual(present(self.manager, Customer, 1).name, "Ada")
 
     def test_an_order_and_its_invoice_and_lines_go_together(self) -> None:
-        orders.place_order(self.manager, 1, [("P1", 1), ("P2", 1)], "2026-01-05")
-        orders.ship_order(self.manager, 1, "2026-01-06")
+        orders.place_order(self.manager, 1, [("P1", 1), ("P2", 1)], DAY)
+        orders.ship_order(self.manager, 1, NEXT_DAY)
         self.reopen()
-        order = self.manager.find("Order", 1)
-        assert order is not None
+        order = present(self.manager, Order, 1)
+        assert order.invoice is not None
         self.assertIs(order.invoice.order, order)
         with self.manager.transaction():
             self.manager.remove(order)
-        for entity in ("Order", "OrderLine", "Invoice"):
-            self.assertEqual(self.manager.query_single(f"SELECT COUNT(x) FROM {entity} x"), 0)
+        for kind in (Order, OrderLine, Invoice):
+            count = self.manager.one(f"SELECT COUNT(x) FROM {kind.__name__} x")
+            self.assertEqual(count, 0)
 
 
 class Imports(DeskTest):
@@ -365,7 +373,9 @@ class Imports(DeskTest):
         )
         rows = self.manager.query("SELECT p.sku, p.price, p.stock FROM Product p")
         self.assertEqual(
-            rows, [["P1", 1300, 20], ["P2", 4000, 5], ["P3", 2500, 3], ["P4", 9990, 1]]
+            rows,
+            [["P1", Decimal("13.00"), 20], ["P2", Decimal("40.00"), 5],
+             ["P3", Decimal("25.00"), 3], ["P4", Decimal("99.90"), 1]],
         )
         _, *categories = reports.report(self.manager, "categories")
         self.assertEqual(
@@ -389,11 +399,12 @@ class Imports(DeskTest):
             if refusals and rows[0].sku == "P5":
                 raise refusals.pop()
             for row in rows:
-                values = {"sku": row.sku, "name": row.name, "price": row.price, "stock": row.stock}
-                manager.persist(manager.factory.new("Product", **values))
+                manager.persist(
+                    Product(sku=row.sku, name=row.name, price=row.price, stock=row.stock)
+                )
 
         told: List[int] = []
-        rows = [imports.ProductRow(f"P{n}", "Clock", 100, n, ()) for n in (4, 5, 6)]
+        rows = [imports.ProductRow(f"P{n}", "Clock", Decimal(1), n, ()) for n in (4, 5, 6)]
         imports.import_rows(self.app, rows, store, told.append, size=1)
         self.assertEqual((told, refusals), ([1, 2, 3], []))
         manager = self.app.create_entity_manager()
@@ -413,7 +424,8 @@ class Imports(DeskTest):
         # By the rules of the samples: product n costs 100 + 37n modulo 20,000 cents, and 7n modulo
         # 500 are in stock.
         prices = sum(100 + n * 37 % 20_000 for n in range(1, ROWS + 1))
-        self.assertEqual(stored, [ROWS, prices, sum(n * 7 % 500 for n in range(1, ROWS + 1))])
+        stocks = sum(n * 7 % 500 for n in range(1, ROWS + 1))
+        self.assertEqual(stored, [ROWS, Decimal(prices) / 100, stocks])
         links = self.manager.query_single(f"SELECT COUNT(p) {large.format('JOIN p.categories c')}")
         # n and n * n are the same modulo 5 where n is 0 or 1 modulo 5; else there are two
         # categories.
@@ -425,7 +437,7 @@ class Files(FolderTest):
 
     def test_rows(self) -> None:
         products = imports.read_products(self.written("products.csv", PRODUCTS))
-        self.assertEqual(products[0], ("P1", "Lamp", 1250, 10, ("light", "office")))
+        self.assertEqual(products[0], ("P1", "Lamp", Decimal("12.50"), 10, ("light", "office")))
         customers = imports.read_customers(self.written("customers.csv", CUSTOMERS))
         self.assertEqual(customers, [(1, "Ada", "Ghent", ""), (2, "Bob & Co", "Porto", "EU2")])
 
@@ -441,6 +453,7 @@ class Files(FolderTest):
                 "stock is to be a whole number up to 1000000000000, and is '1000000000001'",
             ),
             ("P2,,40.00,5,office", "name is missing"),
+            ("P2, ,40.00,5,office", "name is missing"),
             (",Chair,40.00,5,office", "sku is missing"),
             ("P2,Chair,40.00", "5 cells are to stand here"),
             ("P2,Chair,40.00,5,office,1", "5 cells are to stand here"),
@@ -468,7 +481,8 @@ class Files(FolderTest):
     def test_samples_can_be_read(self) -> None:
         samples.write_samples(self.folder / "new", 5, 4)
         products = imports.read_products(self.folder / "new" / "products.csv")
-        self.assertEqual(products[1], ("P00002", "Kettle, blue", 174, 14, ("office", "light")))
+        row = "P00002", "Kettle, blue", Decimal("1.74"), 14, ("office", "light")
+        self.assertEqual(products[1], row)
         self.assertEqual(len(products), 5)
         customers = imports.read_customers(self.folder / "new" / "customers.csv")
         self.assertEqual(
@@ -496,12 +510,6 @@ class Progresses(unittest.TestCase):
         with imports.Progress(10, pipe) as progress:
             progress(5)
         self.assertEqual(pipe.getvalue(), "")
-
-    def test_money(self) -> None:
-        self.assertEqual(
-            [reports.money(cents) for cents in (0, 5, 1250, 100_000)],
-            ["0.00", "0.05", "12.50", "1000.00"],
-        )
 
 
 if __name__ == "__main__":

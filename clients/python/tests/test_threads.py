@@ -30,7 +30,7 @@ class ThreadsTest(FolderTest):
             patched.start()
             self.addCleanup(patched.stop)
         self.app = karzhoul.open(
-            PERSONS, self.place / "app.db", program=PROGRAM, threads=True, wait=60
+            PERSONS, self.place / "app.db", program=PROGRAM, threads=True, wait=600
         )
         self.addCleanup(self.app.close)
         self.Person = self.app.entity("Person")

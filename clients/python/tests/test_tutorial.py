@@ -78,7 +78,7 @@ def follow(
     }
     ran = subprocess.run(
         ["bash", "-c", "".join(script(page))], cwd=top, env={**os.environ, **own, **env},
-        capture_output=True, text=True, timeout=300,
+        capture_output=True, text=True, timeout=1000,
     )
     test.assertEqual((ran.returncode, ran.stderr), (0, ""))
     parts = re.split(r"^end of block (\d+)\n", ran.stdout, flags=re.MULTILINE)

@@ -77,7 +77,7 @@ def complaints(files: Dict[str, str], name: str = "program.py") -> List[str]:
         ]
         env = {**os.environ, "MYPYPATH": str(HERE.parent)}
         checked = subprocess.run(
-            words, cwd=place, env=env, capture_output=True, text=True, timeout=300
+            words, cwd=place, env=env, capture_output=True, text=True, timeout=900
         )
     if checked.returncode not in (0, 1):
         raise AssertionError(checked.stderr)
@@ -98,7 +98,7 @@ class Package(unittest.TestCase):
         """As pyproject.toml says it: strict."""
         words = [MYPY, "--cache-dir", CACHE.name]
         checked = subprocess.run(
-            words, cwd=HERE.parent, capture_output=True, text=True, timeout=300
+            words, cwd=HERE.parent, capture_output=True, text=True, timeout=900
         )
         self.assertEqual((checked.returncode, checked.stderr), (0, ""), checked.stdout)
 

@@ -296,8 +296,19 @@ class OneValue(UniqueTest):
     def test_bulk_statements(self) -> None:
         self.make("ada", "bob")
         with self.app.begin() as manager:
-            with self.assertRaisesRegex(ValueError, "UPDATE sets Member.email, which is unique"):
+            with self.assertRaisesRegex(
+                ValueError, "UPDATE sets Member.email, which is unique, (.|\n)*"
+                r"for it in manager.query\(\"SELECT m FROM Company m\"\):\n +it.email = .."
+            ):
                 manager.execute_update("UPDATE Company m SET m.email = 'eve'")
+            with self.assertRaisesRegex(ValueError, r"SELECT m FROM Member m WHERE m.id < 3\""):
+                manager.execute_update("UPDATE Member m SET m.email = NULL WHERE m.id < 3 ")
+            where = (
+                "WHERE (EXISTS (SELECT d FROM Desk d WHERE m.desk = d) OR m.id < 3) AND 0 < m.id"
+            )
+            with self.assertRaises(ValueError) as raised:
+                manager.execute_update(f"UPDATE Member m SET m.email = 'x' {where}")
+            self.assertIn(f'"SELECT m FROM Member m {where}"', str(raised.exception))
             manager.execute_update("UPDATE Member m SET m.desk = NULL")
             self.assertEqual(
                 manager.execute_update("DELETE FROM Member m WHERE m.email = 'ada'"), 1

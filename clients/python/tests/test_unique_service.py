@@ -11,9 +11,10 @@ import time
 from collections import Counter
 from pathlib import Path
 from typing import Any, List
+from unittest import mock
 
 import karzhoul
-from karzhoul import NotUnique
+from karzhoul import NotUnique, factory
 
 from .classed import ClassesTest
 from .support import PROGRAM, needs_program
@@ -148,17 +149,6 @@ class Service(ClassesTest):
         with app.begin() as manager:
             manager.persist_all([app.new("Name", said=said) for said in free])
 
-    def once_free(self) -> karzhoul.EntityManagerFactory:
-        """The store, once the program of a killed process has ended, as it does with its input."""
-        deadline = time.monotonic() + 60
-        while True:
-            try:
-                return self.open(self.models)
-            except karzhoul.StoreFault:
-                if time.monotonic() > deadline:
-                    raise
-                time.sleep(0.05)
-
     def test_kills_at_any_moment(self) -> None:
         file = self.folder / "child.py"
         file.write_text(CHILD.replace("MODULE", self.models.__name__))
@@ -173,7 +163,8 @@ class Service(ClassesTest):
             time.sleep(chance.uniform(0, 0.5))
             child.send_signal(signal.SIGKILL)
             child.communicate()
-            self.once_free().close()
+            with mock.patch.object(factory, "PATIENCE", 60):
+                self.open(self.models).close()
         self.assertEqual(committed, 6)
         with self.open(self.models) as app:
             self.consistent(app)

@@ -125,6 +125,7 @@ class Made:
         self.pairs: List[str] = list(above.pairs) if above else []
         self.lists: Dict[str, str] = dict(above.lists) if above else {}
         self.inverse: Dict[str, str] = dict(above.inverse) if above else {}
+        self.backs: Dict[str, str] = dict(above.backs) if above else {}
         self.unique: List[Tuple[str, str]] = list(above.unique) if above else []
         lines = [] if above else self._beginning(r)
         lines += self._attributes(r) + self._relations(r, roots)
@@ -174,7 +175,8 @@ class Made:
         some = r.choice([*roots, self.root])
         if r.random() < 0.5:
             self.links[f"{low}_to"] = some
-            lines.append(f"{low}_to: '{some} | None' = many_to_one(default=None)")
+            cascade = r.choice(["", ", cascade='persist'", ", cascade=('merge', 'refresh')"])
+            lines.append(f"{low}_to: '{some} | None' = many_to_one(default=None{cascade})")
         if r.random() < 0.3:
             self.lists[f"{low}_all"] = some
             lines.append(f"{low}_all: list['{some}'] = many_to_many()")
@@ -188,7 +190,9 @@ class Made:
             lines.append(f"{low}_of: list['{name}'] = many_to_many('{low}_have')")
         if r.random() < 0.3:
             self.pairs.append(f"{low}_with")
+            self.backs[f"{low}_held"] = f"{low}_with"
             lines.append(f"{low}_with: Optional['{name}'] = one_to_one(default=None)")
+            lines.append(f"{low}_held: Optional['{name}'] = one_to_one('{low}_with')")
         return lines
 
 

@@ -179,7 +179,8 @@ class Binding:
         kind = entity.kind
         made.update(
             __doc__=kind.__doc__, __module__=kind.__module__, __qualname__=kind.__qualname__,
-            __new__=_new, __setattr__=_set, _karzhoul_members=self._members(entity),
+            __new__=_new, __setattr__=_set,
+            _karzhoul_constructor=Constructor(entity.name, self._members(entity)),
         )
         bases = (kind,) if base is Entity else (kind, base)
         return type(kind), bases, made
@@ -315,32 +316,59 @@ def _set(entity: Entity, name: str, value: Any) -> None:
 _TAKEN = ("value", "embedded", "key", "many_to_one", "one_to_one")
 
 
+class Constructor:
+    """What the constructor of a class takes, and what it gives by itself."""
+
+    def __init__(self, name: str, members: Mapping[str, Member]) -> None:
+        fields = {said: it.field for said, it in members.items()}
+        self._name = name
+        self._closed = {said for said, it in fields.items() if not it.init}
+        self._fresh = [
+            (said, it) for said, it in fields.items() if it.has_default and it.default is not None
+        ]
+        self._needed = [
+            said for said, it in fields.items()
+            if not it.has_default and not members[said].is_optional
+            and it.init and it.sort in _TAKEN and it.mapped_by is None
+        ]
+
+    def filled(self, values: Mapping[str, Any]) -> Dict[str, Any]:
+        """The values of a new object, with the defaults of those that aren't given; a `TypeError`
+        where one isn't taken, or is missing."""
+        for name in self._closed and values:
+            if name in self._closed:
+                raise TypeError(f"{self._name} takes no {name}, which is init=False: set it then")
+        missing = [name for name in self._needed if name not in values]
+        if missing:
+            raise TypeError(f"{self._name} takes {', '.join(missing)}, and none is given")
+        found: Dict[str, Any] = {}
+        for name, field in self._fresh:
+            if name not in values and (value := field.fresh()) is not None:
+                found[name] = value
+        found.update(values)
+        return found
+
+
 def fill(entity: Entity, values: Mapping[str, Any]) -> None:
     """Gives a new object its values, and the defaults of those that aren't given: all of them, or
     none where one isn't taken."""
+    check_names(type(entity), values)
+    lines, later = filling(entity, values)
+    entity._karzhoul_factory.tell_all(entity._karzhoul_run, lines)
+    for name, value in later.items():
+        object.__setattr__(entity, name, value)
+
+
+def filling(entity: Entity, values: Mapping[str, Any]) -> Tuple[List[bytes], Dict[str, Any]]:
+    """The lines that do so, and what is to be set behind them."""
     kind = type(entity)
-    check_names(kind, values)
-    members: Mapping[str, Member] = kind._karzhoul_members  # type: ignore[attr-defined]
-    for name in values:
-        if not members[name].field.init:
-            raise TypeError(f"{kind.__name__} takes no {name}, which is init=False: set it then")
-    missing = [
-        name for name, it in members.items()
-        if name not in values and not it.field.has_default and not it.is_optional
-        and it.field.init and it.field.sort in _TAKEN and it.field.mapped_by is None
-    ]
-    if missing:
-        raise TypeError(f"{kind.__name__} takes {', '.join(missing)}, and none is given")
-    fresh = {name: it.field.fresh() for name, it in members.items() if name not in values}
-    given = {name: it for name, it in fresh.items() if it is not MISSING and it is not None}
+    constructor: Constructor = kind._karzhoul_constructor  # type: ignore[attr-defined]
     lines: List[bytes] = []
     later: Dict[str, Any] = {}
-    for name, value in {**given, **values}.items():
+    for name, value in constructor.filled(values).items():
         attribute: Attribute = getattr(kind, name)
         if attribute.is_viewed:
             later[name] = value
         else:
             lines += attribute.lines(entity, value)
-    entity._karzhoul_factory.tell_all(entity._karzhoul_run, lines)
-    for name, value in later.items():
-        object.__setattr__(entity, name, value)
+    return lines, later

@@ -19,7 +19,7 @@ from .declared import Declared, Given, Member, Model, declared_by
 from .fields import MISSING
 from .mapping import FORMS, gone_name, mapping_of
 from .types import StoredType, Unfit
-from .unique import Constraint, Uniques, doubles, keyless, make_keys, sweep
+from .unique import Constraint, Uniques, doubles, keyless, linked, make_keys, sweep
 
 if TYPE_CHECKING:
     from ..factory import EntityManagerFactory
@@ -72,7 +72,8 @@ def open_classes(
     given: Given, lock: Union[None, str, Path], is_in_memory: bool, start: Start
 ) -> EntityManagerFactory:
     """Opens a store with classes by what starts a program over a mapping; the lock is written once
-    it is open. A store in memory, which goes with the factory, leaves the lock as it is."""
+    the store is as they say. A store in memory, which goes with the factory, leaves the lock as it
+    is."""
     made = make(given, lock)
     if made.file is None and not is_in_memory:
         raise ValueError(
@@ -87,9 +88,11 @@ def open_classes(
         app = start(made.mapping, binding)
     uniques = Uniques(made.model, made.lock)
     try:
-        _bring_forms(app, made, uniques)
+        unmade = _bring_forms(app, made, uniques)
+        # The keys go by many commits. Where they are stopped, the lock tells of what is stored.
         if made.file is not None and not is_in_memory:
             locks.write(made.file, locks.finished(made.lock))
+        _make_keys(app, uniques, unmade)
     except BaseException:
         with suppress(Refused):
             app.close()
@@ -101,7 +104,8 @@ def open_classes(
 def settle(app: EntityManagerFactory, made: Made) -> None:
     """Has a new store say its forms, and give each value that is unique its key, by a factory over
     any mapping of the same rows; a `NotBroughtOver` where two objects have one value."""
-    _bring_forms(app, made, Uniques(made.model, made.lock))
+    uniques = Uniques(made.model, made.lock)
+    _make_keys(app, uniques, _bring_forms(app, made, uniques))
 
 
 # ---- what is required now
@@ -279,9 +283,11 @@ def _at(table: int, stored: locks.Record) -> str:
     return str(stored["table"]) if "table" in stored else f"{table}.{stored['column']}"
 
 
-def _bring_forms(app: EntityManagerFactory, made: Made, uniques: Uniques) -> None:
+def _bring_forms(
+    app: EntityManagerFactory, made: Made, uniques: Uniques
+) -> List[Constraint]:
     """Has each column be in the form that its class says, and each embedded value have its required
-    parts, all of them in one commit; and each value that is unique have its key."""
+    parts, all of them in one commit; and what is unique whose keys are to be made."""
     faults: List[str] = []
     unmade: List[Constraint] = []
     with app.begin() as manager:
@@ -304,9 +310,10 @@ def _bring_forms(app: EntityManagerFactory, made: Made, uniques: Uniques) -> Non
         for each in uniques.dropped + uniques.all:
             before, is_on = stored.get(each.at), each in uniques.all
             is_filled = any(it.name in filled for it in each.members)
-            # What was stored by the mapping alone, as by a load, has no key.
-            is_short = is_on and (is_filled or manager.query(keyless(each), max=1))
-            if before == (each.form if is_on else _DROPPED) and not is_short:
+            # What was stored by the mapping alone, as by a load, has no key. And where the making
+            # of keys was stopped, some have keys that the store doesn't speak of.
+            odd = manager.query(keyless(each) if is_on else linked(each), max=1)
+            if before == (each.form if is_on else _DROPPED) and not (is_filled or odd):
                 continue
             faults += doubles(manager, each) if is_on else ()
             manager.execute_update(f"UPDATE {each.entity} e SET e.{each.link} = NULL")
@@ -314,7 +321,7 @@ def _bring_forms(app: EntityManagerFactory, made: Made, uniques: Uniques) -> Non
             unmade += [each] if is_on else []
         if faults:
             raise NotBroughtOver(faults)
-    _make_keys(app, uniques, unmade)
+    return unmade
 
 
 def _say_form(

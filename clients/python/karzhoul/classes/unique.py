@@ -19,7 +19,7 @@ from typing import Tuple
 
 from ..concern import Noted
 from ..entities import Entity
-from ..jpql import Bulk, read
+from ..jpql import Bulk, read, tokens_of
 from ..lines import line_of, text_spelled
 from ..refusals import KarzhoulError, NotUnique, OptimisticLock, Refused, Rollback
 from .checks import chain, member_of
@@ -66,6 +66,16 @@ class Constraint:
         if len(said) > _LONGEST:
             return f"{self.at}#{hashlib.sha256(said.encode()).hexdigest()}"
         return f"{self.at}:{said}"
+
+
+def _where_of(text: str) -> str:
+    """The WHERE of a statement that can be read, with a blank before it; else nothing."""
+    depth = 0
+    for token in tokens_of(text):
+        depth += token.is_mark("(") - token.is_mark(")")
+        if depth == 0 and token.is_word("WHERE"):
+            return f" {text[token.at :].strip()}"
+    return ""
 
 
 def _spelled(value: Any) -> Any:
@@ -290,8 +300,10 @@ class Keeper:
         made = factory.ask_lines(None, [kind._karzhoul_line] * len(new), UNIQUE) if new else []
         for key, row in zip(new, made):
             lines += [run.set_line(row, "at", key), run.set_line(row, "taken", 1)]
+        if lines:  # By themselves, as their replies are taken in less time.
+            factory.ask_lines(run, lines)
         front = f'{{"call":"persist","em":{self._manager._em},"object":'
-        lines += [f"{front}{run.number(row)}}}".encode() for row in made]
+        lines = [f"{front}{run.number(row)}}}".encode() for row in made]
         self._read.update(dict.fromkeys(made))
         rows = {**rows, **dict(zip(new, made))}
         lines += [
@@ -334,20 +346,32 @@ class Keeper:
     # ---- refusals
 
     def check_statement(self, text: str) -> None:
-        """Refuses an UPDATE that sets what is unique beside its keys; a `ValueError` says so."""
+        """Refuses an UPDATE that sets what is unique beside its keys; a `ValueError` says so, and
+        what to write in its place."""
         conversions = self._factory.conversions
         statement = read(text if conversions is None else conversions.flattened(text))
         if not isinstance(statement, Bulk) or statement.source.entity is None:
             return
+        entity, name = statement.source.entity.said, statement.source.variable
         names = {each.name.said for each in statement.sets or ()}
-        for each in self._uniques.of(statement.source.entity.said):
-            for member in each.members:
-                if member.name not in names:
-                    continue
-                raise ValueError(
-                    f"an UPDATE sets {each.entity}.{member.said}, which is unique: set it on the "
-                    "objects, whose commit looks whether another one has the value"
-                )
+        found = next((
+            (each, member) for each in self._uniques.of(entity) for member in each.members
+            if member.name in names
+        ), None)
+        if found is None:
+            return
+        each, member = found
+        variable = name.said if name is not None else "e"
+        select = f"SELECT {variable} FROM {entity} {variable}{_where_of(text)}"
+        whole, _, part = member.said.partition(".")
+        value = f"it.{whole}.replace({part}=..)" if part else ".."
+        raise ValueError(
+            f"an UPDATE sets {each.entity}.{member.said}, which is unique, and tells nobody of "
+            "which objects, whose keys it would leave as they are: set it on each, as\n"
+            f"    for it in manager.query(\"{select}\"):\n"
+            f"        it.{whole} = {value}\n"
+            "whose flush looks whether another one has the value"
+        )
 
     def _refusal(
         self, constraint: Constraint, each: Entity, other: Entity, is_raced: bool = False
@@ -416,6 +440,11 @@ def keyless(constraint: Constraint) -> str:
     """The query for the objects that have values, and no key of them."""
     has = " AND ".join(f"e.{member.name} IS NOT NULL" for member in constraint.members)
     return f"SELECT e FROM {constraint.entity} e WHERE e.{constraint.link} IS NULL AND {has}"
+
+
+def linked(constraint: Constraint) -> str:
+    """The query for the objects that have keys."""
+    return f"SELECT e FROM {constraint.entity} e WHERE e.{constraint.link} IS NOT NULL"
 
 
 def make_keys(app: Any, uniques: Uniques, constraint: Constraint) -> None:

@@ -58,6 +58,7 @@ class Bringer:
         self.faults: List[str] = []
         self.lost: Dict[str, int] = {}
         self._plans: Dict[Tuple[str, str], ClassPlan] = {}
+        self._makers: Dict[Tuple[str, str], _Maker] = {}
         self._moved: Dict[str, Dict[Key, Optional[Tuple[str, Key]]]] = {
             top: {} for top in _moving(plan)
         }
@@ -140,11 +141,18 @@ class Bringer:
         shape = own.new if own is not None else self._new.shapes[str(entity)]
         assert shape is not None
         made = Brought(shape, (), is_added=own is None)
-        told = _Told(self._new, shape, given)
-        made.key = told.key(record.key if own is not None and not own.key else None)
+        maker = self._maker(shape, own)
+        told = maker.told(given)
+        made.key = maker.key(told, record.key if own is not None and not own.key else None)
         made.version = record.version or 0 if own is not None and shape.version else 0
-        told.fill(made, own, record)
+        maker.fill(made, told, record)
         return made
+
+    def _maker(self, shape: Shape, plan: Optional[ClassPlan]) -> _Maker:
+        place = (plan.old.name if plan is not None else "", shape.name)
+        if place not in self._makers:
+            self._makers[place] = _Maker(self._new, shape, plan)
+        return self._makers[place]
 
     def _own(self, plan: ClassPlan, entity: Optional[str]) -> Optional[ClassPlan]:
         """What becomes of an object that is of this class now, where that is its hierarchy's."""
@@ -160,77 +168,96 @@ class Bringer:
         return self._plans[place]
 
 
-class _Told:
-    """What is told of one new object."""
+Told = Mapping[str, Any]
+"""What a function gives of a new object, by the names of the mapping."""
 
-    def __init__(self, side: Side, shape: Shape, given: Mapping[str, Any]) -> None:
-        known = (*(it.name for it in shape.key), *shape.values, *shape.links, *shape.pairs)
+
+class _Maker:
+    """Makes new objects of one class, of old ones that become it by one plan, or of what functions
+    tell alone."""
+
+    def __init__(self, side: Side, shape: Shape, plan: Optional[ClassPlan]) -> None:
         self._side, self._shape = side, shape
+        self._known = (*(it.name for it in shape.key), *shape.values, *shape.links, *shape.pairs)
         self._members = side.class_members(shape.name)
+        self._wholes = {name: it for name, it in self._members.items() if it.kind is not None}
+        self._keys = [(it, self._kind(it)) for it in shape.key]
+        parts = {part.name: part for part in plan.parts()} if plan is not None else {}
+        self._values, self._links, self._pairs = (
+            [(name, member, parts.get(name, Part(name))) for name, member in members.items()]
+            for members in (shape.values, shape.links, shape.pairs)
+        )
+        self._required = [
+            name for name, member, _ in (*self._values, *self._links) if member.is_required
+        ]
+
+    def told(self, given: Mapping[str, Any]) -> Told:
+        """What is given, by the names of the mapping."""
+        if not given:
+            return {}
         try:
-            self._given = dict(flattened(given, self._members, known))
+            found = dict(flattened(given, self._members, self._known))
         except UnfitValue as why:
             raise _Wrong(str(why)) from None
-        for name in self._given:
-            if name not in known:
-                told = [*self._members, *(self._said(each) for each in known)]
-                raise _Wrong(f"{shape.name} has no {name!r} that is stored{meant(name, told)}")
+        for name in found:
+            if name not in self._known:
+                told = [*self._members, *(self._said(each) for each in self._known)]
+                raise _Wrong(f"{self._shape.name} has no {name!r} that is stored"
+                             f"{meant(name, told)}")
+        return found
 
     def _said(self, name: str) -> str:
         return self._side.shown(self._shape.name, name)
 
-    def key(self, kept: Optional[Key]) -> Key:
-        parts = self._shape.key
-        missing = [it.name for it in parts if it.name not in self._given]
+    def key(self, told: Told, kept: Optional[Key]) -> Key:
+        """Its key, of which a function tells all parts, or none where it is kept."""
+        missing = [it.name for it, _ in self._keys if it.name not in told]
         if not missing:
-            return tuple(self._value(it, self._given[it.name]) for it in parts)
-        if kept is None or len(missing) < len(parts):
+            return tuple(self._value(it, told[it.name]) for it, _ in self._keys)
+        if kept is None or len(missing) < len(self._keys):
             raise _Wrong(f"its {' and '.join(map(self._said, missing))}, of the key of "
                          f"{self._shape.name}, isn't told")
-        for part, value in zip(parts, kept):
+        for (part, kind), value in zip(self._keys, kept):
             try:
-                self._kind(part).from_stored(value)
+                kind.from_stored(value)
             except UnfitValue as why:
                 raise _Wrong(f"{self._said(part.name)} {why}") from None
         return kept
 
-    def fill(self, made: Brought, plan: Optional[ClassPlan], record: Record) -> None:
-        shape = self._shape
-        parts = {part.name: part for part in plan.parts()} if plan is not None else {}
-        for member in shape.values.values():
-            made.values[member.name] = self._one(member, parts.get(member.name), record)
-        for member in shape.links.values():
-            made.links[member.name] = self._one(member, parts.get(member.name), record, "link")
-        for member in shape.pairs.values():
-            found = self._one(member, parts.get(member.name), record, "list")
-            made.pairs[member.name] = list(found or ())
+    def fill(self, made: Brought, told: Told, record: Record) -> None:
+        """Gives a new object its members."""
+        for name, member, part in self._values:
+            made.values[name] = (
+                self._value(member, told[name]) if name in told else self._got(part, record)
+            )
+        for name, member, part in self._links:
+            made.links[name] = (
+                self._led(member, told[name]) if name in told else self._got(part, record)
+            )
+        for name in self._required:
+            if made.values.get(name) is None and made.links.get(name) is None:
+                raise _Wrong(f"{self._said(name)} is required, and null")
+        for name, member, part in self._pairs:
+            found = (
+                [self._led(member, each) for each in told[name]] if name in told
+                else self._got(part, record)
+            )
+            made.pairs[name] = list(found or ())
         try:
-            check_whole(self._members, made.values)
+            check_whole(self._wholes, made.values)
         except WrongValue as why:
             raise _Wrong(str(why)) from None
 
-    def _one(
-        self, member: Member, part: Optional[Part], record: Record, sort: str = ""
-    ) -> Any:
-        """What a member is to be."""
-        name = member.name
-        if name in self._given:
-            given = self._given[name]
-            if sort == "list":
-                return [self._led(member, each) for each in given]
-            found = self._led(member, given) if sort else self._value(member, given)
-        elif part is not None and part.get is not None and not part.missing:
-            try:
-                found = part.get(record)
-            except (UnfitValue, ValueError) as why:
-                raise _Wrong(f"{self._said(name)} {why}") from None
-        elif part is not None and part.missing:
-            raise _Wrong(f"{self._said(name)} isn't told")
-        else:
-            found = None
-        if found is None and member.is_required:
-            raise _Wrong(f"{self._said(name)} is required, and null")
-        return found
+    def _got(self, part: Part, record: Record) -> Any:
+        """What a member is to be of which no function tells."""
+        if part.missing:
+            raise _Wrong(f"{self._said(part.name)} isn't told")
+        if part.get is None:
+            return None
+        try:
+            return part.get(record)
+        except (UnfitValue, ValueError) as why:
+            raise _Wrong(f"{self._said(part.name)} {why}") from None
 
     def _kind(self, member: Member) -> StoredType:
         return self._side.types.get((self._shape.name, member.name)) or plain_type(member.type)
@@ -262,7 +289,6 @@ class _Told:
             return Led(False, member.type, key_fitting(parts, shape, member.name))
         except Unfit as why:
             raise _Wrong(str(why)) from None
-
 
     @staticmethod
     def _plain(kind: Optional[StoredType], value: Any) -> Any:

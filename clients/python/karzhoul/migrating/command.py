@@ -8,11 +8,10 @@ import importlib.util
 import sys
 from pathlib import Path
 from types import ModuleType
-from typing import Any, Dict, Iterator, List, Mapping, Optional
+from typing import Any, Dict, Iterator, List, Optional
 
 from .. import factory
-from ..classes.changes import settle
-from ..classes.mapping import FORMS, UNIQUE
+from ..classes.mapping import FORMS
 from ..dumping import Stored
 from ..finding import find_program
 from ..given import WrongMapping
@@ -23,10 +22,11 @@ from ..refusals import Damaged, KarzhoulError, Misused
 from ..refusals import Mapping as MappingRefused
 from .bringing import MOST_FAULTS, Bringer
 from .feeding import Feed
+from .judging import judge
 from .olds import OldStore
 from .places import Places
 from .plans import Plan, planned
-from .sides import Side, mapped, mapped_anew
+from .sides import mapped, mapped_anew
 from .singles import Singles
 from .writing import NewStore, carrying
 
@@ -265,31 +265,14 @@ class _Migration:
         if faults:
             feed.stop()
             return self._stopped(faults)
-        self._judge(side, made.counts)
+        lock = self._places.new_lock if side.made is not None else None
+        judge(side, self._places.new, lock, made.counts, self._said.program)
         return 0
 
     def _top(self, name: str) -> str:
         """The new hierarchy of one of before; one that isn't there is of no next number."""
         after = self._plan.classes[name].new
         return after.top if after is not None else ""
-
-    def _judge(self, side: Side, counts: Mapping[str, int]) -> None:
-        """Opens the new store by its mapping or classes, and holds it against what was written."""
-        lock = str(self._places.new_lock) if side.made is not None else None
-        if side.made is not None and any(it["name"] == UNIQUE for it in side.mapping["entities"]):
-            # By the mapping of the writing, in which a version is a number that no commit raises.
-            with factory.open(
-                carrying(side.mapping), self._places.new, program=self._said.program
-            ) as app:
-                settle(app, side.made)
-        with factory.open(
-            side.given, self._places.new, program=self._said.program, lock=lock
-        ) as app, app.begin() as manager:
-            for name in side.shapes:
-                count = manager.one(f"SELECT COUNT(e) FROM {name} e WHERE TYPE(e) = {name}")
-                if count != counts.get(name, 0):
-                    raise KarzhoulError(f"the new store has {count:,} objects of {name}, and "
-                                        f"{counts.get(name, 0):,} were written")
 
 
 def _count(number: int) -> str:

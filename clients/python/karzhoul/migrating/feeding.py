@@ -6,16 +6,22 @@ from __future__ import annotations
 import json
 import queue
 import threading
+from collections import deque
 from pathlib import Path
 from subprocess import PIPE, Popen
-from typing import Any, Dict, List, Mapping, Optional, Tuple
+from typing import Any, Deque, Dict, List, Mapping, Optional, Tuple
 
 from ..opening import what_bars_writing, why_unopened
 from ..program import refusal_told
+from ..records import Key, named
 from ..refusals import KarzhoulError, ProgramEnded, StoreFault
 
 # So many texts of lines wait at most.
 _WAITING = 4
+_AT_ONCE = 1 << 20
+_REFUSED = b'{"error"'
+About = Tuple[int, str, Optional[Key]]
+"""The line at which begins what is told of an object, and its class and key."""
 
 
 class Feed:
@@ -32,9 +38,9 @@ class Feed:
             )
         self._texts: queue.Queue[Optional[bytes]] = queue.Queue(_WAITING)
         self._read = self._replies.open("rb")
+        self._rest = b""
         self._lines, self._answered = 0, 0
-        # Which line begins what is told of an object, and of which.
-        self._about: List[Tuple[int, str]] = []
+        self._about: Deque[About] = deque()
         self._writer = threading.Thread(target=self._write, daemon=True)
         self._writer.start()
 
@@ -53,11 +59,11 @@ class Feed:
         except OSError:
             pass
 
-    def tell(self, lines: List[bytes], about: List[Tuple[int, str]]) -> None:
+    def tell(self, lines: List[str], about: List[About]) -> None:
         """Tells lines, with where those begin in them that are about each object."""
-        self._about += [(self._lines + at, word) for at, word in about]
+        self._about.extend((self._lines + at, entity, key) for at, entity, key in about)
         self._lines += len(lines)
-        self._texts.put(b"\n".join(lines) + b"\n")
+        self._texts.put(("\n".join(lines) + "\n").encode())
         is_over = self._process.poll() is not None
         self._look()
         if is_over:
@@ -65,14 +71,16 @@ class Feed:
 
     def _look(self) -> None:
         """Raises the first refusal among the replies that are there."""
-        for line in self._read:
-            if not line.endswith(b"\n"):
-                self._read.seek(-len(line), 1)
-                return
-            self._answered += 1
-            if line.startswith(b'{"error"'):
-                error = json.loads(line)["error"]
+        while more := self._read.read(_AT_ONCE):
+            text, _, self._rest = (self._rest + more).rpartition(b"\n")
+            at = 0 if text.startswith(_REFUSED) else text.find(b"\n" + _REFUSED) + 1
+            if text.startswith(_REFUSED, at):
+                self._answered += text.count(b"\n", 0, at) + 1
+                error = json.loads(text[at:].partition(b"\n")[0])["error"]
                 raise KarzhoulError(self._why(error))
+            self._answered += text.count(b"\n") + bool(text)
+            while len(self._about) > 1 and self._about[1][0] < self._answered:
+                self._about.popleft()
 
     def _why(self, error: Mapping[str, Any]) -> str:
         """A refusal in words."""
@@ -85,7 +93,8 @@ class Feed:
     def _object(self) -> str:
         """What the last reply is about."""
         return next(
-            (word for at, word in reversed(self._about) if at < self._answered), "the new file"
+            (named(entity, key) for at, entity, key in reversed(self._about)
+             if at < self._answered), "the new file"
         )
 
     def close(self) -> None:

@@ -76,7 +76,7 @@ class Places:
     def put(self) -> None:
         """Has the new store, whose program has ended, take the place of the old one, which is held
         and has nothing in its log."""
-        if self.has_log() or not _is_whole(self.log(self.new)):
+        if self.has_log() or not is_whole(self.log(self.new)):
             raise KarzhoulError(f"{self.db} or the new store has a log, and is left as it is")
         shutil.copymode(self.db, self.new)
         _sync(self.new)
@@ -117,7 +117,8 @@ class Places:
             shutil.rmtree(self.folder)
 
 
-def _is_whole(log: Path) -> bool:
+def is_whole(log: Path) -> bool:
+    """Whether a log has nothing that its store lacks."""
     return not log.exists() or log.stat().st_size < _LEAST_LOG
 
 

@@ -361,7 +361,7 @@ def _converted(get: Get, convert: Optional[Callable[[Value], Value]]) -> Get:
         value = get(record)
         return value if value is None or convert is None else convert(value)
 
-    return converted
+    return get if convert is None else converted
 
 
 def _key_of(name: str) -> Get:

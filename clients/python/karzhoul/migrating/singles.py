@@ -6,15 +6,16 @@ from typing import Any, Dict, List, Tuple
 
 from ..classes.unique import Constraint, Uniques
 from ..records import Key, named
-from .bringing import Bringer, Brought
+from .bringing import Brought
 from .plans import Led
 from .sides import Side
+from .writing import Leads
 
 
 class Singles:
     """The values of the new objects that are to be unique. `faults` are those that two have."""
 
-    def __init__(self, side: Side, bringer: Bringer) -> None:
+    def __init__(self, side: Side, bringer: Leads) -> None:
         self.faults: List[str] = []
         self._bringer = bringer
         self._uniques = Uniques(side.made.model, side.made.lock) if side.made else None

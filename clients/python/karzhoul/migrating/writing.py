@@ -7,15 +7,17 @@ when it opens the file.
 
 from __future__ import annotations
 
-from typing import Any, Callable, Dict, Iterator, List, Mapping, NamedTuple, Optional, Set, Tuple
+from typing import Any, Callable, Dict, Iterator, List, Mapping, NamedTuple, Optional, Protocol
+from typing import Set, Tuple, Union
 
 from ..lines import spelled, text_spelled
 from ..loading import MOST_UNUSED
 from ..records import GREATEST, Key, bare, named
 from ..tally import MOST_OBJECTS
 from ..unit import Member
-from .bringing import Bringer, Brought
-from .feeding import Feed
+from .bringing import Brought
+from .feeding import About, Feed
+from .plans import Led
 from .sides import Side
 
 # How many objects are written by one commit; and a run that has fewer left than the others begins
@@ -44,6 +46,22 @@ def _free(member: Mapping[str, Any]) -> Dict[str, Any]:
     return {name: each for name, each in member.items() if name != "required"}
 
 
+class _Spelled(Dict[str, str]):
+    """Names as JSON."""
+
+    def __missing__(self, name: str) -> str:
+        said = self[name] = text_spelled(name)
+        return said
+
+
+class Leads(Protocol):
+    """What knows which objects relations lead to."""
+
+    def now(self, led: Led) -> Union[None, bool, Tuple[str, Key]]:
+        """The hierarchy and the key of what a relation leads to; False where that object is gone,
+        and None where it isn't known yet."""
+
+
 class _Late(NamedTuple):
     """A relation whose target wasn't there yet."""
 
@@ -57,7 +75,7 @@ class NewStore:
     stand in it."""
 
     def __init__(
-        self, feed: Feed, side: Side, bringer: Bringer, told: Callable[[int], None]
+        self, feed: Feed, side: Side, bringer: Leads, told: Callable[[int], None]
     ) -> None:
         shapes = side.shapes
         self.counts: Dict[str, int] = {}
@@ -74,8 +92,9 @@ class NewStore:
         self._unused = 0
         self._waiting: Dict[str, List[Brought]] = {}
         self._late: List[_Late] = []
-        self._lines: List[bytes] = []
-        self._about: List[Tuple[int, str]] = []
+        self._lines: List[str] = []
+        self._about: List[About] = []
+        self._names = _Spelled()
         self._made, self._together, self.done = 0, 0, 0
         self._begin_run()
 
@@ -86,7 +105,7 @@ class NewStore:
         self._tell("begin", '"em":1')
 
     def _tell(self, call: str, members: str) -> None:
-        self._lines.append(f'{{"call":"{call}"{"," if members else ""}{members}}}'.encode())
+        self._lines.append(f'{{"call":"{call}"{"," if members else ""}{members}}}')
 
     # ---- commits
 
@@ -128,9 +147,9 @@ class NewStore:
         if each.key in self._held[top]:
             self.faults.append(f"{each}: this key is another object's already")
             return
-        if shape.is_generated and not self._give_out(top, each.key[0], str(each)):
+        if shape.is_generated and not self._give_out(top, each.key[0], each):
             return
-        self._about.append((len(self._lines), str(each)))
+        self._about.append((len(self._lines), shape.name, each.key))
         number = self._count_one()
         self._tell("new", f'"entity":"{shape.name}"')
         if shape.is_generated:
@@ -140,9 +159,11 @@ class NewStore:
                 self._set(number, part.name, spelled(value))
         if shape.version:
             self._set(number, shape.version, str(each.version))
-        for name, value in each.values.items():
-            if value is not None:
-                self._set(number, name, spelled(value))
+        front, names = f'{{"call":"set","object":{number},"name":', self._names
+        self._lines += [
+            f'{front}{names[name]},"value":{spelled(value)}}}'
+            for name, value in each.values.items() if value is not None
+        ]
         self._held[top][each.key] = number
         self._relate(each, number)
         self._tell("persist", f'"em":1,"object":{number}')
@@ -153,8 +174,7 @@ class NewStore:
 
     def _set(self, number: int, name: str, value: str) -> None:
         self._lines.append(
-            f'{{"call":"set","object":{number},"name":{text_spelled(name)},"value":{value}}}'
-            .encode()
+            f'{{"call":"set","object":{number},"name":{self._names[name]},"value":{value}}}'
         )
 
     def _relate(self, each: Brought, number: int) -> None:
@@ -163,8 +183,19 @@ class NewStore:
             if led is not None:
                 self._lead(_Late(each, each.shape.links[name], led), number, True)
         for name, several in each.pairs.items():
-            for led in dict.fromkeys(several):
-                self._lead(_Late(each, each.shape.pairs[name], led), number, True)
+            pairs = [_Late(each, each.shape.pairs[name], led) for led in dict.fromkeys(several)]
+            if any(map(self._is_late, pairs)):
+                # All of them come late: what is added to a list that is stored loads its members,
+                # and these would take numbers that nobody counts.
+                self._late += pairs
+            else:
+                for pair in pairs:
+                    self._lead(pair, number, True)
+
+    def _is_late(self, late: _Late) -> bool:
+        """Whether what a relation leads to isn't there yet."""
+        now = self._bringer.now(late.led)
+        return now is None or (isinstance(now, tuple) and now[1] not in self._held[now[0]])
 
     def _lead(self, late: _Late, number: int, may_wait: bool) -> None:
         now = self._bringer.now(late.led)
@@ -188,7 +219,7 @@ class NewStore:
         if is_link:
             self._set(number, name, f'{{"object":{target}}}')
         else:
-            self._tell("add", f'"object":{number},"name":{text_spelled(name)},"member":{target}')
+            self._tell("add", f'"object":{number},"name":{self._names[name]},"member":{target}')
 
     def _miss(self, late: _Late, is_gone: bool) -> None:
         name, target = late.member.name, named(late.led.entity, late.led.key)
@@ -221,8 +252,9 @@ class NewStore:
 
     # ---- generated keys
 
-    def _give_out(self, top: str, number: Any, what: str) -> bool:
-        """Gives out the numbers of a hierarchy below this one; whether that can be."""
+    def _give_out(self, top: str, number: Any, what: Any) -> bool:
+        """Gives out the numbers of a hierarchy below this one; whether that can be. What it is for
+        is named where it can't."""
         left = number - self._nexts[top]
         if left < 0 or number >= GREATEST:
             why = "can't be given" if number < 1 or number >= GREATEST else (
@@ -256,7 +288,7 @@ class NewStore:
                 self._give_out(top, following, top)
         self._commit()
         for owner, several in _by_owner(self._late):
-            self._about.append((len(self._lines), str(owner)))
+            self._about.append((len(self._lines), owner.shape.name, owner.key))
             number = self._find(owner.shape.top, owner.key)
             for late in several:
                 self._lead(late, number, False)

@@ -1,0 +1,61 @@
+"""The store that a console is for: a file, or what a server serves."""
+
+from __future__ import annotations
+
+import argparse
+import json
+from pathlib import Path
+from typing import List, Optional
+
+from ..connecting import connect
+from ..factory import EntityManagerFactory, open as opened
+from ..given import given_of, mapping_data
+from ..jpql import LanguageName
+from ..migration import outlook
+from ..refusals import Misused
+
+
+def opened_for(said: argparse.Namespace) -> EntityManagerFactory:
+    """A factory over what the command names. To change a store of classes it is over these, which
+    look at what is written; to read it is over their mapping, and writes nothing beside it."""
+    if said.connect is not None:
+        return _connected(said)
+    if said.db is None:
+        raise Misused("a console takes a database file, or --connect ADDRESS")
+    if not Path(said.db).is_file():
+        raise FileNotFoundError(f"there is no file {said.db}")
+    given = given_of(said.mapping or "mapping.json")
+    if not isinstance(given, str) and said.write:
+        return opened(given, said.db, program=said.program, threads=True)
+    is_wide = not isinstance(given, str)
+    mapping = json.loads(mapping_data(said.mapping or "mapping.json"))
+    if not said.write and outlook(mapping, Path(said.db)).is_due:
+        raise Misused(
+            f"{said.db} is of revision 1, and an opening by this mapping brings it over for good: "
+            "'karzhoul migrate' tells what it changes, and --write does it"
+        )
+    language: Optional[LanguageName] = said.language
+    if language is None and is_wide:
+        language = "wide"
+    return opened(mapping, said.db, program=said.program, threads=True, language=language)
+
+
+def _connected(said: argparse.Namespace) -> EntityManagerFactory:
+    if said.db is not None:
+        raise Misused("the server has the file: --connect takes no database file beside it")
+    given = None if said.mapping is None else given_of(said.mapping)
+    if isinstance(given, str):
+        raise Misused("the server has the mapping: --connect takes a module of classes alone")
+    token = Path(said.token_file).read_text().strip() if said.token_file else None
+    return connect(said.connect, given, token=token, tls=said.tls_ca, threads=True)
+
+
+def title_of(said: argparse.Namespace) -> str:
+    """What the store is called."""
+    return said.connect or Path(said.db).name
+
+
+def lines_of(title: str, url: str, can_write: bool) -> List[str]:
+    """What is told as the console begins."""
+    how = "changes within transactions" if can_write else "reads alone; --write changes"
+    return [f"{title}: {how}", url, "Ctrl-C ends it. Who has this address may do all that it does."]

@@ -1,0 +1,66 @@
+"""The words of the commands `export` and `import`."""
+
+from __future__ import annotations
+
+import argparse
+from typing import Any, List
+
+from .naming import AS_MAPPED, SNAKE
+
+_EXPORT = """Writes what a store holds as tables with names and types of their own: one for each
+hierarchy of entities and one for each list that is stored, with keys, constraints and indexes.
+Everything is written, or nothing: to a new file of SQLite, or a text of SQL that is one transaction.
+It is whole each time: there is no --since. docs/OUTGROW.md tells the rest."""
+_IMPORT = """Makes a new store of tables as 'export' writes them, by the same mapping and the same
+--names, --name and --as: the same objects, versions and next keys. Everything is stored, or
+nothing."""
+
+
+def add_commands(
+    commands: Any, over: List[argparse.ArgumentParser], stored: argparse.ArgumentParser
+) -> None:
+    """Adds the commands to those of `karzhoul`, over a mapping, and a store that is there."""
+    word = "write what is stored as tables of SQLite or PostgreSQL"
+    out = commands.add_parser("export", parents=[*over, stored], help=word, description=_EXPORT)
+    way = out.add_mutually_exclusive_group(required=True)
+    way.add_argument("--sqlite", metavar="FILE", help="the new file of SQLite")
+    way.add_argument("--sql", metavar="FILE", help="the new text of SQL; - is standard output")
+    out.add_argument("--dialect", choices=("sqlite", "postgresql"), help="what --sql is for")
+    _add_names(out)
+    out.set_defaults(run=run_export)
+
+    word = "make a store of the tables that export wrote"
+    back = commands.add_parser("import", parents=over, help=word, description=_IMPORT)
+    back.add_argument("--sqlite", metavar="FILE", required=True, help="the file of SQLite")
+    back.add_argument("db", help="the new database file")
+    _add_names(back)
+    back.set_defaults(run=run_import)
+
+
+def _add_names(parser: argparse.ArgumentParser) -> None:
+    parser.add_argument(
+        "--names", choices=(AS_MAPPED, SNAKE), default=AS_MAPPED,
+        help="names as the mapping has them, or in small letters: order_line (%(default)s)",
+    )
+    parser.add_argument(
+        "--name", action="append", default=[], metavar="WHAT=NAME",
+        help="the name of a table, Entity=NAME, or of a column, Entity.member=NAME",
+    )
+    parser.add_argument(
+        "--as", dest="what", choices=("attribute", "column"), default="attribute",
+        help="values as an application has them, or as their columns are stored (%(default)s)",
+    )
+
+
+def run_export(said: argparse.Namespace) -> int:
+    """Writes the tables of a store."""
+    from . import exported
+
+    return exported.run(said)
+
+
+def run_import(said: argparse.Namespace) -> int:
+    """Makes a store of tables."""
+    from . import imported
+
+    return imported.run(said)

@@ -1,0 +1,135 @@
+"""The program of a server: lines go to it in turn, and each reply to whom its line belongs. Nothing
+waits for it but who asked: its pipes are read and written as far as they go."""
+
+from __future__ import annotations
+
+import asyncio
+import os
+import time
+from collections import deque
+from contextlib import suppress
+from typing import Callable, Deque, List, NamedTuple, Optional
+
+from ..program import Program
+
+Take = Callable[[Optional[bytes]], None]
+_CHUNK = 1 << 18
+
+
+class Asked(NamedTuple):
+    """What the reply to a line is handed to that was sent; None in its place where the program has
+    ended. And since when that is waited for."""
+
+    take: Take
+    since: float
+
+
+class Engine:
+    """A program that runs, and what it was sent and hasn't answered."""
+
+    def __init__(
+        self, program: Program, answered: Callable[[], None], ended: Callable[[], None]
+    ) -> None:
+        """`answered` is called once the replies that came are taken, `ended` where the program
+        has ended by itself."""
+        self.program = program
+        self._answered, self._ended = answered, ended
+        self._loop = asyncio.get_running_loop()
+        self._in, self._out = program.pipes()
+        self._asked: Deque[Asked] = deque()
+        self._lines: List[bytes] = []
+        self._unwritten = b""
+        # Whether nothing is read of it any more.
+        self._is_over = False
+        # The pieces of a reply that hasn't come whole.
+        self._pieces: List[bytes] = []
+        for pipe in (self._in, self._out):
+            os.set_blocking(pipe, False)
+        self._loop.add_reader(self._out, self._read)
+
+    def __len__(self) -> int:
+        """How many lines it hasn't answered."""
+        return len(self._asked)
+
+    @property
+    def is_idle(self) -> bool:
+        """Whether it has answered all that it was sent."""
+        return not self._asked
+
+    def waits_since(self) -> Optional[float]:
+        """Since when the line is under way that it works at; None where there is none."""
+        return self._asked[0].since if self._asked else None
+
+    def send(self, line: bytes, take: Take) -> None:
+        """Sends a line, at the next `flush`."""
+        self._lines.append(line)
+        self._asked.append(Asked(take, time.monotonic()))
+
+    def flush(self) -> None:
+        """Writes what was sent, as far as the pipe takes it."""
+        if not self._lines or self._is_over:
+            return
+        text = b"\n".join(self._lines) + b"\n"
+        self._lines.clear()
+        if self._unwritten:
+            self._unwritten += text
+            return
+        self._unwritten = text
+        self._write()
+        if self._unwritten:
+            self._loop.add_writer(self._in, self._written)
+
+    def _write(self) -> None:
+        try:
+            done = os.write(self._in, self._unwritten)
+        except BlockingIOError:
+            return
+        except BrokenPipeError:  # Its end is read.
+            done = len(self._unwritten)
+        self._unwritten = self._unwritten[done:]
+
+    def _written(self) -> None:
+        """Goes on to write."""
+        self._write()
+        if not self._unwritten:
+            self._loop.remove_writer(self._in)
+
+    def _read(self) -> None:
+        """Takes the replies that have come."""
+        try:
+            chunk = os.read(self._out, _CHUNK)
+        except BlockingIOError:
+            return
+        if not chunk:
+            self._stop_pipes()
+            self._ended()
+            return
+        first, *more = chunk.split(b"\n")
+        self._pieces.append(first)
+        for piece in more:
+            reply = b"".join(self._pieces)
+            self._pieces = [piece]
+            if not self._asked:  # It told more than it was asked.
+                self.program.kill()
+                return
+            self._asked.popleft().take(reply)
+        if more:
+            self._answered()
+
+    def left(self) -> None:
+        """Tells those whose lines weren't answered that the program has ended."""
+        while self._asked:
+            self._asked.popleft().take(None)
+
+    def _stop_pipes(self) -> None:
+        if self._is_over:
+            return
+        self._is_over = True
+        self._loop.remove_reader(self._out)
+        with suppress(ValueError, OSError):
+            self._loop.remove_writer(self._in)
+
+    def close(self) -> None:
+        """Ends the program's input, and waits for its end."""
+        self._stop_pipes()
+        self.program.close()

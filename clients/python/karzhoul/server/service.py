@@ -1,0 +1,597 @@
+"""The server as a whole: its connections take turns at the program."""
+
+from __future__ import annotations
+
+import asyncio
+import math
+import socket
+import struct
+import time
+from collections import deque
+from contextlib import asynccontextmanager
+from typing import Any, AsyncIterator, Callable, Coroutine, Deque, Dict, List, Optional, Set
+
+from ..places import MOST
+from ..program import Program
+from ..refusals import KarzhoulError
+from .connection import Connection, Manager
+from .counts import Counts
+from .engine import Engine
+from .gate import DUE, LAST, LATE, Gate
+from .logs import log
+from .own import Own
+from .refusals import NULL, refusal
+from .settings import Served, Settings
+from .translation import BEGUN, CREATE, Call, Translation
+
+_WINDOW = 64
+_LARGE = 1 << 16
+_RESTART = b'{"call":"restart"}'
+_ENDING = "the server is ending"
+_ACTIVE = b'{"error":{"name":"IllegalState","no":7,"why":"active"},"events":[]}'
+# How many times in a row a program that ended is started again, with a second between them.
+_MOST_STARTS = 5
+
+
+class Turn:
+    """A connection that waits within a `createEntityManager`."""
+
+    def __init__(self, service: Service, connection: Connection) -> None:
+        self._service, self.connection = service, connection
+        self.until = time.monotonic() + connection.wait
+        connection.is_blocked = True
+
+    def let_in(self) -> None:
+        """It creates its manager, in its next turn."""
+        connection = self.connection
+        connection.reserved += 1
+        connection.reserved_until = math.inf
+        self._go_on()
+
+    def refuse(self) -> None:
+        """None became free in time."""
+        why = f"none became free within {self.connection.wait:g} seconds"
+        self._service.refuse(self.connection, self._service.no_manager(why))
+        self.connection.take_line()
+        self._go_on()
+
+    def _go_on(self) -> None:
+        self.connection.is_blocked = False
+        self.connection.wake()
+
+
+class Service:
+    """A server over a program that was started, which `start` starts again where it has ended."""
+
+    def __init__(
+        self, settings: Settings, start: Callable[[], Program], program: Program, served: Served
+    ) -> None:
+        self.settings, self.served = settings, served
+        self._start = start
+        self.engine = Engine(program, self._answered, self._program_ended)
+        self.gate, self.counts, self.own = Gate(), Counts(), Own(self)
+        self.connections: Dict[Connection, None] = {}
+        # Those who have their turn, who were told something, who don't read and since when, and
+        # whose end is still to be read by them.
+        self.ready: Deque[Connection] = deque()
+        self.told: List[Connection] = []
+        self.full: Dict[Connection, float] = {}
+        self._closing: Dict[Connection, float] = {}
+        # Those who wait to begin a transaction, and until when.
+        self._held: Dict[Connection, float] = {}
+        self._coming = self.active = self._last = 0
+        # How many objects the run has made.
+        self.made = 0
+        # How many keep all lines from being handed on, and those who wait for a still program.
+        self._stills = 0
+        self._still = asyncio.Lock()
+        self._idle: List[asyncio.Future[None]] = []
+        self._is_renewing = False
+        self.is_ending = False
+        # Its status, once it has ended.
+        self.ended: asyncio.Future[int] = asyncio.get_running_loop().create_future()
+        self._tasks: Set[asyncio.Task[None]] = set()
+
+    # ---- connections
+
+    def add(self, connection: Connection, transport: asyncio.Transport) -> None:
+        """A connection is there, or refused where there are too many."""
+        self._last += 1
+        connection.number = self._last
+        connection.peer = _peer(transport)
+        self.connections[connection] = None
+        self.counts.connections += 1
+        if len(self.connections) > self.settings.most_connections:
+            connection.close("Closed", f"{self.settings.most_connections} connections are open")
+        elif self.is_ending:
+            connection.close("Closed", _ENDING)
+
+    def has_room(self) -> bool:
+        """Whether more of long lines may come."""
+        return self._coming < self.settings.coming_room
+
+    def note_coming(self, before: int, now: int) -> None:
+        """A line that is coming has grown, or has come."""
+        self._coming += (now if now > _LARGE else 0) - (before if before > _LARGE else 0)
+
+    def look_at_end(self, connection: Connection) -> None:
+        """Lets go what an ended connection has, once all that it sent is answered."""
+        if not connection.is_ended or connection.sent:
+            return
+        if connection.has_lines and not connection.is_closed:
+            return
+        if connection in self.connections:
+            self._let_go(connection)
+
+    def _let_go(self, connection: Connection) -> None:
+        """Rolls back its transactions, and closes its managers."""
+        del self.connections[connection]
+        self.full.pop(connection, None)
+        self._held.pop(connection, None)
+        self.gate.leave_all(connection)
+        for _ in range(connection.reserved):
+            self.gate.give_back()
+        connection.reserved = 0
+        for number, manager in connection.managers.items():
+            self._close_manager(connection.translation.managers.real_of[number], manager)
+        connection.managers = {}
+        if not connection.is_closed:
+            connection.close()
+        self._closing[connection] = time.monotonic()
+        self.engine.flush()
+
+    def _close_manager(
+        self, real: int, manager: Manager, then: Optional[Callable[[], None]] = None
+    ) -> None:
+        if manager.since is not None:
+            self.active -= 1
+            self.engine.send(b'{"call":"rollback","em":%d}' % real, _nothing)
+
+        def closed(reply: Optional[bytes]) -> None:
+            if reply is not None:
+                self.gate.give_back()
+            if then is not None:
+                then()
+
+        self.engine.send(b'{"call":"close","em":%d}' % real, closed)
+
+    # ---- lines
+
+    def dispatch(self) -> None:
+        """Hands lines on to the program, of each connection one in turn."""
+        if not self._stills:
+            turns = self.ready
+            while turns and len(self.engine) < _WINDOW:
+                connection = turns.popleft()
+                if connection.step():
+                    turns.append(connection)
+                else:
+                    connection.is_ready = False
+                    if connection.is_ended:
+                        self.look_at_end(connection)
+            self.engine.flush()
+        self.tell()
+
+    def tell(self) -> None:
+        """Sends what connections were told."""
+        while self.told:
+            self.told.pop().flush()
+
+    def serve(self, connection: Connection, line: bytes) -> None:
+        """Does a call of the server's own."""
+        self.own.serve(connection, line)
+
+    def refuse(self, connection: Connection, refused: bytes) -> None:
+        """Tells a connection a refusal of the server's own."""
+        self.counts.refused(refused)
+        connection.say(refused)
+
+    def hand_on(self, connection: Connection, call: Call) -> bool:
+        """Hands a call on, where it is its turn; whether its line is taken. What the server says
+        itself comes after what the program has still to say."""
+        word = call.word
+        if word == "createEntityManager":
+            return self._create(connection, call)
+        if word == "begin" and (self.gate.held_until is not None or self.is_ending):
+            return self._begin(connection, call)
+        if word == "restart":
+            return connection.sent == 0 and self._restart_own(connection)
+        self.send(connection, call)
+        return True
+
+    def send(self, connection: Connection, call: Call) -> None:
+        """Sends a connection's call to the program."""
+        connection.is_sent(call.word)
+        self.counts.lines += 1
+        self.engine.send(call.line, lambda reply: self._take(connection, call, reply))
+
+    def _create(self, connection: Connection, call: Call) -> bool:
+        if connection.reserved:
+            connection.reserved -= 1
+        elif self.gate.is_free and not self.is_ending:
+            self.gate.take()
+        elif connection.sent:
+            return False
+        elif len(connection.managers) == MOST:
+            self.gate.take()  # The program refuses it, and it is given back.
+        elif self.is_ending:
+            self.refuse(connection, refusal("Closed", f"{_ENDING}, and creates no manager"))
+            return True
+        elif not connection.wait:
+            self.refuse(connection, self.no_manager("others wait, or have all"))
+            return True
+        else:
+            self.gate.wait(Turn(self, connection))
+            return False
+        self.send(connection, call)
+        return True
+
+    def no_manager(self, why: str) -> bytes:
+        """The refusal of a manager, with who has those that there are."""
+        who = ", ".join(
+            f"connection {it.number} ({it.peer}) has {len(it.managers) + it.reserved}"
+            for it in self.connections if it.managers or it.reserved
+        )
+        return refusal("Limit", f"no manager is free, {why}: of {MOST}, {who or 'none is had'}")
+
+    def _begin(self, connection: Connection, call: Call) -> bool:
+        """A transaction is begun while a new run, or the end, waits for others."""
+        is_within = any(it.since is not None for it in connection.managers.values())
+        if connection.sent:
+            return False
+        if self.is_ending:
+            self.refuse(connection, refusal("Closed", f"{_ENDING}, and begins no transaction"))
+            return True
+        if is_within and self.made < LAST:
+            self.send(connection, call)
+            return True
+        if is_within or self._held.get(connection, time.monotonic() + 1) < time.monotonic():
+            why = "few objects of the run are left, and a new one waits for transactions to end"
+            self.refuse(connection, refusal("Limit", why))
+            return True
+        self._held.setdefault(connection, time.monotonic() + self.settings.wait)
+        connection.is_blocked = True
+        return False
+
+    def _release(self) -> None:
+        """Those who waited to begin go on."""
+        for connection in list(self._held):
+            connection.is_blocked = False
+            connection.wake()
+        self._held.clear()
+
+    def _restart_own(self, connection: Connection) -> bool:
+        """A connection begins again: its managers are closed, and its numbers begin at 1."""
+        if any(it.since is not None for it in connection.managers.values()):
+            connection.say(_ACTIVE)
+            return True
+        left = len(connection.managers)
+        managers, connection.managers = connection.managers, {}
+
+        def over() -> None:
+            connection.sent -= 1
+            if not connection.sent:
+                connection.is_blocked = False
+                connection.translation = Translation()
+                connection.say(NULL)
+                connection.wake()
+                self.look_at_end(connection)
+
+        connection.sent, connection.is_blocked = left + 1, True
+        for number, manager in managers.items():
+            self._close_manager(connection.translation.managers.real_of[number], manager, over)
+        over()
+        return True
+
+    # ---- replies
+
+    def _take(self, connection: Connection, call: Call, reply: Optional[bytes]) -> None:
+        """The reply to a call of a connection; None where the program has ended."""
+        connection.is_answered(call.word)
+        if reply is None:
+            lost = "; it may be stored or not" if call.word == "commit" else ""
+            connection.say(refusal("ProgramEnded", f"the program ended before it answered{lost}"))
+            return
+        made = self.made
+        text, self.made = connection.translation.reply(call.word, reply, made)
+        self.counts.objects += self.made - made
+        refused = self.counts.refused(reply) if reply.startswith(b'{"error":') else ""
+        self._note(connection, call, refused, reply)
+        if call is BEGUN and not refused:
+            self._begin_created(connection, text)
+        else:
+            self._say(connection, text)
+
+    def _begin_created(self, connection: Connection, created: bytes) -> None:
+        """Opens the transaction of a manager that was just created, and tells of it then."""
+        em = max(connection.managers)
+        real = connection.translation.managers.real_of[em]
+        begin = Call("begin", em, b'{"call":"begin","em":%d}' % real)
+
+        def begun(reply: Optional[bytes]) -> None:
+            if reply is None:
+                self._take(connection, begin, None)
+                return
+            connection.is_answered("begin")
+            self._note(connection, begin, "", reply)
+            self._say(connection, created)
+
+        connection.is_sent("begin")
+        self.engine.send(begin.line, begun)
+
+    def _say(self, connection: Connection, reply: bytes) -> None:
+        if not connection.is_closed:
+            connection.say(reply)
+            connection.heard = time.monotonic()
+            if connection.has_lines:
+                connection.wake()
+        if connection.is_ended:
+            self.look_at_end(connection)
+
+    def _note(self, connection: Connection, call: Call, refused: str, reply: bytes) -> None:
+        """Takes note of what a call has done to its manager."""
+        word = call.word
+        if word == "createEntityManager":
+            if refused:
+                self.gate.give_back()
+            else:
+                number = max(connection.translation.managers.real_of)
+                connection.managers[number] = Manager()
+            return
+        manager = connection.managers.get(call.em)
+        if manager is None:
+            return
+        if word == "commit":
+            self.counts.commits += not refused
+            if (not refused or refused == "Rollback") and manager.since is not None:
+                manager.since = None
+                self.active -= 1
+        elif refused:
+            return
+        elif word == "begin":
+            manager.since = time.monotonic()
+            self.active += 1
+        elif word == "rollback":
+            manager.since, manager.is_touched = None, False
+            self.active -= 1
+        elif word == "clear":
+            manager.is_touched = False
+        elif word == "close":
+            del connection.managers[call.em]
+            del connection.translation.managers.real_of[call.em]
+            self.gate.give_back()
+        elif word == "setFlushMode":
+            manager.mode = call.line
+        else:
+            manager.is_touched = True
+
+    def _answered(self) -> None:
+        """Replies have come."""
+        if self.engine.is_idle:
+            self._wake_idle()
+        if self.made >= DUE and not self._is_renewing:
+            self._look_at_run()
+        self.dispatch()
+
+    # ---- a still program
+
+    def _wake_idle(self) -> None:
+        for future in self._idle:
+            if not future.done():
+                future.set_result(None)
+        self._idle.clear()
+
+    @asynccontextmanager
+    async def still(self) -> AsyncIterator[None]:
+        """Lines wait, and all that were sent are answered: nothing is under way in the block."""
+        self._stills += 1
+        try:
+            async with self._still:
+                while not self.engine.is_idle:
+                    future = asyncio.get_running_loop().create_future()
+                    self._idle.append(future)
+                    await future
+                yield
+        finally:
+            self._stills -= 1
+            self.dispatch()
+
+    def later(self, work: Coroutine[Any, Any, None]) -> None:
+        """Does work beside all else."""
+        task = asyncio.get_running_loop().create_task(work)
+        self._tasks.add(task)
+        task.add_done_callback(self._done)
+
+    def _done(self, task: asyncio.Task[None]) -> None:
+        self._tasks.discard(task)
+        fault = None if task.cancelled() else task.exception()
+        if fault is not None:
+            log("fault", why=repr(fault))
+            if not self.ended.done():
+                self.ended.set_exception(fault)
+
+    async def ask(self, line: bytes) -> Optional[bytes]:
+        """The reply to a line of the server's own; None where the program has ended."""
+        future: asyncio.Future[Optional[bytes]] = asyncio.get_running_loop().create_future()
+        self.engine.send(line, future.set_result)
+        self.engine.flush()
+        return await future
+
+    # ---- a new run
+
+    def _look_at_run(self) -> None:
+        """Begins a new run, or has those who begin wait for one, where it is time."""
+        if not self.gate.taken or (self.made >= LATE and not self.active):
+            self._is_renewing = True
+            self.later(self._renew())
+        else:
+            self.gate.hold(self.made, time.monotonic())
+
+    async def _renew(self) -> None:
+        """Begins a new run, where still no transaction is open."""
+        try:
+            async with self.still():
+                late = self.made >= LATE
+                if self.active or (self.gate.taken and not late):
+                    return
+                if await self.ask(_RESTART) != NULL:
+                    return
+                self.counts.restarts += 1
+                log("restart", objects=self.made)
+                self.made = 0
+                await self._keep()
+        finally:
+            self._is_renewing = False
+            self.gate.go_on()
+            self._release()
+
+    async def _keep(self) -> None:
+        """Creates the managers again that hold nothing; all else is of before the restart."""
+        count = 0
+        for connection in self.connections:
+            kept: Dict[int, int] = {}
+            for number, manager in list(connection.managers.items()):
+                if manager.is_touched:
+                    del connection.managers[number]
+                    continue
+                told = await self.ask(CREATE)
+                if told is None:
+                    return
+                kept[number] = int(told[told.rindex(b":") + 1 : -1])
+                if manager.mode:
+                    mode = manager.mode[manager.mode.index(b',"mode"') :]
+                    front = b'{"call":"setFlushMode","em":%d' % kept[number]
+                    await self.ask(front + mode)
+            count += len(kept) + connection.reserved
+            connection.translation.objects.restarted()
+            connection.translation.managers.restarted(kept)
+        self.gate.begun(count)
+
+    # ---- the end of the program
+
+    def _program_ended(self) -> None:
+        """The program has ended, and is started again; who had something of it is told so."""
+        status = self.engine.program.status()
+        log("program ended", status=status, objects=self.made, transactions=self.active)
+        self._stills += 1
+        self.engine.left()
+        self._wake_idle()
+        self.active = self.made = 0
+        for connection in list(self.connections):
+            is_lost = not connection.translation.is_empty
+            connection.managers, connection.reserved = {}, 0
+            if is_lost or connection.is_ended:
+                why = "the program ended: what was not committed is lost; connect again"
+                connection.close("ProgramEnded", why)
+                self.look_at_end(connection)
+        self.gate.begun(0)
+        self.tell()
+        if self.is_ending:
+            self.end(4)
+        else:
+            self.later(self._start_again())
+
+    async def _start_again(self) -> None:
+        loop = asyncio.get_running_loop()
+        for attempt in range(1, _MOST_STARTS + 1):
+            try:
+                program = await loop.run_in_executor(None, self._start)
+                break
+            except KarzhoulError as fault:
+                log("program not started", attempt=attempt, why=str(fault))
+                if attempt == _MOST_STARTS:
+                    self.end(4)
+                    return
+                await asyncio.sleep(1)
+        self.engine.close()
+        self.engine = Engine(program, self._answered, self._program_ended)
+        self.counts.programs += 1
+        log("program started", process=program.pid)
+        self._stills -= 1
+        self._release()
+        self.dispatch()
+
+    def end(self, status: int) -> None:
+        """Ends the server with a status."""
+        if not self.ended.done():
+            self.ended.set_result(status)
+
+    async def close(self) -> None:
+        """Ends all connections, and the program."""
+        for connection in list(self.connections):
+            # Who waits for nothing hears nothing, since the reply before may still be on its way.
+            connection.close("Closed" if connection.has_lines else "", "the server has ended")
+        self.tell()
+        until = time.monotonic() + 1
+        while self._closing and time.monotonic() < until:
+            await asyncio.sleep(0.01)
+            self._closing = {it: at for it, at in self._closing.items() if not it.is_gone}
+        for connection in [*self._closing, *self.connections]:
+            connection.drop()
+        await asyncio.sleep(0)
+        self.engine.close()
+
+    # ---- each second
+
+    def look_after(self) -> None:
+        """Ends who is silent too long, doesn't read, or sends no whole line; and those who waited
+        long enough go on."""
+        now, settings = time.monotonic(), self.settings
+        self.gate.refuse_late(now)
+        if self.gate.is_over(now) and self.made < LAST:
+            self.gate.go_on()
+            self._release()
+        for connection, until in list(self._held.items()):
+            if until < now:
+                connection.is_blocked = False
+                connection.wake()
+        for connection in list(self.connections):
+            self._look_at(connection, now)
+        for connection, since in list(self._closing.items()):
+            if connection.is_gone or now - since > settings.half_line:
+                connection.drop()
+                del self._closing[connection]
+        if sum(it.unread for it in self.full) > settings.unread_room:
+            max(self.full, key=lambda it: it.unread).drop()
+        since_call = self.engine.waits_since()
+        if settings.most_call and since_call and now - since_call > settings.most_call:
+            log("call took too long", seconds=settings.most_call)
+            self.engine.program.stop()
+        self.dispatch()
+
+    def _look_at(self, connection: Connection, now: float) -> None:
+        settings = self.settings
+        connection.read_on()
+        if connection.reserved and connection.reserved_until < now:
+            connection.reserved -= 1
+            self.gate.give_back()
+        half, full = connection.half_since, self.full.get(connection)
+        if half is not None and now - half > settings.half_line:
+            connection.close("Closed", f"no whole line came for {settings.half_line:g} seconds")
+        elif not connection.is_trusted and now - connection.began > settings.half_line:
+            connection.close("Denied", "no token came")
+        elif full is not None and now - full > settings.half_line:
+            log("connection reads nothing", connection=connection.number, unread=connection.unread)
+            connection.drop()
+        elif connection.managers and not connection.sent and not connection.has_lines:
+            if now - connection.heard > settings.idle:
+                why = f"it was silent for {settings.idle:g} seconds with a manager open"
+                log("connection silent", connection=connection.number, peer=connection.peer)
+                connection.close("Closed", f"{why}: what was not committed is rolled back")
+
+
+def _nothing(_: Optional[bytes]) -> None:
+    """What comes of a line that nobody waits for."""
+
+
+def _peer(transport: asyncio.Transport) -> str:
+    """Who a connection is of, as far as that is known."""
+    peer = transport.get_extra_info("peername")
+    if isinstance(peer, tuple):
+        return f"{peer[0]}:{peer[1]}"
+    try:
+        asked = socket.SOL_SOCKET, socket.SO_PEERCRED, struct.calcsize("3i")
+        told = transport.get_extra_info("socket").getsockopt(*asked)
+        return f"process {struct.unpack('3i', told)[0]}"
+    except (OSError, AttributeError):
+        return "this machine"

@@ -1,0 +1,103 @@
+"""Servers for tests: within this process, and as processes of their own."""
+
+from __future__ import annotations
+
+import asyncio
+import json
+import socket
+import threading
+from pathlib import Path
+from typing import Any, List, Mapping, Optional, Union
+
+from karzhoul.factory import started
+from karzhoul.program import Program
+from karzhoul.server.connection import Connection
+from karzhoul.server.service import Service
+from karzhoul.server.settings import Served, Settings
+
+from .support import PROGRAM
+
+SECONDS = 120
+
+
+class Here:
+    """A server in a thread of this process, to which sockets lead that it makes itself."""
+
+    def __init__(
+        self, mapping: Union[Path, Mapping[str, Any]], db: Path, settings: Optional[Settings] = None,
+        language: Any = "profile", listen: Optional[Path] = None,
+    ) -> None:
+        """With the path of a socket at which it listens, if it does."""
+        assert PROGRAM is not None
+        word = PROGRAM
+        said = json.loads(mapping.read_bytes()) if isinstance(mapping, Path) else mapping
+        told = json.dumps(said).encode()
+
+        def start() -> Program:
+            return started(word, told, str(db), None, language)
+
+        self._start, self._served = start, Served(told, language)
+        self._settings = settings or Settings()
+        self._path = listen
+        self._ready = threading.Event()
+        self._thread = threading.Thread(target=lambda: asyncio.run(self._run()), daemon=True)
+        self._thread.start()
+        assert self._ready.wait(SECONDS)
+
+    async def _run(self) -> None:
+        self._loop = asyncio.get_running_loop()
+        self.service = Service(self._settings, self._start, self._start(), self._served)
+        server: Optional[asyncio.AbstractServer] = None
+        if self._path is not None:
+            server = await self._loop.create_unix_server(
+                lambda: Connection(self.service, True), str(self._path)
+            )
+        self._ready.set()
+        looking = self._loop.create_task(self._look_after())
+        await self.service.ended
+        looking.cancel()
+        if server is not None:
+            server.close()
+        await self.service.close()
+
+    async def _look_after(self) -> None:
+        while True:
+            await asyncio.sleep(0.05)
+            self.service.look_after()
+
+    def connected(self, is_trusted: bool = True) -> socket.socket:
+        """A socket that leads to it."""
+        mine, its = socket.socketpair()
+        mine.settimeout(SECONDS)
+        made = self._loop.connect_accepted_socket(
+            lambda: Connection(self.service, is_trusted), its
+        )
+        asyncio.run_coroutine_threadsafe(made, self._loop).result(SECONDS)
+        return mine
+
+    def close(self) -> None:
+        """Ends it."""
+        self._loop.call_soon_threadsafe(self.service.end, 0)
+        self._thread.join(SECONDS)
+
+
+class Talk:
+    """Lines over a socket, and their replies."""
+
+    def __init__(self, connected: socket.socket) -> None:
+        self.socket = connected
+        self._file = connected.makefile("rb")
+
+    def ask(self, *lines: str) -> List[Any]:
+        """The replies to lines that are sent together."""
+        self.socket.sendall("".join(f"{line}\n" for line in lines).encode())
+        return [json.loads(self.reply()) for _ in lines]
+
+    def reply(self) -> bytes:
+        """The next reply; none where there is an end."""
+        return self._file.readline().rstrip(b"\n")
+
+    def close(self) -> None:
+        """Ends it."""
+        self._file.close()
+        self.socket.close()
