@@ -2,7 +2,8 @@
 # The tests of the Python client, clients/python: over the program that stands built, or in `./test
 # --quick` the one that ./jpa runs, or the one that KARZHOUL_PROGRAM names. The program is not built
 # here. Where mypy is on the PATH, the package and programs that use it are checked by it too
-# (clients/python/tests/test_types.py); else these tests are skipped.
+# (clients/python/tests/test_types.py); else these tests are skipped. Modules of tests run side by
+# side, as tests/modules.py says.
 set -u
 cd "$(dirname "$0")/.." || exit 1
 later='import sys; sys.exit(sys.version_info < (3, 9))'
@@ -16,5 +17,9 @@ if [ -z "$program" ]; then
     program=${programs%%$'\n'*}
 fi
 cd clients/python || exit 1
+longest="test_types test_migrate test_runs test_entity_classes test_tutorial test_threads test_lending_service"
+longest="$longest test_console test_console_page test_beginnings test_pages test_order_desk"
+longest="$longest test_migrate_classes test_values test_selecting"
 export KARZHOUL_PROGRAM=$program PYTHONDONTWRITEBYTECODE=1
-timeout 1500 python3 ../../tests/unit.py discover -s tests -t . 2>&1
+# shellcheck disable=SC2086
+timeout 2400 python3 ../../tests/modules.py tests $longest 2>&1

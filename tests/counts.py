@@ -4,7 +4,8 @@ and beside many, and tells those that grow with what is beside them.
 
 No contract speaks of speed, so marks, look-ups and indexes could be lost with every proof standing.
 Counted is one commit of one object, a find, and queries that look up what they ask: beside 2,000
-and 20,000 stored objects, of which few are managed, and beside 100 and 1,600 that a manager holds.
+and 20,000 stored objects, of which few are managed, without and with an index of a value, and
+beside 100 and 1,600 that a manager holds.
 Each may take at most 1.5 times as much beside the many, but that a range of keys copies a pointer
 to each object that is stored, for which it may take some instructions more. Of queries that go through all of a class
 what each of its objects takes is counted, over 200 and 1,000: a nested block, or the other side of
@@ -157,6 +158,32 @@ def beside_stored(count: int) -> list[Work]:
     ]
 
 
+def beside_indexed(count: int) -> list[Work]:
+    """What is counted beside so many stored objects whose amounts have an index, as a turn's number
+    is an amount of one of them."""
+    asks, parts = "SELECT o.number FROM Order o WHERE ", {"l": 100, "h": 121}
+    return [
+        Work("query of an equal value by its index", lambda n: asked(asks + "o.amount = :n", n=n + 2)),
+        Work("query of a range by its index",
+             lambda n: asked(asks + "o.amount BETWEEN :l AND :h", **parts)),
+        Work("query of three values by their index",
+             lambda n: asked(asks + "o.amount IN (5, 7, :n)", n=n + 12)),
+        Work("UPDATE by an index", lambda n: [
+            line("begin", em=1),
+            line("executeUpdate", em=1, params={"n": n},
+                 text="UPDATE Order o SET o.amount = o.amount WHERE o.amount = :n"),
+            line("commit", em=1)]),
+        Work("commit of a new object with an index", lambda n: [
+            line("begin", em=1), *new_order(n + 2, count + n), line("commit", em=1)]),
+        Work("commit of a change with an index", lambda n: [
+            line("begin", em=1), line("set", object=1, name="amount", value=count + n),
+            line("commit", em=1)]),
+        # (this looks at everything)
+        Work("a query of all but one value", lambda n: asked(
+            "SELECT COUNT(o) FROM Order o WHERE o.amount <> 7"), is_linear=True),
+    ]
+
+
 def beside_managed(count: int) -> list[Work]:
     """What is counted beside so many objects that manager 1 holds; manager 2 holds the first
     order."""
@@ -283,7 +310,7 @@ def counted(run: Run, works: list[Work]) -> dict[str, float]:
 
 def filled(program: str, place: str, count: int) -> str:
     """A store of so many objects."""
-    store = os.path.join(place, f"{count}.db")
+    store = os.path.join(tempfile.mkdtemp(dir=place), f"{count}.db")
     ran = subprocess.run(
         [program, "--mapping", MAPPING, "--db", store], input="".join(new_objects(count)).encode(),
         stdout=subprocess.PIPE, check=True,
@@ -309,10 +336,12 @@ def all_counts(kind: type[Run], program: str, place: str) -> Iterator[tuple[str,
     opened = line("createEntityManager")
     found = line("find", em=1, entity="Order", key=[2])
     person = line("find", em=1, entity="Person", key=[1])
-    for sizes, beside in ((STORED, beside_stored), (JOINED, beside_joined)):
+    index = line("index", entity="Order", name="amount")
+    for sizes, beside, told in ((STORED, beside_stored, ()), (STORED, beside_indexed, (index,)),
+                                (JOINED, beside_joined, ())):
         for count in sizes:
             run, works = kind(program, filled(program, place, count)), beside(count)
-            run.serve([opened, found, person])
+            run.serve([opened, found, person, *told])
             yield "stored", count, works, counted(run, works)
     for count in MANAGED:
         run, works = kind(program, os.path.join(place, f"{count}.db")), beside_managed(count)

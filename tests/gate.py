@@ -153,6 +153,35 @@ class Skips(Copy):
         self.put("tests/two.sh", f"cd {self.top} && python3 tests/unit.py tests.some 2>&1\n")
         self.quick("2 passed, 0 failed, 1 skipped", 0, "skipped: tests.some.A.test_b: no: such")
 
+    def modules(self, folder: str, after: str = "") -> None:
+        """Has a script run the modules of a folder, whose time may be another one."""
+        for name in ("unit.py", "modules.py"):
+            self.put(f"tests/{name}", (TOP / "tests" / name).read_text(encoding="utf-8"))
+        said = f"import sys; sys.path.append('tests'); import modules{after}"
+        said += f"; sys.exit(modules.main(['{folder}']))"
+        self.put("tests/two.sh", f"cd {self.top}\npython3 -c \"{said}\" 2>&1\n")
+
+    def test_modules_are_counted_together(self) -> None:
+        self.modules("some")
+        self.put("some/test_good.py", "import unittest\nclass A(unittest.TestCase):\n"
+                 "    def test_a(self) -> None: pass\n    def test_b(self) -> None: pass\n"
+                 "    @unittest.skip('no: such')\n    def test_c(self) -> None: pass\n")
+        skipped = "skipped: some.test_good.A.test_c: no: such"
+        self.quick("2 passed, 0 failed, 1 skipped", 0, "OK (skipped=1)", skipped)
+        self.modules("some', 'test_none")
+        self.quick("1 passed, 1 failed", 1, "modules: some has no test_none")
+        self.modules("some', 'test_good")
+        self.put("some/test_bad.py", "import unittest\nclass A(unittest.TestCase):\n"
+                 "    def test_d(self) -> None: self.fail('as it must')\n")
+        self.put("some/test_killed.py", "import os\nos.kill(os.getpid(), 9)\n")
+        told = "FAILED (failures=1, skipped=1, modules=2)"
+        self.quick("1 passed, 1 failed, 1 skipped", 1, told, skipped, "AssertionError: as it must")
+
+    def test_a_module_that_hangs_is_ended_and_has_failed(self) -> None:
+        self.modules("hung", "; modules.SECONDS = 1")
+        self.put("hung/test_hung.py", "import time\ntime.sleep(3600)\n")
+        self.quick("1 passed, 1 failed", 1, "FAILED (modules=1)")
+
     def test_each_that_may_be_skipped_has_a_reason(self) -> None:
         for line in (TOP / "tests/may-skip").read_text(encoding="utf-8").splitlines():
             name, found, why = line.partition(": ")
