@@ -91,6 +91,11 @@ public final class Lines {
         return put("{\"call\":\"new\",\"entity\":\"").put(entity).put("\"}").end();
     }
 
+    /** Says that an attribute or a part of a key will be looked up, by the names in the mapping. */
+    public Lines index(String entity, String member) {
+        return put("{\"call\":\"index\",\"entity\":\"").put(entity).put("\",\"name\":\"").put(member).put("\"}").end();
+    }
+
     public Lines restart() {
         return put("{\"call\":\"restart\"}").end();
     }

@@ -5,10 +5,14 @@ import java.io.IOException;
 import java.nio.file.Files;
 import java.nio.file.Path;
 import java.util.ArrayList;
+import java.util.Collection;
 import java.util.HashMap;
 import java.util.List;
 import java.util.Map;
+import java.util.Set;
+import java.util.concurrent.CopyOnWriteArraySet;
 import java.util.function.Consumer;
+import karzhoul.jpa.model.Indexed;
 import karzhoul.jpa.model.Transition;
 import karzhoul.jpa.model.UnitModel;
 
@@ -30,6 +34,7 @@ public final class Program {
     private final String description;
     private final Path mappingFile;
     private final Path memory;
+    private final Set<Indexed> indexes;
     private final Pool pool;
     private int users;
 
@@ -45,7 +50,40 @@ public final class Program {
         List<String> command = List.of(program, "--language", "wide", "--mapping", mappingFile.toString(), "--db", file);
         Journal journal = log == null ? null : new Journal(log);
         StoreDescription described = memory == null ? new StoreDescription(Path.of(store), description) : null;
-        pool = new Pool(() -> started(command, journal, described, unit, properties));
+        indexes = new CopyOnWriteArraySet<>(unit.indexes());
+        pool = new Pool(() -> indexed(started(command, journal, described, unit, properties)));
+    }
+
+    private Engine indexed(Engine engine) {
+        try {
+            index(engine, indexes);
+            return engine;
+        } catch (RuntimeException refused) {
+            engine.close();
+            throw refused;
+        }
+    }
+
+    /** Tells a program what will be looked up, until it ends. Where it has no memory for an index, answers are the same. */
+    private static void index(Engine engine, Collection<Indexed> wanted) {
+        Lines lines = new Lines();
+        wanted.forEach(it -> lines.index(it.entity(), it.member()).about("the index of " + it));
+        for (Reply reply : engine.ask(lines)) {
+            if (reply.isRefused() && !reply.error().equals("OutOfMemory")) {
+                throw Refusals.of(reply);
+            }
+        }
+    }
+
+    /** Takes what another unit says of the same store. */
+    private void alsoIndex(List<Indexed> more) {
+        if (indexes.addAll(more)) {
+            try {
+                index(pool.engine(), more);
+            } catch (ProgramEnded ended) {
+                System.getLogger("karzhoul").log(System.Logger.Level.DEBUG, "its next start has these indexes", ended);
+            }
+        }
     }
 
     private static PersistenceException notOpened(List<String> command, ProgramEnded ended) {
@@ -142,6 +180,7 @@ public final class Program {
                 throw new PersistenceException(url + " is open in this JVM with another mapping: units that share a"
                     + " store must have the same entities" + new Differences(shared.description, unit.description()).words());
             }
+            shared.alsoIndex(unit.indexes());
             shared.users++;
             return shared;
         }

@@ -9,6 +9,7 @@ final class PlainUnit implements UnitModel {
     private final List<EntityModel> entities;
     private final List<EntityModel> hidden;
     private final List<Unique> uniques;
+    private final List<Indexed> indexes;
     private final Map<Class<?>, EntityModel> byClass = new HashMap<>();
     private final Map<String, EntityModel> byName = new HashMap<>();
     private final Map<String, Named> namedQueries;
@@ -18,9 +19,10 @@ final class PlainUnit implements UnitModel {
 
     /** @param stored all that the mapping has */
     PlainUnit(List<PlainEntity> entities, List<PlainEntity> hidden, List<Unique> uniques,
-            Map<String, Named> namedQueries, List<PlainEntity> stored) {
+            List<Indexed> indexes, Map<String, Named> namedQueries, List<PlainEntity> stored) {
         this.hidden = List.copyOf(hidden);
         this.uniques = List.copyOf(uniques);
+        this.indexes = List.copyOf(indexes);
         this.entities = List.copyOf(entities);
         this.namedQueries = Map.copyOf(namedQueries);
         this.stored = stored;
@@ -45,6 +47,11 @@ final class PlainUnit implements UnitModel {
     @Override
     public List<Unique> uniques() {
         return uniques;
+    }
+
+    @Override
+    public List<Indexed> indexes() {
+        return indexes;
     }
 
     @Override

@@ -67,6 +67,7 @@ public final class Reader {
         List<PlainEntity> all = Stream.concat(visible.stream(), hidden.stream()).toList();
         new Joiner(faults, entities).join(all);
         List<Unique> uniques = new UniqueReader(faults, entityNames).read(all);
+        List<Indexed> indexes = new IndexReader(faults).read(all);
         List<PlainEntity> stored = Stream.of(all, uniques.stream().map(Unique::keys).toList(), generators.sequences(),
                 new OrderReader(faults, entityNames).read(all)).flatMap(List::stream).toList();
         new NumberCheck(faults).check(stored);
@@ -77,7 +78,7 @@ public final class Reader {
             return null;
         }
         stored.forEach(PlainEntity::order);
-        return new PlainUnit(visible, hidden, uniques, queries, stored);
+        return new PlainUnit(visible, hidden, uniques, indexes, queries, stored);
     }
 
     private void readEntity(Class<?> javaClass) {

@@ -108,7 +108,7 @@ final class TableConstraints {
     }
 
     /** The names of join columns; without annotations a name with those of the key there (chapter 11.1.25). */
-    private static Set<String> names(JoinColumn[] said, String before, PlainEntity to) {
+    static Set<String> names(JoinColumn[] said, String before, PlainEntity to) {
         List<String> names = new ArrayList<>();
         List<Attribute> key = to.key().parts();
         for (int i = 0; i < key.size(); i++) {

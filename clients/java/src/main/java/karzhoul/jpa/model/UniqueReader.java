@@ -13,12 +13,10 @@ import java.util.Map;
 import java.util.Optional;
 import java.util.Set;
 import java.util.stream.Collectors;
+import karzhoul.jpa.model.Columns.Found;
 
 /** Reads which values are unique (chapters 11.1.9, 11.1.25 and 11.1.54), once relations lead to their targets. */
 final class UniqueReader {
-    /** A part, where it was declared. */
-    private record Found(PlainEntity entity, Unique.Part part, String column) {}
-
     private final Faults faults;
     private final Names entityNames;
     private final List<Unique> all = new ArrayList<>();
@@ -44,20 +42,20 @@ final class UniqueReader {
     private void ofMembers(PlainEntity entity) {
         for (PlainAttribute attribute : entity.ownAttributes()) {
             if (attribute.isUnique()) {
-                add(List.of(found(entity, attribute)));
+                add(List.of(Columns.found(entity, attribute)));
             }
         }
         for (PlainRelation relation : entity.ownRelations()) {
             TableConstraints tables = new TableConstraints(faults, entity, relation);
             if (tables.ofJoinTable() || isUnique(relation)) {
-                add(List.of(found(entity, relation)));
+                add(List.of(Columns.found(entity, relation)));
             }
             tables.ofCollectionTable((rows, columns) -> ofConstraint(rows, columns, ""));
         }
         if (entity.above() == null && entity.key().parts().size() > 1) {
             for (Attribute part : entity.key().parts()) {
                 if (((PlainAttribute) part).isUnique()) {
-                    add(List.of(found(entity, (PlainAttribute) part)));
+                    add(List.of(Columns.found(entity, (PlainAttribute) part)));
                 }
             }
         }
@@ -102,7 +100,7 @@ final class UniqueReader {
             names.add((before + name).toLowerCase(Locale.ROOT));
         }
         for (String name : columns) {
-            Optional<Found> part = find(entity, before + name, names);
+            Optional<Found> part = Columns.find(entity, before + name, names::containsAll).stream().findFirst();
             if (part.isEmpty()) {
                 faults.add(entity.declaredAt(), "@UniqueConstraint names the column \"" + name
                         + "\", which it doesn't have, or has only beside others that aren't named",
@@ -116,78 +114,6 @@ final class UniqueReader {
         if (!found.isEmpty()) {
             add(found);
         }
-    }
-
-    /** What has the column: in this class, in one above, or in one below. */
-    private static Optional<Found> find(PlainEntity entity, String column, Set<String> names) {
-        for (PlainEntity at = entity; at != null; at = at.above()) {
-            Optional<Found> own = findOwn(at, column, names);
-            if (own.isPresent()) {
-                return own;
-            }
-        }
-        return findBelow(entity, column, names);
-    }
-
-    private static Optional<Found> findBelow(PlainEntity entity, String column, Set<String> names) {
-        for (EntityModel each : entity.subEntities()) {
-            PlainEntity below = (PlainEntity) each;
-            Optional<Found> found = findOwn(below, column, names).or(() -> findBelow(below, column, names));
-            if (found.isPresent()) {
-                return found;
-            }
-        }
-        return Optional.empty();
-    }
-
-    private static Optional<Found> findOwn(PlainEntity entity, String column, Set<String> names) {
-        List<PlainAttribute> attributes = new ArrayList<>(entity.ownAttributes());
-        if (entity.above() == null) {
-            entity.key().parts().forEach(part -> attributes.add((PlainAttribute) part));
-        }
-        for (PlainAttribute attribute : attributes) {
-            if (isNamed(plain(entity, attribute.columnName()), attribute.path(), column)) {
-                return Optional.of(found(entity, attribute));
-            }
-        }
-        for (PlainRelation relation : entity.ownRelations()) {
-            boolean isOne = relation.isOwner() && !relation.isMany() && relation.target() != null;
-            if (isOne && columns(entity, relation).contains(column.toLowerCase(Locale.ROOT))
-                    && names.containsAll(columns(entity, relation))) {
-                return Optional.of(found(entity, relation));
-            }
-        }
-        return Optional.empty();
-    }
-
-    /** Where no annotation names the column of an embedded attribute, it has the name of that (chapter 2.13). */
-    private static boolean isNamed(String columnName, String path, String column) {
-        return columnName.equalsIgnoreCase(column)
-                || columnName.equals(path) && path.endsWith("." + column);
-    }
-
-    private static String plain(PlainEntity entity, String column) {
-        String before = entity.name() + ".";
-        return entity.above() != null && column.startsWith(before) ? column.substring(before.length()) : column;
-    }
-
-    /** The names of a relation's columns; without annotations its own, with those of the key there (chapter 11.1.25). */
-    private static Set<String> columns(PlainEntity entity, PlainRelation relation) {
-        String stored = plain(entity, relation.storedName());
-        if (!stored.equals(relation.path())) {
-            return Set.of(stored.toLowerCase(Locale.ROOT).split(" "));
-        }
-        return relation.target().key().parts().stream()
-                .map(part -> (relation.path() + "_" + ((PlainAttribute) part).columnName()).toLowerCase(Locale.ROOT))
-                .collect(Collectors.toSet());
-    }
-
-    private static Found found(PlainEntity entity, PlainAttribute attribute) {
-        return new Found(entity, new Unique.Part(attribute, null), plain(entity, attribute.columnName()));
-    }
-
-    private static Found found(PlainEntity entity, PlainRelation relation) {
-        return new Found(entity, new Unique.Part(null, relation), plain(entity, relation.storedName()));
     }
 
     private void add(List<Found> found) {

@@ -16,6 +16,9 @@ public interface UnitModel {
     /** What no two objects of an entity have alike. */
     List<Unique> uniques();
 
+    /** What indexes of tables say will be looked up. */
+    List<Indexed> indexes();
+
     /**
      * The entity of a class, also of a proxy's.
      *
