@@ -249,7 +249,8 @@ def connect(
     certificates to trust, or a context of the module `ssl`. A server that isn't there, or refuses
     the token, is a `Disconnected`, and classes that aren't the server's a `ProgramNotFound`.
 
-    What needs the file isn't to be had: the server has it. A connection that ends rolls back what
+    What needs the file isn't to be had: the server has it. So it has the indexes too, which its
+    command names, and those that are `index=True` in these classes are asked of it. A connection that ends rolls back what
     isn't committed; `reopen` connects again, and waits for the server as long.
     """
     if wait is not None and not (wait >= 0 and math.isfinite(wait)):
@@ -263,7 +264,8 @@ def connect(
             if said is not None:
                 _check_alike(said, mapping, way)
             app = EntityManagerFactory(
-                running, mapping, running.served["language"], echo, None, binding, again=None
+                running, mapping, running.served["language"], echo, None, binding,
+                index_lines=[] if binding is None else binding.index_lines(),
             )
             app._again = lambda: _again_of(app)
             app._wait = wait

@@ -21,6 +21,7 @@ from .jpql import LANGUAGES, LanguageName
 from .kinds import Classes
 from .entities import Attribute, E, Entity, check_names, classes_of
 from .finding import find_program
+from .indexes import Indexes, index_lines
 from .lines import line_of
 from .managers import EntityManager
 from .memory import MemoryStore, room_words
@@ -52,7 +53,7 @@ def open(
     db: Optional[Words] = None, *,
     program: Optional[Words] = None, echo: bool = False, threads: bool = False,
     wait: Optional[float] = 30.0, lock: Union[None, str, Path] = None,
-    language: Optional[LanguageName] = None,
+    language: Optional[LanguageName] = None, indexes: Optional[Indexes] = None,
 ) -> EntityManagerFactory:
     """Starts the program over a mapping (a file, a pipe, or what such a file says), or over classes
     (a list of them or their module), and a database file; without one the store is in memory, and
@@ -72,6 +73,11 @@ def open(
     has UPPER, LOWER and TRIM besides (chapter 4.7.2). Without it classes have the wide one, and a
     mapping has the profile. A program that serves no wide one is a `ProgramNotFound`.
 
+    `indexes={"Title": ["name"]}` names attributes, and parts of keys, of which the program keeps an
+    index, as of those that are `index=True` in classes: it is told so whenever it is started. What
+    can have none is a `ValueError`, which says what there is, before anything is opened. No answer
+    is another one for an index (`index` of docs/CALLS.md).
+
     A mapping that is refused is a `refusals.Mapping` that says where it is wrong, a store a
     `Damaged`, or a `StoreFault` that says what is in the way. `program` names the program to start
     (`finding.find_program` tells where it is looked for else). With `echo` each line, its reply
@@ -85,13 +91,17 @@ def open(
         from .classes.changes import open_classes
 
         def start(said: Mapping[str, Any], binding: Optional[Binding]) -> EntityManagerFactory:
-            return _opened(said, db, program, echo, threads, wait, language or "wide", binding)
+            # Without a binding it is opened for what is done before, which looks nothing up.
+            named = indexes if binding is not None else None
+            return _opened(
+                said, db, program, echo, threads, wait, language or "wide", named, binding
+            )
 
         return open_classes(mapping, lock, db is None, start)  # type: ignore[arg-type]
     if lock is not None:
         raise TypeError("lock= is the file of the numbers of classes, and a mapping has its own")
     said: Union[Words, Mapping[str, Any]] = mapping  # type: ignore[assignment]
-    return _opened(said, db, program, echo, threads, wait, language or "profile")
+    return _opened(said, db, program, echo, threads, wait, language or "profile", indexes)
 
 
 def are_classes(given: object) -> bool:
@@ -105,10 +115,12 @@ def are_classes(given: object) -> bool:
 def _opened(
     mapping: Union[Words, Mapping[str, Any]], db: Optional[Words], program: Optional[Words],
     echo: bool, threads: bool, wait: Optional[float], language: LanguageName,
-    binding: Optional[Binding] = None,
+    indexes: Optional[Indexes], binding: Optional[Binding] = None,
 ) -> EntityManagerFactory:
-    """A factory over a mapping, whose objects are of the classes of a binding."""
+    """A factory over a mapping, whose objects are of the classes of a binding; with these it is
+    told what will be looked up as it is bound."""
     said, faults = _said(mapping)
+    lines = index_lines(said, indexes, binding)
     word = find_program(program)
     store = _store_in_memory() if db is None else None
     running: Optional[Program] = None
@@ -116,7 +128,11 @@ def _opened(
         # A restart finds the store again wherever the process has gone.
         place = os.path.abspath(db or "") if store is None else str(store.db)
         running = started(word, said, place, store, language)
-        app = EntityManagerFactory(running, json.loads(said), language, echo, store, binding)
+        app = EntityManagerFactory(
+            running, json.loads(said), language, echo, store, binding, index_lines=lines
+        )
+        if binding is None:
+            app._ask_indexes()
         if threads:
             app._places = Places(app, wait)
         return app
@@ -222,14 +238,14 @@ class EntityManagerFactory(Calls, AbstractContextManager["EntityManagerFactory"]
     def __init__(
         self, program: Program, mapping: Mapping[str, Any], language: LanguageName,
         echo: bool = False, store: Optional[MemoryStore] = None, binding: Optional[Binding] = None,
-        again: Optional[Callable[[], Program]] = None,
+        again: Optional[Callable[[], Program]] = None, index_lines: Sequence[bytes] = (),
     ) -> None:
         """With the language of its queries, the store, where it is in memory, the classes that a
-        user wrote, and what gives a program in the place of one that has ended, where it isn't to
-        be started over its file."""
+        user wrote, what gives a program in the place of one that has ended, where it isn't to be
+        started over its file, and the lines that say what will be looked up."""
         super().__init__(mapping, classes_of(self, mapping, binding), echo)
         self.language = language
-        self.binding = binding
+        self.binding, self.index_lines = binding, index_lines
         # What it does to queries, where it has classes, and what is unique of these.
         self.conversions: Optional[Conversions] = None
         self.uniques: Optional[Uniques] = None
@@ -270,9 +286,8 @@ class EntityManagerFactory(Calls, AbstractContextManager["EntityManagerFactory"]
     def _ask_indexes(self) -> None:
         """Tells a program that was started what will be looked up. A new run of it needs no word,
         and what is refused costs time alone."""
-        lines = self.binding.index_lines() if self.binding is not None else []
-        if lines:
-            self.ask_lines(None, lines, is_quiet=True)
+        if self.index_lines:
+            self.ask_lines(None, self.index_lines, is_quiet=True)
 
     def __exit__(self, kind: Optional[Type[BaseException]], *_: object) -> None:
         # What the block itself raised is told.

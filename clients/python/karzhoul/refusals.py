@@ -23,7 +23,8 @@ class KarzhoulError(Exception):
 
 
 class Misused(ValueError):
-    """The words of a command can't be taken; nothing was done."""
+    """The words of a command, or names that an opening was handed, can't be taken; nothing was
+    done."""
 
 
 class ProgramNotFound(KarzhoulError):

@@ -8,10 +8,12 @@ from typing import Tuple, Type, Union
 from weakref import WeakKeyDictionary, WeakSet
 
 from ..entities import Attribute, Entity, Event, check_names
-from ..lines import LifecycleEvent, line_of, text_spelled
+from ..indexes import WHY_NOT, Known, index_line
+from ..lines import LifecycleEvent
+from ..unit import MemberKind
 from . import types
 from .checks import chain
-from .declared import CALLBACKS, TO_MANY, Declared, Member, Model
+from .declared import CALLBACKS, KINDS, TO_MANY, Declared, Member, Model
 from .embedded import Embedded, has_required
 from .fields import MISSING
 from .values import WrongValue, from_stored, to_stored
@@ -244,13 +246,24 @@ class Binding:
     def index_lines(self) -> List[bytes]:
         """The lines that say which attributes will be looked up."""
         return [
-            line_of("index", {"entity": text_spelled(name), "name": text_spelled(said)})
+            index_line(name, said)
             for name, entity in self.model.items()
             for said in dict.fromkeys(
                 leaf.name for member in entity.members.values() for leaf in member.leaves()
                 if leaf.field.index
             )
         ]
+
+    def known_members(self) -> Dict[str, Dict[str, Known]]:
+        """The members of each entity, by the names by which queries know them."""
+        return {
+            name: {
+                each.said: Known(each.name, _why_not(each))
+                for above in chain(self.model, entity) for member in above.members.values()
+                for each in (member, *member.leaves())
+            }
+            for name, entity in self.model.items()
+        }
 
     # ---- what is open
 
@@ -274,6 +287,17 @@ class Binding:
         }
         if heard:
             factory.listen(_teller(heard), *map(LifecycleEvent, heard))
+
+
+def _why_not(member: Member) -> str:
+    """Why a member can have no index; nothing where it can."""
+    if member.kind is not None:
+        return f"is an embedded value: name its parts, as {next(member.leaves()).said}"
+    if member.field.sort in KINDS:
+        return WHY_NOT[MemberKind.TO_ONE]
+    if member.field.sort == "version":
+        return WHY_NOT[MemberKind.VERSION]
+    return "is JSON, which has no order" if member.field.form == "json" else ""
 
 
 def _teller(heard: Mapping[str, str]) -> Callable[[Event], None]:

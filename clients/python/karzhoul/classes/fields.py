@@ -72,7 +72,7 @@ class Field:
         return self.default if self.default_factory is None else self.default_factory()
 
 
-# With `index` the program is told, as a store is opened, that equalities, ranges and orders of the
+# With `index` the program is told, as a store is opened, that equalities and ranges of the
 # attribute will be asked for. No answer is another one for that. With `unique` no two objects have
 # one value of it; None is no value, and any number of them may have none.
 

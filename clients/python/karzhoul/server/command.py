@@ -11,9 +11,10 @@ from typing import Any, Optional, Sequence, Tuple
 from ..factory import open as opened, started
 from ..finding import find_program
 from ..given import WrongMapping, given_of
+from ..indexes import index_lines, named_in_words
 from ..jpql import LanguageName
 from ..linter import lint
-from ..program import Program
+from ..program import Exchange, Program
 from ..refusals import Misused
 from .address import address_of
 from .way import Way
@@ -68,6 +69,8 @@ def _add_serve(commands: Any, takes: Parsers) -> None:
     add("--tls-key", metavar="FILE", help="the key of the certificate")
     add("--language", choices=("profile", "wide"),
         help="the language of queries: a mapping has the profile, and classes have the wide one")
+    add("--index", action="append", default=[], metavar="CLASS.MEMBER",
+        help="keep an index of an attribute, as Title.name; classes say index=True themselves")
     for name, value, about in (
         ("idle", default.idle, "how long a connection with an open manager may be silent"),
         ("wait", default.wait, "how long one waits for a manager, where 16 are open"),
@@ -90,11 +93,18 @@ def run_serve(said: argparse.Namespace) -> int:
     from .running import serve
 
     settings, listening = _settings(said), _listening(said)
-    mapping, language = _mapping(said)
+    mapping, language, lines = _mapping(said)
     db, word = os.path.abspath(said.db), find_program(said.program)
 
     def start() -> Program:
-        return started(word, mapping, db, None, language)
+        running = started(word, mapping, db, None, language)
+        try:
+            if lines:
+                running.replies(Exchange(lines))  # What is refused costs time alone.
+            return running
+        except BaseException:
+            running.kill()
+            raise
 
     told = json.dumps(json.loads(mapping)).encode()
     return serve(settings, listening, start, Served(told, language))
@@ -123,18 +133,18 @@ def _way(said: argparse.Namespace) -> Way:
     return Way(said.address, token, said.tls_ca)
 
 
-def _mapping(said: argparse.Namespace) -> Tuple[bytes, LanguageName]:
-    """What is served, and in which language: of classes the store is brought to what they say
-    first, as an opening does."""
-    given = given_of(said.mapping)
+def _mapping(said: argparse.Namespace) -> Tuple[bytes, LanguageName, Sequence[bytes]]:
+    """What is served, in which language, and the lines that say what will be looked up: of classes
+    the store is brought to what they say first, as an opening does."""
+    given, indexes = given_of(said.mapping), named_in_words(said.index)
     language: Optional[LanguageName] = said.language
     if isinstance(given, str):
         data = Path(given).read_bytes()
         if findings := lint(data).findings:
             raise WrongMapping("\n".join(f"{given}:{finding}" for finding in findings))
-        return data, language or "profile"
-    with opened(given, said.db, program=said.program) as app:
-        return json.dumps(app.mapping).encode(), language or "wide"
+        return data, language or "profile", index_lines(data, indexes)
+    with opened(given, said.db, program=said.program, indexes=indexes) as app:
+        return json.dumps(app.mapping).encode(), language or "wide", app.index_lines
 
 
 def _settings(said: argparse.Namespace) -> Settings:
