@@ -7,7 +7,6 @@ from typing import TYPE_CHECKING, Any, Dict, Iterable, List, Mapping, NamedTuple
 from typing import Union
 
 from .arguments import meant
-from .entities import Entity
 from .lines import line_of, text_spelled
 from .refusals import Misused
 from .unit import MemberKind, entities_of
@@ -15,7 +14,7 @@ from .unit import MemberKind, entities_of
 if TYPE_CHECKING:
     from .classes.binding import Binding
 
-Indexes = Union[Mapping[str, Iterable[str]], Mapping[Type[Entity], Iterable[str]]]
+Indexes = Union[Mapping[str, Iterable[str]], Mapping[Type[Any], Iterable[str]]]
 """Names of members by the name of their entity, or by its class: `{"Title": ["name"]}`."""
 
 WHY_NOT = {

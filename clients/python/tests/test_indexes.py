@@ -103,7 +103,8 @@ class ByHand(FolderTest):
         self.assertEqual(told_by(self, app.reopen), WHOLE)
 
     def test_nothing_is_told_where_none_is_named(self) -> None:
-        for none in (None, {}, {"Title": []}):
+        nothing: List[Any] = [None, {}, {"Title": []}]
+        for none in nothing:
             with karzhoul.open(BOOKS, program=PROGRAM, indexes=none) as app:
                 self.assertEqual(told_by(self, app.restart), [])
                 os.kill(app.program.pid, signal.SIGKILL)
@@ -180,7 +181,8 @@ class SameRows(FolderTest):
         ]
         for app in apps:
             self.addCleanup(app.close)
-        chance, rows = random.Random(5), {}  # type: Tuple[random.Random, Dict[int, Row]]
+        chance = random.Random(5)
+        rows: Dict[Any, Row] = {}
         for turn in range(6):
             new: List[Row] = [
                 (chance.choice("abcdef"), chance.choice([None, *range(10)])) for _ in range(40)
@@ -190,9 +192,9 @@ class SameRows(FolderTest):
             for app in apps:
                 with app.begin() as manager:
                     for key, year in years.items():
-                        manager.find("Title", key).year = year
+                        manager.get_reference("Title", key).year = year
                     for key in gone:
-                        manager.remove(manager.find("Title", key))
+                        manager.remove(manager.get_reference("Title", key))
                     made = [app.new("Title", name=name, year=year) for name, year in new]
                     manager.persist_all(made)
                     keys = [it.id for it in made]

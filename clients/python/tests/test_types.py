@@ -135,6 +135,15 @@ class Programs(unittest.TestCase):
             'm.merge(m.get_reference("X", 1)).name = "Eve"',
         )
 
+    def test_indexes(self) -> None:
+        self.passes(
+            'named = {"X": ["name"]}', 'karzhoul.open("mapping.json", indexes=named)',
+            "class Y(karzhoul.Entity):", "    id: int = karzhoul.key()",
+            'karzhoul.open([Y], indexes={Y: ["id"]})', 'karzhoul.open([Y], indexes={"Y": ("id",)})',
+        )
+        wrong = f'{START}karzhoul.open("mapping.json", indexes={{"X": 1}})\n'
+        self.assertEqual(len(complaints({"program.py": wrong})), 1)
+
     def test_every_name_is_known(self) -> None:
         names = [*karzhoul.__all__, "Collection", "Mapping", "open"]
         self.passes(*(f"karzhoul.{name}" for name in names))
