@@ -169,7 +169,8 @@ class Service:
                     connection.is_ready = False
                     if connection.is_ended:
                         self.look_at_end(connection)
-            self.engine.flush()
+        # (a reply may have the server send a line behind it, also while others wait)
+        self.engine.flush()
         self.tell()
 
     def tell(self) -> None:
