@@ -63,4 +63,23 @@ Bob 0 1999-12-31 Ada[word of Bob]
 Persistence(unique), Person Cy: it would have the born 1999-12-31 of Person Bob, and that is unique" \
         now shop.Main "$store" "$adopt"
 done
+
+# The same by one command, which has the unit take what was made.
+other=$folder/other.db
+prints "stored 1 and 2" java -cp "$folder/before:$jar:$path" shop.Main "$other"
+cp "$other" "$folder/copy.db"
+brought=(java -cp "$folder/after:$jar:$path" karzhoul.jpa.tool.Main migrate "$other" --unit shop)
+for more in "" "--plan --with tests/java-migrate/days.py"; do
+    # shellcheck disable=SC2086
+    "${brought[@]}" $more >"$folder/said" 2>&1
+    [ $? = $((${#more} == 0)) ] || fail "migrate $more ended otherwise: $(cat "$folder/said")"
+    cmp "$other" "$folder/copy.db" || fail "migrate $more: the store is another one"
+done
+prints "5 objects are brought over; the old store is $other.before" \
+    bash -c '"$@" --with tests/java-migrate/days.py | tail -n 1' - "${brought[@]}"
+prints "Ada 1 2001-02-03 [word of Ada]
+Bob 0 1999-12-31 Ada[word of Bob]
+Persistence(unique), Person Cy: it would have the born 1999-12-31 of Person Bob, and that is unique" \
+    now shop.Main "$other" false
+prints "karzhoul: there is no file $folder/none.db" now karzhoul.jpa.tool.Main migrate "$folder/none.db" --unit shop
 exit "$failed"

@@ -7,7 +7,7 @@ Exit status 0 where all is as it must be.
 """
 from __future__ import annotations
 
-import os, sqlite3, subprocess, sys
+import json, os, sqlite3, subprocess, sys
 from contextlib import closing
 
 sys.dont_write_bytecode = True
@@ -130,6 +130,40 @@ PLANS: list[tuple[list[str], list[str]]] = [
 ]
 
 
+LIBRARY = json.loads("""{"revision":1,"entities":[
+ {"name":"Title","table":1,"key":[{"name":"isbn","type":"text"}],
+  "attributes":[{"name":"name","type":"text","column":1},{"name":"year","type":"int","column":2}],
+  "relations":[{"name":"copies","kind":"oneToMany","target":"Copy","mappedBy":"title"}]},
+ {"name":"Copy","table":2,"embedded":"at","key":[{"name":"isbn","type":"text"},{"name":"place","type":"int"}],
+  "relations":[{"name":"title","kind":"manyToOne","target":"Title","column":1}]},
+ {"name":"Member","table":3,"key":[{"name":"id","type":"int"}]},
+ {"name":"Loan","table":4,"key":[{"name":"number","type":"int"}],
+  "relations":[{"name":"member","kind":"manyToOne","target":"Member","column":1}]}]}
+""")
+NAMED = ("--param", 'n="x"')
+NAME = ("--index", "Title.name")
+MANAGED = [
+    ("SELECT t FROM Title t WHERE t.isbn = :n", NAMED, ["looks up Title by its key"]),
+    ("SELECT t FROM Title t WHERE t.name = :n", NAMED, ["looks at all of Title"]),
+    ("SELECT t FROM Title t WHERE t.name = :n", (*NAMED, *NAME), ["looks up Title by the index of name"]),
+    ("SELECT t FROM Title t WHERE t.year > 3 AND :n < t.name", (*NAMED, *NAME), ["looks up Title by the index of name"]),
+    ("SELECT t FROM Title t WHERE t.name <> :n", (*NAMED, *NAME), ["looks at all of Title"]),
+    ("SELECT t FROM Title t WHERE t.name = :n AND t.year + 1 > 0", (*NAMED, *NAME), ["looks at all of Title"]),
+    ("SELECT l FROM Loan l WHERE l.member.id = 77", (), ["looks up Loan by member"]),
+    ("SELECT l FROM Loan l WHERE l.number > 7", (), ["looks up Loan by a range of keys"]),
+    ("SELECT c FROM Copy c WHERE c.at.isbn = :n", NAMED, ["looks up Copy by a range of keys"]),
+    ("SELECT c FROM Copy c WHERE c.at.isbn = :n AND c.at.place = 1", NAMED, ["looks up Copy by its key"]),
+    ("SELECT t.name FROM Title t LEFT JOIN t.copies c", (), ["looks at all of Title", "goes along Title.copies"]),
+    ("SELECT t, u FROM Title t, Title u WHERE t.year = u.year", (),
+     ["looks at all of Title", "looks up Title by an index that is made for the query"]),
+    ("SELECT l FROM Member m, Loan l WHERE l.member = m AND m.id = 3", (),
+     ["looks up Member by its key", "looks up Loan by member"]),
+    ("SELECT m FROM Loan l, Member m WHERE m = l.member", (), ["looks at all of Loan", "looks up Member itself"]),
+    ("SELECT m FROM Member m WHERE NOT EXISTS (SELECT l FROM Loan l WHERE l.member = m)", (),
+     ["looks at all of Member", "in EXISTS: looks up Loan by member"]),
+]
+
+
 def persons(ask: Asking) -> None:
     """Rows, refusals and plans, over the program's own persons and over a mapping of them."""
     ask.filled(PERSONS)
@@ -179,13 +213,35 @@ def paired(ask: Asking) -> None:
     ask.refuses([size], "Damaged(9:018000000000000002018000000000000002)", *words)
 
 
+def managed(ask: Asking) -> None:
+    """How a manager finds objects, without a store."""
+    words = ["--mapping", ask.mapping(LIBRARY), "--explain"]
+    for text, more, lines in MANAGED:
+        told = "".join(f"{line}\n" for line in lines)
+        see(ask.ran("--query", text, *more, *words), (0, told, ""), (text, more))
+    text = "SELECT t FROM Title t"
+    for text, more, name in [
+        (text, ("--index", "Titel.name"), "IllegalArgument(entity)"),
+        (text, ("--index", "Title.copies"), "IllegalArgument(name)"),
+        (text, ("--index", "Title"), "IllegalArgument(name)"),
+        (text, ("--index", "Title.name", "--index", "Loan.name"), "IllegalArgument(name)"),
+        ("DELETE FROM Title t", (), "IllegalState(statement)"),
+        ("SELECT t FROM Title t WHERE t.name = :n", (), "IllegalArgument(parameter)"),
+    ]:
+        see(ask.ran("--query", text, *more, *words), (3, "", f"jpa: {name}\n"), (text, more))
+
+
 def words_refused(ask: Asking) -> None:
     """Words that don't go together, and words that give no parameter: told in words, status 2."""
     ask.filled(PERSONS)
     text = "SELECT p FROM Person p"
     for words, said in [
         (("--query", text), "error: '--query <TEXT>' needs '--db <FILE>'"),
-        (("--query", text, "--param", "n=1", "--explain"), "error: '--query <TEXT>' needs '--db <FILE>'"),
+        (("--query", text, "--param", "n=1"), "error: '--query <TEXT>' needs '--db <FILE>'"),
+        (("--query", text, "--index", "Place.id"), "error: '--query <TEXT>' needs '--db <FILE>'"),
+        (("--db", ask.store, "--query", text, "--explain", "--index", "Place.id"),
+         "error: '--index <ENTITY.NAME>' needs '--explain' without '--db <FILE>'"),
+        (("--index", "Place.id"), "error: '--index <ENTITY.NAME>' needs '--explain' without '--db <FILE>'"),
         (("--param", "n=1"), "error: '--param <NAME=VALUE>' needs '--query <TEXT>'"),
         (("--db", ask.store, "--param", "n=1", "--explain"), "error: '--param <NAME=VALUE>' needs '--query <TEXT>'"),
         (("--db", ask.store, "--explain"), "error: '--explain' needs '--query <TEXT>'"),
@@ -271,7 +327,7 @@ def in_use(ask: Asking) -> None:
 def main(given: list[str]) -> int:
     if len(given) != 1:
         sys.exit(__doc__)
-    trials = [persons, places, paired, words_refused, no_stores, damaged, revisions, in_use]
+    trials = [persons, places, paired, managed, words_refused, no_stores, damaged, revisions, in_use]
     trials += [*wide.TRIALS, *wide_lists.TRIALS, random_questions]
     return tried(trials, "questions", lambda trial, place: trial(Asking(given[0], place)))
 

@@ -15,7 +15,8 @@ from copy import copy
 from pathlib import Path
 from types import ModuleType
 from typing import (
-    TYPE_CHECKING, Any, Dict, Iterable, List, Mapping, Optional, Sequence, Type, Union,
+    TYPE_CHECKING, Any, ContextManager, Dict, Iterable, List, Mapping, Optional, Sequence, Type,
+    Union,
 )
 
 from . import program as programs
@@ -36,6 +37,8 @@ _REFUSED = b'{"error":{"name":"'
 _RESTARTED, _ENDED = "Restarted", {"Closed", "Denied", "ProgramEnded"}
 # Its own call's answer was under way when the program ended, which it may be the cause of.
 _WITHIN = "before it answered"
+# Of a server that is ending: it keeps the connection, for what that has open.
+_BEGINS_NOTHING = ("creates no manager", "begins no transaction")
 _AGAIN = 0.1
 
 
@@ -57,6 +60,8 @@ class Connected(Program):
         self.fault: Optional[KarzhoulError] = None
         self.run = None
         self._is_stopped = False
+        # Whether the server is ending, and lets transactions end meanwhile.
+        self._is_ending = False
         # Of lines that were let go: how many bytes were written of each, and what was read.
         self._written: List[int] = []
         self._heard: List[bytes] = []
@@ -66,21 +71,22 @@ class Connected(Program):
     def start(self) -> None:
         """Says who it is, and hears what is served. A server that doesn't want it says why, which
         is a `Disconnected`."""
-        self._socket.sendall(self._way.hello(wait=0, mapping=True))
-        told = b""
-        while not told.endswith(b"\n"):
-            chunk = self._socket.recv(1 << 16)
-            if not chunk:
-                raise Disconnected(0, f"{self._way} ended it at once")
-            told += chunk
-        said = json.loads(told.split(b"\n", 1)[0])
+        try:
+            self._socket.sendall(self._way.hello(wait=0, mapping=True))
+            with self._socket.makefile("rb") as replies:
+                told = replies.readline()
+        except ConnectionError as fault:
+            raise Disconnected(0, f"{self._way}: {fault}") from fault
+        if not told.endswith(b"\n"):
+            raise Disconnected(0, f"{self._way} ended it at once")
+        said = json.loads(told)
         if "ok" not in said:
             raise Disconnected(0, str(said["error"].get("why", said["error"]["name"])))
         self.served = said["ok"]
 
     def again(self) -> Program:
         """Another connection to the same server, which may be starting meanwhile."""
-        until = time.monotonic() + (30.0 if self._wait is None else self._wait)
+        until = self._patience()
         while True:
             try:
                 return started(self._way, self._wait)
@@ -89,12 +95,37 @@ class Connected(Program):
                     raise
             time.sleep(_AGAIN)
 
+    def _patience(self) -> float:
+        """Until when a server is waited for."""
+        return time.monotonic() + (30.0 if self._wait is None else self._wait)
+
+    def await_end(self, lock: ContextManager[Any]) -> None:
+        """Where the server is ending, waits until it has let this connection go: other threads may
+        end meanwhile what they have open. The lock is that of calls."""
+        until = self._patience()
+        while self._is_ending:
+            with lock:
+                if self._is_let_go():
+                    return
+            if time.monotonic() > until:
+                raise Disconnected(0, f"{self._way} is ending, and still has transactions open")
+            time.sleep(_AGAIN)
+
+    def _is_let_go(self) -> bool:
+        if self.fault is None:
+            with suppress(ConnectionError):
+                if not self._have_answered(time.monotonic()):
+                    return False
+            if self._has_ended(0):
+                self.fault = Disconnected(0, f"{self._way} ended it")
+        return self.fault is not None
+
     def replies(self, exchange: Exchange, timeout: Optional[float] = None) -> List[bytes]:
         """As of a program. What the server says of the connection itself is raised: `Restarted`
         where a number is of before a restart, and `Disconnected` where it has ended."""
         try:
             if self._written and self.fault is None:
-                self._hear()
+                self._hear(exchange, timeout)
             replies = super().replies(exchange, timeout)
         except ConnectionError as fault:
             self.fault = Disconnected(0, f"{self._way}: {fault}")
@@ -120,13 +151,22 @@ class Connected(Program):
             pass
         return True
 
-    def _hear(self) -> None:
-        """Reads the replies of lines that were let go."""
+    def _hear(self, exchange: Exchange, timeout: Optional[float]) -> None:
+        """Reads the replies of lines that were let go before an exchange, whose time they share."""
+        if not self._have_answered(None if timeout is None else time.monotonic() + timeout):
+            why = f"the call before wasn't answered within {timeout} seconds"
+            raise ended_within(self._given_up(why), exchange)
+
+    def _have_answered(self, deadline: Optional[float]) -> bool:
+        """Reads the replies of lines that were let go; whether all came in time, or none comes."""
         while sum(chunk.count(b"\n") for chunk in self._heard) < len(self._written):
+            if deadline is not None and not self._comes(deadline):
+                return False
             self._heard += map(os.read, self._out, (1 << 16,))
             if not self._heard[-1]:
                 break
         self._written, self._heard = [], []
+        return True
 
     def _look_at(self, reply: bytes, exchange: Exchange) -> None:
         error = json.loads(reply)["error"]
@@ -135,7 +175,9 @@ class Connected(Program):
             raise Restarted(why)
         if name in _ENDED:
             ended = Disconnected(0, why)
-            if self._has_ended():
+            if why.endswith(_BEGINS_NOTHING):
+                self._is_ending = True
+            elif self._has_ended(200):
                 self.fault = ended
             told = copy(ended_within(ended, exchange))
             if _WITHIN not in why:
@@ -143,9 +185,9 @@ class Connected(Program):
                 told.may_be_stored = False
             raise told
 
-    def _has_ended(self) -> bool:
-        """Whether the server has ended the connection."""
-        if not self._reading.poll(200):
+    def _has_ended(self, milliseconds: int) -> bool:
+        """Whether the server has ended the connection, or does so within that time."""
+        if not self._reading.poll(milliseconds):
             return False
         with suppress(OSError):
             return not self._socket.recv(1, socket.MSG_PEEK)
@@ -164,10 +206,16 @@ class Connected(Program):
     def _turned(self, wait: float) -> Optional[str]:
         """Waits so many seconds for a manager; why none came."""
         asked = {"serve": "turn", "for": self.served["key"], "wait": wait}
-        with self._way.connected() as other, other.makefile("rb") as replies:
+        try:
+            other = self._way.connected()
+        except Disconnected:  # It listens no more.
+            self._is_ending = True
+            raise
+        told = b""
+        with other, other.makefile("rb") as replies, suppress(ConnectionError):
             other.sendall(self._way.hello() + json.dumps(asked).encode() + b"\n")
             told = [replies.readline(), replies.readline()][-1]
-        if not told:
+        if not told.endswith(b"\n"):
             raise Disconnected(0, f"{self._way} ended it while a manager was waited for")
         said = json.loads(told)
         return None if "ok" in said else str(said["error"]["why"])
@@ -262,7 +310,7 @@ def connect(
         try:
             mapping = running.served["mapping"]
             if said is not None:
-                _check_alike(said, mapping, way)
+                check_alike(said, mapping, way)
             app = EntityManagerFactory(
                 running, mapping, running.served["language"], echo, None, binding,
                 index_lines=[] if binding is None else binding.index_lines(),
@@ -290,7 +338,7 @@ def _again_of(app: EntityManagerFactory) -> Program:
     return app.program.again()
 
 
-def _check_alike(said: Mapping[str, Any], served: Mapping[str, Any], way: Way) -> None:
+def check_alike(said: Mapping[str, Any], served: Mapping[str, Any], way: Way) -> None:
     """Refuses classes that make another mapping than the one that is served."""
     if json.loads(json.dumps(said)) == served:
         return

@@ -4,13 +4,12 @@ from __future__ import annotations
 
 import json
 import os
-import tempfile
 import time
-from contextlib import AbstractContextManager, closing, contextmanager, nullcontext, suppress
+from contextlib import AbstractContextManager, closing, nullcontext, suppress
 from pathlib import Path
 from types import ModuleType
 from typing import (
-    TYPE_CHECKING, Any, Callable, Iterable, Iterator, List, Mapping, Optional, Sequence, Tuple,
+    TYPE_CHECKING, Any, Callable, Iterable, List, Mapping, Optional, Sequence, Tuple,
     Type, TypeVar, Union, overload,
 )
 
@@ -27,6 +26,7 @@ from .managers import EntityManager
 from .memory import MemoryStore, room_words
 from .pausing import MOST_ATTEMPTS
 from .places import Place, Places
+from .printed import mapping_file
 from .program import Program, Words
 from .refusals import (
     BadLine, KarzhoulError, Limit, ProgramEnded, ProgramNotFound, Refused, Restarted, StoreFault,
@@ -188,7 +188,7 @@ def _started_at_once(
     """A program that answers calls, or a `StoreFault`, without waiting for a file."""
     # The profile is that of a program that is told none, as older ones are.
     told = () if language == "profile" else ("--language", language)
-    with _as_file(said) as file:
+    with mapping_file(said) as file:
         folder = "" if store is None else str(store.folder)
         running = Program([program, *told, "--mapping", file, "--db", db], folder)
         try:
@@ -221,14 +221,6 @@ def _why_unopened(db: Words, store: Optional[MemoryStore]) -> str:
     from .opening import why_unopened
 
     return f"{os.fspath(db)} can't be opened: {why_unopened(Path(db))}"
-
-
-@contextmanager
-def _as_file(said: bytes) -> Iterator[str]:
-    """A file that says a mapping."""
-    with tempfile.NamedTemporaryFile(prefix="karzhoul-", suffix=".json") as file:
-        Path(file.name).write_bytes(said)
-        yield file.name
 
 
 class EntityManagerFactory(Calls, AbstractContextManager["EntityManagerFactory"]):
@@ -336,7 +328,10 @@ class EntityManagerFactory(Calls, AbstractContextManager["EntityManagerFactory"]
 
     def reopen(self) -> None:
         """Opens the program again where it has ended, as after a `GivenUp` or a crash; else it does
-        nothing. Threads may call it at one time: one of them opens it, and the others wait."""
+        nothing. Threads may call it at one time: one of them opens it, and the others wait. It waits
+        first for the end of a server that is ending, as long as for a manager."""
+        if not self._is_ahead():
+            self.program.await_end(self._lock)
         with self._lock:
             if self.program.fault is not None:
                 self.restart()

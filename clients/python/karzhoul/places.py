@@ -1,10 +1,10 @@
 """Places for managers, of which 16 are open at a time: who finds none waits for one, in turn. And
 between transactions the run is renewed before it has no objects left.
 
-A run makes 1,000,000 objects, loads counted. Once it has made half of them, those who ask for a
-place wait until the transactions that are open have ended; then the program begins another run,
-which takes milliseconds. A transaction may last, and so nobody waits for its end longer than a
-second at a time, unless fewer than a tenth of the run's objects are left.
+A run makes 1,000,000 objects, loads counted, and as many managers. Once it has made half of either,
+those who ask for a place wait until the transactions that are open have ended; then the program
+begins another run, which takes milliseconds. A transaction may last, and so nobody waits for its
+end longer than a second at a time, unless fewer than a tenth of the run's objects are left.
 """
 
 from __future__ import annotations
@@ -213,7 +213,7 @@ class Places:
 
     def _renew_where_due(self, place: Place) -> None:
         """Has a new run begin where it is time, or those who ask for a place wait for one."""
-        if self._factory._run.made < _DUE:
+        if self._factory._run.used < _DUE:
             return
         with self._lock:
             if not self._is_due() or self._is_within(place):
@@ -225,11 +225,11 @@ class Places:
                 self._renew()
 
     def _is_due(self) -> bool:
-        made = self._factory._run.made
+        made = self._factory._run.used
         return made >= self._due or (made >= _DUE and not self._held)
 
     def _renew(self) -> None:
-        made = self._factory._run.made
+        made = self._factory._run.used
         is_late, now = made >= _LATE, time.monotonic()
         if any(not place.is_block for place in self._held) and not is_late:
             self._due = min(made + _STEP, _LATE)
@@ -241,7 +241,7 @@ class Places:
 
     def _open_again(self) -> None:
         """Those who hold no place don't wait for a new run for now."""
-        left = MOST_OBJECTS - self._factory._run.made
-        self._due = self._factory._run.made + max(1, min(_STEP, left // 4))
+        left = MOST_OBJECTS - self._factory._run.used
+        self._due = self._factory._run.used + max(1, min(_STEP, left // 4))
         self._closed_until = None
         self._let_in()

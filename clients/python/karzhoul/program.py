@@ -16,7 +16,9 @@ from contextlib import suppress
 from copy import copy
 from pathlib import Path
 from subprocess import DEVNULL, PIPE, Popen, TimeoutExpired
-from typing import IO, TYPE_CHECKING, Iterator, List, Optional, Sequence, Set, Tuple, Union
+from typing import (
+    IO, TYPE_CHECKING, Any, ContextManager, Iterator, List, Optional, Sequence, Set, Tuple, Union,
+)
 
 from .refusals import GivenUp, KarzhoulError, ProgramEnded, ProgramNotFound, Restarted, refusal_of
 
@@ -197,6 +199,9 @@ class Program:
         self.run: Optional[Run] = None
         # Whether it was ended as its owner wished.
         self._is_stopped = False
+
+    def await_end(self, lock: ContextManager[Any]) -> None:
+        """Waits for the end of what is ending: a program has ended, or it hasn't."""
 
     def replies(self, exchange: Exchange, timeout: Optional[float] = None) -> List[bytes]:
         """Does what is left to do of an exchange, and gives its replies. The program's end is a

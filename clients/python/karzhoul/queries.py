@@ -3,7 +3,7 @@
 from __future__ import annotations
 
 from typing import TYPE_CHECKING, Any, Dict, FrozenSet, Iterator, List, Mapping, NamedTuple
-from typing import Optional, Type, Union
+from typing import Optional, Tuple, Type, Union
 
 from .arguments import check_query, item_class, parameter_name, row_limit
 from .concern import Concern
@@ -187,6 +187,12 @@ class Queries:
         asked = self._asked(text, result_class, params, end_program_after, named)
         return _iterated(asked, by_key(text, keys), size)
 
+    def explain(self, text: str, *, params: Params = None, **named: Any) -> List[str]:
+        """By what the program finds the objects for a SELECT, a line for each of its variables, as
+        `looks up Title by the index of name`; indexes are those of `open`. The text is judged as
+        `query` judges it, and nothing is asked of the store."""
+        return self._asked(text, None, params, None, named).lookups()
+
     def execute_update(
         self,
         text: str,
@@ -242,11 +248,7 @@ class _Asked(NamedTuple):
     ) -> bytes:
         """The line that asks it, by another text where one is given, and with more parameters."""
         has_params = self.given is not None or bool(more)
-        said, values = text or self.text, {**(self.given or {}), **(more or {})}
-        conversions = self.manager.factory.conversions
-        if conversions is not None:
-            said, values = conversions.stored(said, values)
-        said, values = with_lists(said, values, self.manager.factory.language)
+        said, values = self.stored(text or self.text, {**(self.given or {}), **(more or {})})
         members = {"em": self.manager._em, "text": text_spelled(said)}
         if has_params:
             members["params"] = self._listed(said, values)
@@ -257,6 +259,19 @@ class _Asked(NamedTuple):
         except UnicodeEncodeError as fault:
             told = {f"the parameter {name!r}": value for name, value in values.items()}
             raise misfit_of(fault, {**told, "the query": said}) from None
+
+    def stored(self, text: str, values: Mapping[str, Any]) -> Tuple[str, Mapping[str, Any]]:
+        """A text with its parameters as the program knows them."""
+        factory = self.manager.factory
+        if factory.conversions is not None:
+            text, values = factory.conversions.stored(text, values)
+        return with_lists(text, values, factory.language)
+
+    def lookups(self) -> List[str]:
+        """By what the program finds the objects for it."""
+        from .lookups import lookups_of
+
+        return lookups_of(self.manager.factory, *self.stored(self.text, self.given or {}))
 
     def _listed(self, text: str, values: Mapping[str, Any]) -> str:
         """Parameters as JSON. One that can't be told is a fault that also says what is wrong with

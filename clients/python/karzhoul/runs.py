@@ -87,6 +87,12 @@ class Run:
         """How many objects it has made, loads counted."""
         return self.kinds.made
 
+    @property
+    def used(self) -> int:
+        """How many numbers of a kind it has given, of which it has 1,000,000: of objects, or of
+        managers where these are more, as where many blocks only count."""
+        return max(self.kinds.made, self.managers or 0)
+
     def end(self) -> None:
         """It is over: only those who hold its objects go on to hold it, and no more."""
         self.kinds = Classes(self.factory._classes)

@@ -23,8 +23,9 @@ from .jpql import LanguageName
 from .jpql_check import BYTES, INT, TEXT, Kind, check
 from .linter import lint
 from .opening import why_unopened
+from .printed import printed
 from .records import bare
-from .refusals import KarzhoulError, Misused, ProgramEnded, Refused, StoreFault, refusal_of
+from .refusals import KarzhoulError, Misused, Refused, StoreFault
 from .refusals import Mapping as MappingRefused
 from .rows import Names
 from .show import grid, value_text
@@ -195,7 +196,7 @@ class _Query:
             for name, value in self._params.items():
                 words += ["--param", f"{name}={_json(value)}"]
             words += ["--language", "wide"] if self._is_wide else []
-            yield from _printed([*words, *more])
+            yield from printed([*words, *more])
 
     def _takes(self, option: str) -> bool:
         """Whether the program takes an option, as its help says."""
@@ -228,30 +229,6 @@ def _said(item: Any) -> Any:
         key = item._karzhoul_factory.get_members(item, item._karzhoul_key[1])
         return {"entity": type(item).__name__, "key": [said_value(part) for part in key]}
     return said_value(item)
-
-
-def _printed(words: Sequence[str]) -> Iterator[str]:
-    """The lines that a command prints; the refusal that it tells where it doesn't end well."""
-    with tempfile.TemporaryFile() as errors:
-        process = subprocess.Popen(
-            words, stdin=subprocess.DEVNULL, stdout=subprocess.PIPE, stderr=errors
-        )
-        assert process.stdout is not None
-        try:
-            for line in process.stdout:
-                yield line.decode().rstrip("\n")
-            status = process.wait()
-        finally:
-            process.stdout.close()
-            process.kill()
-            process.wait()
-        if status:
-            errors.seek(0)
-            told = errors.read().decode(errors="replace")
-            last = told.rstrip().rpartition("\n")[2]
-            if not last.startswith("jpa: "):
-                raise ProgramEnded(status, told)
-            raise refusal_of(last[len("jpa: ") :])
 
 
 @contextmanager

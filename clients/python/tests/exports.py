@@ -4,12 +4,13 @@ from __future__ import annotations
 
 import contextlib
 import io
+import resource
 import sqlite3
 from datetime import date, datetime, time, timedelta, timezone
 from decimal import Decimal
 from pathlib import Path
 from types import ModuleType
-from typing import Any, List, Tuple
+from typing import Any, Iterator, List, Tuple
 from uuid import UUID
 
 from karzhoul.command import main
@@ -142,3 +143,14 @@ def rows_of(db: Path, text: str) -> List[Tuple[Any, ...]]:
     """What a query over a file of SQLite finds."""
     with contextlib.closing(sqlite3.connect(db)) as store:
         return list(store.execute(text))
+
+
+@contextlib.contextmanager
+def files_of_at_most(size: int) -> Iterator[None]:
+    """Has files of this process and its programs be no larger, as a full disk does."""
+    before = resource.getrlimit(resource.RLIMIT_FSIZE)
+    resource.setrlimit(resource.RLIMIT_FSIZE, (size, before[1]))
+    try:
+        yield
+    finally:
+        resource.setrlimit(resource.RLIMIT_FSIZE, before)

@@ -130,8 +130,10 @@ class Store:
 
     # ---- objects
 
-    def load(self) -> None:
-        """Makes objects, and loads them."""
+    def load(self, r: Optional[random.Random] = None) -> None:
+        """Makes objects, others of the same mapping where these random numbers are given, and
+        loads them."""
+        self._r = r or self._r
         tops = [it for it in self.entities if "extends" not in it]
         for top in tops:
             self._make_keys(top)

@@ -7,7 +7,7 @@ import json
 import socket
 import threading
 from pathlib import Path
-from typing import Any, List, Mapping, Optional, Union
+from typing import Any, Coroutine, List, Mapping, Optional, Union
 
 from karzhoul.factory import started
 from karzhoul.program import Program
@@ -25,9 +25,10 @@ class Here:
 
     def __init__(
         self, mapping: Union[Path, Mapping[str, Any]], db: Path, settings: Optional[Settings] = None,
-        language: Any = "profile", listen: Optional[Path] = None,
+        language: Any = "profile", listen: Optional[Path] = None, is_trusted: bool = True,
     ) -> None:
-        """With the path of a socket at which it listens, if it does."""
+        """With the path of a socket at which it listens, if it does; whether those who connect
+        there show no token."""
         assert PROGRAM is not None
         word = PROGRAM
         said = json.loads(mapping.read_bytes()) if isinstance(mapping, Path) else mapping
@@ -38,7 +39,7 @@ class Here:
 
         self._start, self._served = start, Served(told, language)
         self._settings = settings or Settings()
-        self._path = listen
+        self._path, self._is_trusted = listen, is_trusted
         self._ready = threading.Event()
         self._thread = threading.Thread(target=lambda: asyncio.run(self._run()), daemon=True)
         self._thread.start()
@@ -50,7 +51,7 @@ class Here:
         server: Optional[asyncio.AbstractServer] = None
         if self._path is not None:
             server = await self._loop.create_unix_server(
-                lambda: Connection(self.service, True), str(self._path)
+                lambda: Connection(self.service, self._is_trusted), str(self._path)
             )
         self._ready.set()
         looking = self._loop.create_task(self._look_after())
@@ -74,6 +75,10 @@ class Here:
         )
         asyncio.run_coroutine_threadsafe(made, self._loop).result(SECONDS)
         return mine
+
+    def later(self, work: Coroutine[Any, Any, None]) -> None:
+        """Has it do work beside all else."""
+        self._loop.call_soon_threadsafe(self.service.later, work)
 
     def close(self) -> None:
         """Ends it."""

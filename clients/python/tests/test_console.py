@@ -12,7 +12,7 @@ import subprocess
 import sys
 import unittest
 from pathlib import Path
-from typing import Any, List, Tuple
+from typing import Any, List, Tuple, Type
 from unittest import mock
 
 import karzhoul
@@ -24,6 +24,10 @@ from .served import Here
 from .support import HERE, ORDERS, PROGRAM, FolderTest, needs_program
 
 _JSON = {"Content-Type": "application/json"}
+
+
+class _Overdrawn(Exception):
+    """What an application's callback raises, and no word of Python or of the client."""
 
 
 @needs_program
@@ -326,6 +330,36 @@ class Changing(ConsoleTest):
         self.assertEqual(told["refused"]["told"][0],
                          "The stored version is not the one that was read.")
         self.assertEqual(told["refused"]["told"][-1], "Person 1: name: Ada → Bob")
+
+    def test_whatever_a_callback_raises_is_told_and_its_change_is_undone(self) -> None:
+        raised: List[Type[Exception]] = []
+
+        def look(event: karzhoul.Event) -> None:
+            if event.object.amount < 0:
+                raise raised[-1]("no order is below nothing")
+
+        self.app.listen(look, karzhoul.LifecycleEvent.PRE_UPDATE)
+        for error in (_Overdrawn, RuntimeError, ArithmeticError):
+            raised.append(error)
+            self.set_amount(2, 22)
+            told = self.ask("set", object=named("Order", 1), name="amount", value=["int", "-3"])
+            self.assertEqual(told["refused"]["word"], error.__name__)
+            self.assertEqual(told["refused"]["told"], ["no order is below nothing"])
+            self.assertEqual(len(told["transaction"]), 1)
+            rows = self.ask("query", text="SELECT o.amount FROM Order o WHERE o.number = 1",
+                            first=0, max=9)["rows"]
+            self.assertEqual(rows, [[["int", "10"]]])
+            self.assertEqual(len(self.ask("commit")["committed"]), 1)
+            self.assertEqual(self.amounts()[:2], [10, 22])
+
+    def test_what_a_callback_raises_as_objects_are_loaded_is_told(self) -> None:
+        def look(event: karzhoul.Event) -> None:
+            raise _Overdrawn("not today")
+
+        self.app.listen(look, karzhoul.LifecycleEvent.POST_LOAD)
+        refused = self.refused("object", object=named("Order", 1))
+        self.assertEqual(refused["told"], ["not today"])
+        self.assertNotIn("refused", self.ask("overview"))
 
     def test_the_end_of_the_program_loses_the_transaction_and_says_so(self) -> None:
         def by_client() -> None:

@@ -2,7 +2,9 @@
 
 from __future__ import annotations
 
+import json
 import os
+import random
 import shutil
 import subprocess
 import tempfile
@@ -11,9 +13,14 @@ from glob import glob
 from pathlib import Path
 from types import ModuleType
 from typing import Any, List, Optional, Sequence, Tuple
+from unittest import mock
 
-from .exports import Exporting
-from .support import needs_program
+from karzhoul.command import main
+
+from . import random_stores
+from .carried import cells
+from .exports import Exporting, files_of_at_most, rows_of
+from .support import PERSONS, needs_program
 
 
 def _folder_of_programs() -> Optional[Path]:
@@ -25,6 +32,8 @@ def _folder_of_programs() -> Optional[Path]:
 
 PROGRAMS = _folder_of_programs()
 SECONDS = 300
+TRIALS = 12
+WAYS: Sequence[Sequence[str]] = ((), ("--names", "snake", "--as", "column"))
 
 # A query of ours, and what finds the same in the tables.
 QUERIES: Sequence[Tuple[str, str]] = (
@@ -176,6 +185,143 @@ class InPostgreSQL(Exporting):
         ):
             self.assertIn("violates", self.psql("-c", wrong, database=database).stderr, wrong)
 
+    def brought_back(self, database: str, *words: Any) -> List[Tuple[Any, ...]]:
+        """The cells of the store that an import of a database makes."""
+        back = self.folder / "back.db"
+        back.unlink(missing_ok=True)
+        self.done("import", "--postgresql", self.way(database), back, *words)
+        return cells(back)
+
+    def way(self, database: str) -> str:
+        """A database as psql names it."""
+        return f"host={self.place} user=postgres dbname={database}"
+
+    def test_what_comes_back_is_the_same_store(self) -> None:
+        named = ("--name", "Member=people", "--name", "Loan.book.isbn=of")
+        ways: Sequence[Sequence[str]] = ((), ("--names", "snake"), ("--as", "column"), named)
+        self.library()
+        for number, words in enumerate(ways):
+            words = ("--mapping", str(self.models), *words)
+            self.done("export", self.db, "--sql", self.sql, "--dialect", "postgresql", *words)
+            database = self.database(f"back{number}")
+            self.psql("-f", self.sql, database=database).check_returncode()
+            self.assertEqual(self.brought_back(database, *words), cells(self.db))
+            self.sql.unlink()
+        # What was changed there comes along, and so does the number that comes next.
+        self.found("INSERT INTO people (\"DTYPE\", version, name, fee, state, level, \"isLost\") "
+                   "VALUES ('Member', 0, E'a\\tb\\n\\\\', 1.5, 'OPEN', 1, true)", database)
+        back = self.folder / "back.db"
+        self.brought_back(database, *words)
+        self.done("export", back, "--sqlite", self.out, "--mapping", self.models)
+        self.assertEqual(rows_of(self.out, "SELECT name, fee, isLost FROM Member WHERE id = 5"),
+                         [("a\tb\n\\", 150, 1)])
+        self.assertEqual(rows_of(self.out, "SELECT seq FROM sqlite_sequence"), [(5,)])
+
+    def test_by_a_mapping_of_classes_values_are_read_by_their_types_there(self) -> None:
+        self.library()
+        mapping, database = self.folder / "mapping.json", self.database("mapped")
+        main(["mapping", str(self.models), "-o", str(mapping)])
+        words = ("--mapping", str(mapping))
+        self.done("export", self.db, "--sql", self.sql, "--dialect", "postgresql", *words)
+        self.psql("-f", self.sql, database=database).check_returncode()
+        self.brought_back(database, *words)
+        found = []
+        for number, store in enumerate((self.db, self.folder / "back.db")):
+            out = self.folder / f"{number}.db"
+            self.done("export", store, "--sqlite", out, "--as", "column", *words)
+            found.append([rows_of(out, f"SELECT * FROM {it} ORDER BY 1, 2, 3")
+                          for it in ("Member", "Book", "Loan", "Loan_more")])
+        self.assertEqual(found[0], found[1])
+
+    def test_random_stores_come_back(self) -> None:
+        texts = [it for it in random_stores.TEXTS if "\0" not in it]
+        with mock.patch.object(random_stores, "TEXTS", texts):
+            for seed in range(TRIALS):
+                with self.subTest(seed=seed):
+                    store = random_stores.Store(
+                        random.Random(seed), self.folder / str(seed), self.ran)
+                    store.load()
+                    words = ("--mapping", store.mapping, *WAYS[seed % len(WAYS)])
+                    self.sql.unlink(missing_ok=True)
+                    self.done("export", store.db, "--sql", self.sql, "--dialect", "postgresql",
+                              *words)
+                    self.psql("-c", "DROP SCHEMA public CASCADE", "-c", "CREATE SCHEMA public",
+                              "-f", self.sql).check_returncode()
+                    self.assertEqual(self.brought_back("postgres", *words), cells(store.db))
+
+    # ---- what is refused, and leaves nothing
+
+    def refused(self, database: str, *words: Any) -> str:
+        """What an import tells that must be stopped."""
+        self.assertFalse((self.folder / "back.db").exists())
+        return self.stopped("import", "--postgresql", self.way(database), self.folder / "back.db",
+                            "--mapping", self.models, *words)
+
+    def test_imports_that_are_refused(self) -> None:
+        self.exported()
+        database = self.database("refused")
+        self.psql("-f", self.sql, database=database).check_returncode()
+        self.assertIn('database "none" does not exist', self.refused("none"))
+        self.assertIn("No such file or directory", self.stopped(
+            "import", "--postgresql", f"host={self.folder}", self.folder / "back.db", "--mapping",
+            self.models))
+        told = self.refused(database, "--name", "Member.name=called")
+        self.assertIn("Member has no column called", told)
+        self.assertIn("Member has a column name, of which the mapping knows nothing", told)
+        self.assertIn("there is no table People", self.refused(database, "--name", "Member=People"))
+        self.assertIn("there is no table member", self.refused(database, "--names", "snake"))
+        self.psql("-c", "CREATE ROLE guest LOGIN", database=database)
+        self.assertIn("permission denied for table Member", self.stopped(
+            "import", "--postgresql", f"host={self.place} user=guest dbname={database}",
+            self.folder / "back.db", "--mapping", self.models))
+        other = self.folder / "other.json"
+        other.write_text(json.dumps(PERSONS))
+        self.assertIn("there is no table Person", self.refused(database, "--mapping", other))
+
+    def test_rows_that_are_no_objects(self) -> None:
+        self.exported()
+        database = self.database("rows")
+        self.psql("-f", self.sql, database=database).check_returncode()
+        for change, told in (
+            ("UPDATE \"Member\" SET joined = 'infinity' WHERE id = 1",
+             "Member 1: joined is 'infinity', which"),
+            ("UPDATE \"Member\" SET seen = '0044-03-15 10:00:00+00 BC' WHERE id = 1",
+             "Member 1: seen is '0044-03-15 10:00:00+00 BC', which"),
+            ("UPDATE \"Member\" SET hour = '24:00:00' WHERE id = 1", "Member 1: hour is '24:00:00"),
+            ("UPDATE \"Member\" SET \"DTYPE\" = 'Cat' WHERE id = 1", "Member 1: DTYPE is 'Cat'"),
+            ("ALTER TABLE \"Member\" ALTER fee TYPE numeric; UPDATE \"Member\" SET fee = 0.001 "
+             "WHERE id = 1", "Member 1: fee is to be a whole number, and is '0.001'"),
+            ("ALTER TABLE \"Loan\" DROP CONSTRAINT \"fk_Loan_member_id\"; UPDATE \"Loan\" "
+             "SET member_id = 9 WHERE number = 1", "leads to Member 9, which isn't"),
+        ):
+            with self.subTest(change=change):
+                copy = self.database("changed")
+                self.psql("-f", self.sql, "-c", change, database=copy).check_returncode()
+                self.assertIn(told, self.refused(copy))
+                self.psql("-c", f"DROP DATABASE {copy}").check_returncode()
+
+    def test_an_import_that_ends_in_the_middle(self) -> None:
+        self.exported()
+        database = self.database("middle")
+        self.psql("-f", self.sql, database=database).check_returncode()
+        # The connection is lost within the rows of a table that is read last.
+        self.found('ALTER TABLE "Loan_more" RENAME TO more; CREATE VIEW "Loan_more" AS SELECT m.* '
+                   'FROM more m WHERE pg_terminate_backend(pg_backend_pid())', database)
+        self.assertIn("terminating connection due to administrator command",
+                      self.refused(database))
+        with files_of_at_most(8_000):
+            self.assertIn("and back.db was not made", self.refused(self.whole()))
+        with mock.patch.dict(os.environ, {"PATH": "/nowhere"}), mock.patch(
+            "karzhoul.exporting.postgresql.glob", lambda _: []
+        ):
+            self.assertIn("there is no psql on the PATH", self.refused(database))
+
+    def whole(self) -> str:
+        """A database with all rows."""
+        database = self.database("whole")
+        self.psql("-f", self.sql, database=database).check_returncode()
+        return database
+
     def test_what_is_there_stays_as_it_was(self) -> None:
         self.exported()
         database = self.database("twice")
@@ -187,3 +333,16 @@ class InPostgreSQL(Exporting):
         self.assertEqual(self.found("SELECT tablename FROM pg_tables WHERE schemaname = 'public'",
                                     database), ["Loan"])
         self.assertEqual(self.found('SELECT mine FROM "Loan"', database), ["x"])
+
+    def test_a_connection_that_is_lost_in_the_middle(self) -> None:
+        self.exported()
+        database = self.database("lost")
+        # The server ends it behind the last row, and before the commit.
+        text = self.sql.read_text().replace(
+            "COMMIT;", "SELECT pg_terminate_backend(pg_backend_pid());\nCOMMIT;")
+        self.sql.write_text(text)
+        ran = self.psql("-f", self.sql, database=database)
+        self.assertEqual(ran.returncode, 2)
+        self.assertIn("terminating connection", ran.stderr)
+        self.assertEqual(self.found("SELECT tablename FROM pg_tables WHERE schemaname = 'public'",
+                                    database), [])

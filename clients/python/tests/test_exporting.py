@@ -5,20 +5,25 @@ from __future__ import annotations
 
 import contextlib
 import json
+import os
 import random
-import resource
+import signal
 import sqlite3
 import subprocess
 import unittest
-from typing import Any, Iterator, Sequence
+from functools import partial
+from typing import Any, List, Sequence
 from unittest import mock
 
-from karzhoul import dumping
+from karzhoul import dumping, factory
 from karzhoul.command import main
 from karzhoul.exporting.naming import snake
+from karzhoul.exporting.rows import Row, Rows
+from karzhoul.program import Program
+from karzhoul.records import Record
 
 from .carried import CARRIED, Carrying, cells
-from .exports import Exporting, rows_of
+from .exports import Exporting, files_of_at_most, rows_of
 from .random_stores import Store
 from .support import needs_program
 
@@ -199,6 +204,14 @@ class WrongExports(Exporting):
         lost = self.folder / "none" / "out.db"
         self.assertIn("there is no folder none", self.stopped(*self.common, "--sqlite", lost))
 
+    def test_a_log_without_its_file(self) -> None:
+        for name in ("out.db-wal", "out.db-journal"):
+            log = self.folder / name
+            log.write_text("of before")
+            self.assertIn(f"there is a file {name} without its out.db",
+                          self.stopped(*self.common, "--sqlite", self.out))
+            log.unlink()
+
     def test_a_place_where_nothing_can_be_written(self) -> None:
         for words in (("--sqlite", "/proc/out.db"), ("--sql", "/proc/out", "--dialect", "sqlite")):
             self.assertIn("can't be written, and was not", self.stopped(*self.common, *words))
@@ -209,7 +222,7 @@ class WrongExports(Exporting):
             for number in range(9):
                 manager.persist(module.Book(isbn="f", number=number, title=str(number) * 60_000))
         for words in (("--sqlite", self.out), ("--sql", self.sql, "--dialect", "postgresql")):
-            with _files_of_at_most(100_000):
+            with files_of_at_most(100_000):
                 told = self.stopped(*self.common, *words)
             self.assertIn("can't be written, and was not", told)
 
@@ -271,6 +284,27 @@ class WrongExports(Exporting):
         self.assertIn("UNIQUE constraint failed: Member.email", told)
 
 
+    def test_a_program_that_ends_in_the_middle(self) -> None:
+        row = Rows.row
+
+        def killed(rows: Rows, record: Record) -> Row:
+            while started:
+                os.kill(started.pop().pid, signal.SIGKILL)
+            return row(rows, record)
+
+        started: List[Program] = []
+        start = factory.started
+
+        def kept(*words: Any, **more: Any) -> Program:
+            started.append(start(*words, **more))
+            return started[-1]
+
+        with mock.patch.object(factory, "started", kept), mock.patch.object(Rows, "row", killed):
+            for words in (("--sqlite", self.out), ("--sql", self.sql, "--dialect", "sqlite")):
+                self.assertIn("the program was ended by signal 9",
+                              self.stopped(*self.common, *words))
+
+
 @needs_program
 class WrongImports(Exporting):
     def setUp(self) -> None:
@@ -286,6 +320,52 @@ class WrongImports(Exporting):
         (self.folder / "back.db").unlink()
         self.out.write_text("no database at all, and long enough to be looked at")
         self.assertIn("out.db can't be read (file is not a database)", self.stopped(*self.common))
+
+    def test_a_place_where_nothing_can_be_written(self) -> None:
+        words = ("import", "--sqlite", self.out, "/proc/back.db", "--mapping", self.models)
+        self.assertIn("/proc/back.db can't be written, and was not made", self.stopped(*words))
+        lost = self.folder / "none" / "back.db"
+        self.assertIn("there is no folder none", self.stopped(
+            "import", "--sqlite", self.out, lost, "--mapping", self.models))
+
+    def test_a_source_that_is_lacking_or_locked(self) -> None:
+        with contextlib.closing(sqlite3.connect(self.out, isolation_level=None)) as store:
+            store.execute("BEGIN EXCLUSIVE")
+            with mock.patch.object(sqlite3, "connect", partial(sqlite3.connect, timeout=0.1)):
+                self.assertIn("out.db can't be read (database is locked), and back.db was not made",
+                              self.stopped(*self.common))
+        self.out.unlink()
+        self.assertIn("there is no file out.db", self.stopped(*self.common))
+
+    def test_a_disk_that_is_full(self) -> None:
+        with contextlib.closing(sqlite3.connect(self.out)) as store:
+            store.executemany("INSERT INTO Book VALUES ('f', ?, ?)",
+                              [(number, str(number) * 60_000) for number in range(9)])
+            store.commit()
+        with files_of_at_most(100_000):  # By which the program is ended.
+            self.assertIn("back.db was not made: ", self.stopped(*self.common))
+
+    def test_a_mapping_of_another_store(self) -> None:
+        other = self.folder / "other.json"
+        other.write_text(CARRIED.read_text(encoding="utf-8"))
+        told = self.stopped("import", "--sqlite", self.out, self.folder / "back.db", "--mapping",
+                            other)
+        self.assertIn("there is no table Order", told)
+        self.assertIn("back.db was not made: name the mapping, --names, --name and --as", told)
+
+    def test_words_that_are_wrong(self) -> None:
+        self.assertIn("did you mean 'Member'", self.stopped(*self.common, "--name", "Membr=x"))
+        self.assertIn("write it as Entity=NAME", self.stopped(*self.common, "--name", "x"))
+
+    def test_two_that_are_to_be_unique(self) -> None:
+        with contextlib.closing(sqlite3.connect(self.out)) as store:
+            # The same rows without the constraint, and with the number that comes next.
+            store.executescript(
+                "CREATE TABLE copied AS SELECT * FROM Member; DROP TABLE Member;"
+                "ALTER TABLE copied RENAME TO Member;"
+                "INSERT INTO sqlite_sequence VALUES ('Member', 4);"
+                "UPDATE Member SET email = 'a@x' WHERE id = 3")
+        self.assertIn("unique", self.stopped(*self.common))
 
     def test_tables_of_other_names(self) -> None:
         told = self.stopped(*self.common, "--name", "Member.name=called")
@@ -313,14 +393,3 @@ class WrongImports(Exporting):
                     store.commit()
                 self.assertIn(told, self.stopped(*self.common))
                 self.out.write_bytes(kept)
-
-
-@contextlib.contextmanager
-def _files_of_at_most(size: int) -> Iterator[None]:
-    """Has files of this process and its programs be no larger, as a full disk does."""
-    before = resource.getrlimit(resource.RLIMIT_FSIZE)
-    resource.setrlimit(resource.RLIMIT_FSIZE, (size, before[1]))
-    try:
-        yield
-    finally:
-        resource.setrlimit(resource.RLIMIT_FSIZE, before)

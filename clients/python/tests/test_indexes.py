@@ -119,6 +119,29 @@ class ByHand(FolderTest):
             title = app.entity("Title")
         self.assertEqual(told_by(self, lambda: self.open({title: ["year"]}).close()), ["Title.year"])
 
+    def test_a_manager_tells_by_what_a_query_finds_objects(self) -> None:
+        app = self.open(INDEXES)
+        manager = app.create_entity_manager()
+        asked: List[Tuple[str, Dict[str, Any], List[str]]] = [
+            ("SELECT t FROM Title t WHERE t.name = :name", {"name": "Ä 'b'"},
+             ["looks up Title by the index of name"]),
+            ("SELECT v FROM Volume v WHERE v.year > :year", {"year": 3},
+             ["looks up Volume by the index of year"]),
+            ("SELECT c FROM Copy c WHERE c.at.shelf IN :shelves", {"shelves": ["a", "b"]},
+             ["looks up Copy by the index of shelf"]),
+            ("SELECT t.name FROM Title t JOIN t.copies c", {},
+             ["looks at all of Title", "goes along Title.copies"]),
+        ]
+        for text, given, lines in asked:
+            self.assertEqual(manager.explain(text, **given), lines, text)
+        with app.begin() as writing:
+            title = app.new("Title", name="a")
+            writing.persist(title)
+            found = writing.explain("SELECT c FROM Copy c WHERE c.title = :title", title=title)
+        self.assertEqual(found, ["looks up Copy by title"])
+        with self.assertRaisesRegex(karzhoul.Refused, "syntax"):
+            manager.explain("SELECT")
+
     def test_a_mapping_may_be_a_file_or_a_pipe(self) -> None:
         file = self.place / "mapping.json"
         file.write_text(json.dumps(BOOKS))

@@ -18,9 +18,11 @@ import unittest
 import urllib.request
 from contextlib import redirect_stderr, redirect_stdout
 from typing import Any, Dict, List, NamedTuple, Optional
+from unittest import mock
 
 import karzhoul
 from karzhoul.command import main
+from karzhoul.server.way import Way
 
 from .served import SECONDS, Talk
 from .support import HERE, PERSONS, PROGRAM, FolderTest, needs_program
@@ -144,6 +146,7 @@ class Sockets(ServingTest):
             (["http://x"], "is no address"),
             ([self.way, "--metrics", "0.0.0.0:9117"], "to this machine alone"),
             ([self.way, "--idle", "0"], "no number of seconds"),
+            ([self.way, "--listen", "tcp:127.0.0.1:0"], "at one address, and not at unix:"),
         ):
             ended = self.command("serve", str(self.db), "--mapping", str(self.mapping),
                                  "--listen", *words)
@@ -154,6 +157,10 @@ class Sockets(ServingTest):
                              "tcp:0.0.0.0:0", "--token-file", str(token))
         self.assertIn("it needs --tls-cert and --tls-key", ended.stderr)
         self.assertFalse(self.db.exists())
+        way = f"unix:{self.place / 'nowhere' / 's'}"
+        ended = self.command("serve", str(self.db), "--mapping", str(self.mapping), "--listen", way)
+        self.assertEqual(ended.returncode, 4)
+        self.assertIn(f"nobody can listen at {way}: No such file", ended.stderr)
 
     def free_port(self) -> int:
         """A port that is free."""
@@ -166,15 +173,17 @@ class Sockets(ServingTest):
         token.write_text("0123456789abcdef" * 2 + "\n")
         way = f"tcp:127.0.0.1:{self.free_port()}"
         self.serve("--token-file", str(token), listen=way)
-        for wrong in (None, "x" * 32, ""):
+        for wrong, told in ((None, "missing"), ("x" * 32, "another one"), ("", "missing")):
             with self.assertRaises(karzhoul.Disconnected) as caught:
                 karzhoul.connect(way, token=wrong)
-            self.assertIn("the token", str(caught.exception))
+            self.assertIn(f"the token is {told}", str(caught.exception))
+        with karzhoul.connect(way, token=token.read_bytes()) as app:
+            self.assertEqual(self.count(app), 0)
         with karzhoul.connect(way, token="0123456789abcdef" * 2) as app:
             self.persist(app)
             self.assertEqual(self.count(app), 1)
-        told = self.command("status", "--from", way, "--token-file", str(token))
-        self.assertIn("commits: 2", told.stdout, told.stderr)
+        ended = self.command("status", "--from", way, "--token-file", str(token))
+        self.assertIn("commits: 3", ended.stdout, ended.stderr)
 
     @unittest.skipUnless(OPENSSL, "there is no openssl to make a certificate with")
     def test_ciphers(self) -> None:
@@ -231,6 +240,60 @@ class Ends(ServingTest):
                 self.assertEqual(server.wait(SECONDS), 0)
         for line in self.heard:
             self.assertIn("time", json.loads(line))
+
+    def test_work_waits_for_the_end_of_a_server(self) -> None:
+        """It is refused once, and its second attempt waits as long as another one's transaction is
+        open."""
+        server = self.serve("--grace", str(SECONDS))
+        with karzhoul.connect(self.way, threads=True, wait=SECONDS) as app:
+            def work(manager: karzhoul.EntityManager) -> None:
+                manager.persist(app.entity("Person")(name="Bob"))
+
+            threads = [threading.Thread(target=app.retry, args=(work, 2)) for _ in range(3)]
+            with app.begin() as manager:
+                manager.persist(app.entity("Person")(name="Ada"))
+                server.send_signal(signal.SIGTERM)
+                self.wait_for('"ending"')
+                for thread in threads:
+                    thread.start()
+                time.sleep(2)
+                self.assertTrue(all(thread.is_alive() for thread in threads))
+                self.assertEqual(manager.one(COUNT), 1)
+            self.assertEqual(server.wait(SECONDS), 0)
+            self.serve()
+            for thread in threads:
+                thread.join(SECONDS)
+            self.assertEqual(self.count(app), 4)
+            self.assertEqual(app.statistics().retries, 3)
+
+    def test_a_server_that_does_not_end_in_time_is_told(self) -> None:
+        server = self.serve("--grace", str(SECONDS))
+        with karzhoul.connect(self.way) as other, karzhoul.connect(self.way, wait=0.1) as app:
+            with other.begin() as manager:
+                server.send_signal(signal.SIGTERM)
+                self.wait_for('"ending"')
+                with self.assertRaises(karzhoul.Disconnected) as caught:
+                    app.retry(lambda manager: str(manager.one(COUNT)))
+                self.assertIn("is ending, and still has transactions", str(caught.exception))
+                self.assertEqual(manager.one(COUNT), 0)
+
+    def test_a_connection_that_breaks_at_its_beginning(self) -> None:
+        def broken(way: Way) -> socket.socket:
+            mine, its = socket.socketpair()
+            its.close()
+            return mine
+
+        with mock.patch.object(Way, "connected", broken):
+            with self.assertRaises(karzhoul.Disconnected):
+                karzhoul.connect(self.way)
+        self.serve()
+        with karzhoul.connect(self.way) as other, karzhoul.connect(self.way) as app:
+            held = [other.create_entity_manager() for _ in range(16)]
+            with mock.patch.object(Way, "connected", broken):
+                with self.assertRaises(karzhoul.Disconnected):
+                    app.create_entity_manager()
+            held[0].close()
+            app.create_entity_manager().close()
 
     def test_the_manager_of_services_is_told(self) -> None:
         with socket.socket(socket.AF_UNIX, socket.SOCK_DGRAM) as heard:

@@ -416,6 +416,12 @@ class Runs(ThreadsTest):
     def made(self) -> int:
         return self.app.statistics().made
 
+    def test_blocks_that_only_count_use_up_managers(self) -> None:
+        first = self.app._run
+        for _ in range(220):
+            self.counted()
+        self.assertIsNot(self.app._run, first)
+
     def test_the_end_of_the_last_block(self) -> None:
         with self.app.begin():
             with self.app.begin():

@@ -20,7 +20,7 @@ use jpa_mapping::{Mapping, read_mapping};
 use jpa_program::{first_unit, open, run};
 use jpa_questions::{
     Misgiven, Parameter, Question, Untold, check_unit, read_parameters, read_question, tell_rows,
-    write_plan,
+    write_managed_plan, write_plan,
 };
 use jpa_settings::{Settings, Stop, read_settings, status};
 use jpa_value::{Cause, MappingFault, Refusal, Seq, Text, refusal_text};
@@ -307,31 +307,32 @@ fn print_text(rt: &HostRuntime, text: &[u8]) -> Stop {
     }
 }
 
-/// Prints the rows that a question finds, or how it would find them.
+/// Prints the rows that a question finds, or how it would find them: in the store's file that is
+/// named, or without one in what a manager holds.
 fn print_answer(
     rt: &HostRuntime,
-    path: &Text,
+    settings: &Settings,
     unit: &ServedUnit<ProgramFunctions>,
     question: &Question,
-    explain: bool,
 ) -> Result<Stop, Cause> {
-    if explain {
-        let plan = write_plan(rt.alloc(), &unit.metamodel, question)?;
-        return Ok(print_text(rt, plan.as_slice()));
-    }
-    print_rows(rt, path, unit, question)
+    let metamodel = &unit.metamodel;
+    let plan = match &settings.db {
+        Some(path) if !settings.explain => return print_rows(rt, path, unit, question),
+        Some(_) => write_plan(rt.alloc(), metamodel, question)?,
+        None => write_managed_plan(rt.alloc(), metamodel, question, settings.indexes.as_slice())?,
+    };
+    Ok(print_text(rt, plan.as_slice()))
 }
 
-/// Answers a question over a store's file: its mapping is refused before its text, and its text
-/// before the store is opened.
+/// Answers a question as the settings say: its mapping is refused before its text, and its text
+/// before a store is opened.
 fn answer(
     rt: &HostRuntime,
     mapping: Option<&[u8]>,
-    path: &Text,
+    settings: &Settings,
     language: Language,
     text: &Text,
     parameters: &[Parameter],
-    explain: bool,
 ) -> Result<Stop, Cause>
     ensures served { OnOk result (spec.GivesServable language (option_copied mapping.entry)) }
     ensures refused { spec.RefusesUnit language (option_copied mapping.entry) result }
@@ -339,7 +340,7 @@ fn answer(
     let unit = unit_to_ask(rt.alloc(), language, mapping)?;
     let metamodel = &unit.metamodel;
     let question = read_question(rt.alloc(), metamodel, language, text.as_str(), parameters)?;
-    let stop = print_answer(rt, path, &unit, &question, explain)?;
+    let stop = print_answer(rt, settings, &unit, &question)?;
     Ok(stop)
 }
 
@@ -368,12 +369,7 @@ fn language_of(settings: &Settings) -> Language
 }
 
 /// Answers the question of the settings. Parameters are judged before any file is read.
-fn ask_as_said(
-    rt: &HostRuntime,
-    settings: &Settings,
-    db: &Text,
-    query: &Text,
-) -> Result<Stop, Cause> {
+fn ask_as_said(rt: &HostRuntime, settings: &Settings, query: &Text) -> Result<Stop, Cause> {
     let language = language_of(settings);
     let parameters = match read_parameters(rt.alloc(), language, settings.params.as_slice()) {
         Ok(parameters) => parameters,
@@ -383,11 +379,10 @@ fn ask_as_said(
     answer(
         rt,
         mapping.as_deref(),
-        db,
+        settings,
         language,
         query,
         parameters.as_slice(),
-        settings.explain,
     )
 }
 
@@ -398,8 +393,8 @@ fn serve_as_said(rt: &HostRuntime, settings: &Settings) -> Result<Stop, Cause> {
         let text = grammar_text(language_of(settings));
         return Ok(print_text(rt, text.as_bytes()));
     }
-    if let (Some(db), Some(query)) = (&settings.db, &settings.query) {
-        return ask_as_said(rt, settings, db, query);
+    if let Some(query) = &settings.query {
+        return ask_as_said(rt, settings, query);
     }
     let mapping = mapping_bytes(rt, settings)?;
     serve_mapping(

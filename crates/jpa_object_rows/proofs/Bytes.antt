@@ -23,16 +23,13 @@ pub mod Inverse
 pub mod FlatRow
 pub mod Fresh
 pub mod FlatObject
-pub mod FlatNumbers
 pub mod FlatSet
 pub mod OneRows
 pub mod Normal
 pub mod Stands
-pub mod NumbersRead
 -- ---- rows that are exactly those of a set
 pub mod Undone
 pub mod Exact
-pub mod ExactNumbers
 -- ---- every metamodel is unambiguous
 pub mod Classes
 pub mod Tables

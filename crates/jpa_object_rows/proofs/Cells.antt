@@ -1,5 +1,5 @@
 -- The cells of rows stand for a set and next numbers exactly where the rows are those of the set and the numbers.
-use Rattle.std.specs.Prelude.{◌≡◌, ◌≢◌, ◌↔◌, ℕ, true, cond, ◌==◌, T, List, [], ◌∷◌, Option, Some, None}
+use Rattle.std.specs.Prelude.{◌≡◌, ◌≢◌, ◌↔◌, ℕ, pos, true, cond, ◌==◌, T, List, [], ◌∷◌, Option, Some, None}
 use Rattle.std.proofs.Common.{refl, sym, ap, subst, ◌∙◌, inl}
 use Rattle.std.specs.List.{AllByRecursion}
 use Rattle.std.specs.FinMap.{is_sorted}
@@ -28,12 +28,15 @@ use Rattle.jpa_object_rows.proofs.Bytes.Stands.{rows_stand, stand_rows}
 use Rattle.jpa_object_rows.specs.Raw.{raw, raw_entry, is_key_by, AreNamed, AreWhole, AreFilled, IsRowBy}
 use Rattle.jpa_object_rows.specs.Objects.{is_discriminator}
 use Rattle.jpa_object_rows.specs.Sets.{placed, AreUnitRows, rows_of}
-use Rattle.jpa_object_rows.proofs.Renamed.{sorted_renamed}
+use Rattle.jpa_object_rows.proofs.Renamed.{renamed, sorted_renamed}
 use Rattle.jpa_object_rows.proofs.Raw.{raw_rises}
 use Rattle.jpa_object_rows.proofs.Objects.{columns_keep_order, every}
 use Rattle.jpa_object_rows.proofs.Tables.{numbers, unit_numbers}
-use Rattle.jpa_object_rows.proofs.Numbers.{cells_placed}
 use Rattle.jpa_object_rows.proofs.Exact.{unit_same, rows_of_unit, rows_of_spelled}
+
+cells_placed : (row : typed.Row) → typed.cells_of row ≡ renamed pos typed.content_bytes (placed row)
+cells_placed [] = refl
+cells_placed (f ∷ row) = ap (λ r. (pos f.column, typed.content_bytes f.content) ∷ r) (cells_placed row)
 
 -- ---- rows of a unit are in its own tables
 

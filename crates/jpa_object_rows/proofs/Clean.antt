@@ -4,7 +4,7 @@ use Rattle.std.specs.Prelude.{◌≡◌, ◌≢◌, ℕ, ℤ, pos, negsuc, Bool,
 use Rattle.std.proofs.Common.{refl, sym, ap, subst, ◌∙◌, inl, inr, ◌⊎◌}
 use Rattle.std.specs.List.{zip, AllByRecursion}
 use Rattle.std.specs.Cmp.{nat_cmp_total, tied_itself}
-use Rattle.std.specs.FinMap.{find, put}
+use Rattle.std.specs.FinMap.{find}
 use Rattle.std.specs.Ordering.{nat_cmp, is_lt}
 use Rattle.jpa_value.specs.declared.value.Value.{Value}
 use Rattle.jpa_value.specs.declared.value.Kind.{Kind}
@@ -25,7 +25,7 @@ use Rattle.jpa_rows.specs.Cells.{are_numbers}
 use Rattle.jpa_rows.specs.Rows.{RowId, Row, Rows, may_hold, rule_of, is_field_by, IsRowOf}
 use Rattle.jpa_rows.specs.Tables.{rule, next_numbers, schema_of}
 use Rattle.jpa_row_laws.proofs.Facts.{some_none, true_false, first_holds, and_first, and_second}
-use Rattle.jpa_row_laws.proofs.Each.{Each, each_put}
+use Rattle.jpa_row_laws.proofs.Each.{Each}
 use Rattle.jpa_row_laws.proofs.Elements.{Has, into_map, found_has, has_found}
 use Rattle.jpa_row_laws.proofs.Lists.{all_each}
 use Rattle.jpa_row_laws.proofs.Maps.{same_answers, found_put}
@@ -40,12 +40,14 @@ use Rattle.jpa_object_rows.proofs.Bytes.MappedClasses.{unambiguous_mapped}
 use Rattle.jpa_object_rows.proofs.Bytes.Reading.{storable, object_spelled}
 use Rattle.jpa_object_rows.specs.Raw.{raw}
 use Rattle.jpa_object_rows.specs.Objects.{is_discriminator, main_row, pair_row, pair_ids, as_pairs, object_entries, object_rows, number_id, number_row}
-use Rattle.jpa_object_rows.specs.Sets.{base_of, set_in, content_at, next_in, number_in, next_at, numbers_in, AreOnes, AreUnitRows, StandsIn, with_number, with_next, with_numbers, with_set, rows_of}
+use Rattle.jpa_rows.specs.NextNumbers.{base_of, number_rows}
+use Rattle.jpa_object_rows.specs.Sets.{set_in, content_at, next_in, number_in, next_at, numbers_in, AreOnes, AreUnitRows, StandsIn, with_set, rows_of}
 use Rattle.jpa_object_rows.proofs.Named.{object_named}
 use Rattle.jpa_object_rows.proofs.Sets.{set_in_rises}
-use Rattle.jpa_object_rows.proofs.Stored.{own_join, zipped_first}
+use Rattle.jpa_object_rows.proofs.Stored.{own_join}
 use Rattle.jpa_object_rows.proofs.Read.{found_whole, stands_in}
 use Rattle.jpa_object_rows.proofs.Kept.{over_each}
+use Rattle.jpa_object_rows.proofs.NextNumbers.{zipped_first, rows_each}
 use Rattle.jpa_object_rows.proofs.Exact.{rows_of_unit, numbers_read_in}
 use Rattle.jpa_object_rows.proofs.Scans.{main_found}
 use Rattle.jpa_object_rows.proofs.Standing.{set_stands}
@@ -103,23 +105,17 @@ number_stands m rows h table k e more = by_row (find identity_cmp (number_id tab
 
 -- ---- the rows that are to stand do
 
-module _ (m : PersistenceUnit) (rows : Rows) (h : AreUnitRows m rows) where
-  number_stand : (table k : ℕ) → number_in (find identity_cmp (number_id table) rows) ≡ k → (base : Rows) → Each (Stands rows) base → Each (Stands rows) (with_number table k base)
-  number_stand table k e base g =
-      elim (k == 1) as (λ b. k == 1 ≡ b → Each (Stands rows) (cond b base (put identity_cmp (number_id table) (number_row k) base))) [
-        | true ↦ λ one. g
-        | false ↦ λ more. each_put identities (Stands rows) (number_id table) (number_row k) base (number_stands m rows h table k e more) g
-      ] refl
+mapped_second : (f : Entity → ℕ) (es : List Entity) (p : Entity × ℕ) → Has (zip es (map f es)) p → f p.0 ≡ p.1
+mapped_second f [] p h = absurd h
+mapped_second f (e ∷ es) p (inl s) = ap (λ (q : Entity × ℕ). f q.0) (sym s) ∙ ap (λ (q : Entity × ℕ). q.1) s
+mapped_second f (e ∷ es) p (inr h) = mapped_second f es p h
 
-  next_stand : (origin : Origin) (base : Rows) → Each (Stands rows) base → Each (Stands rows) (with_next origin (next_at rows origin) base)
-  next_stand (Origin.Extends parent) base g = g
-  next_stand (Origin.Root root) base g =
-      let k = number_in (find identity_cmp (number_id root.table) rows) in
-      elim root.generated as (λ b. Each (Stands rows) (cond b (with_number root.table (cond b k 1) base) base)) [ true ↦ number_stand root.table k refl base g | false ↦ g ]
-
-  numbers_stand : Each (Stands rows) (base_of m) → (entities : List Entity) → Each (Stands rows) (with_numbers (zip entities (map (λ e. next_at rows e.origin) entities)) (base_of m))
-  numbers_stand stood [] = stood
-  numbers_stand stood (e ∷ entities) = next_stand e.origin (with_numbers (zip entities (map (λ e. next_at rows e.origin) entities)) (base_of m)) (numbers_stand stood entities)
+numbers_stand : (m : PersistenceUnit) (rows : Rows) → AreUnitRows m rows → Each (Stands rows) (base_of m) → Each (Stands rows) (number_rows m (numbers_in m rows))
+numbers_stand m rows h stood =
+    rows_each (Stands rows) m (numbers_in m rows)
+    (λ p k root at. number_stands m rows h root.table p.1
+    (sym (ap (next_at rows) at.origin ∙ ap (λ b. cond b (number_in (find identity_cmp (number_id root.table) rows)) 1) at.generated) ∙ mapped_second (λ e. next_at rows e.origin) m.entities p k) at.more)
+    stood
 
 -- ---- what rows are known by
 
@@ -196,7 +192,7 @@ module _ (world : World) (mapped : IsMapped world.model) (regular : IsRegular wo
   all_covered : Each (Stands rows) news
   all_covered =
       set_covered (set_in world rows) (λ id x k. has_found identities (set_in world rows) (set_in_rises world rows) id x k)
-      (with_numbers (zip (world.model).entities (numbers_in world.model rows)) (base_of world.model)) (numbers_stand world.model rows h stood (world.model).entities)
+      (number_rows world.model (numbers_in world.model rows)) (numbers_stand world.model rows h stood)
 
   module _ (are : are_numbers world.model (numbers_in world.model rows) ≡ true) where
     all_storable : AreStorable world (set_in world rows)

@@ -1,54 +1,52 @@
 -- The rows of a set and of next numbers: they stand for these alone, and what changes make of them are the rows of the set that
 -- is changed likewise.
-use Rattle.std.specs.Prelude.{◌≡◌, ℕ, zero, suc, pos, Bool, true, false, cond, ◌==◌, ◌&&◌, ◌||◌, not, nat_lt, T, List, [], ◌∷◌, length, slice_set, slice_index_or, Some, None}
-use Rattle.std.proofs.Common.{refl, sym, ap, subst, ◌∙◌, inl}
-use Rattle.std.specs.List.{flat_map, zip, list_any, AllByRecursion}
-use Rattle.std.specs.FinMap.{put, is_sorted}
+use Rattle.std.specs.Prelude.{◌≡◌, ℕ, pos, Bool, true, false, ◌==◌, ◌||◌, not, nat_lt, T, List, [], ◌∷◌, length, slice_set, slice_index_or, Some, None}
+use Rattle.std.proofs.Common.{refl, sym, ap, subst, ◌∙◌}
+use Rattle.std.specs.List.{zip, list_any}
+use Rattle.std.specs.FinMap.{find, put, is_sorted}
 use Rattle.jpa_value.specs.declared.value.Identity.{Identity}
 use Rattle.jpa_value.specs.Value.{identity_cmp, same_identity, is_i64}
-use Rattle.jpa_model.specs.declared.unit.Entity.{Entity}
 use Rattle.jpa_model.specs.declared.unit.Origin.{Origin}
 use Rattle.jpa_model.specs.declared.unit.PersistenceUnit.{PersistenceUnit}
 use Rattle.jpa_model.specs.declared.unit.Root.{Root}
-use Rattle.jpa_model.specs.Chains.{entity_at, no_entity, relations_of}
+use Rattle.jpa_model.specs.Chains.{entity_at, no_entity, relations_of, or_else}
 use Rattle.jpa_behaviour.specs.Behaviour.{World, IsRegular}
 use Rattle.jpa_stored.specs.declared.stored.Stored.{Stored}
-use Rattle.jpa_stored.specs.Sets.{StoredSet, stored_at, with_stored, without, each_fits}
-use Rattle.jpa_rows.specs.Cells.{is_next, are_numbers, root_tables, join_tables}
+use Rattle.jpa_stored.specs.Sets.{StoredSet, stored_at, with_stored, without}
+use Rattle.jpa_rows.specs.Cells.{are_numbers}
 use Rattle.jpa_rows.specs.declared.schema.Schema.{Schema}
-use Rattle.jpa_rows.specs.Rows.{RowId, Rows, cells_of, table_of}
+use Rattle.jpa_rows.specs.Rows.{RowId, Rows, AreRising, cells_of, table_of}
 use Rattle.jpa_rows.specs.Tables.{schema_of}
-use Rattle.jpa_row_laws.proofs.Facts.{and_first, and_second, and_both}
+use Rattle.jpa_row_laws.proofs.Facts.{and_second}
 use Rattle.jpa_row_laws.proofs.Each.{each_put}
-use Rattle.jpa_row_laws.proofs.Elements.{Has, append_has, into_flat_map, found_has}
+use Rattle.jpa_row_laws.proofs.Maps.{put_by_answers}
+use Rattle.jpa_row_laws.proofs.Elements.{found_has}
 use Rattle.jpa_row_laws.proofs.Lists.{all_each, all_from, all_where}
 use Rattle.jpa_object_rows.specs.Rows as by_bytes
 use Rattle.jpa_object_rows.specs.Rows.{row_cmp, row_of}
 use Rattle.jpa_object_rows.specs.Written as written
-use Rattle.jpa_object_rows.specs.View.{set_of, is_storable, AreStorable, numbers_of}
+use Rattle.jpa_object_rows.specs.View.{set_of, is_storable, AreStorable}
 use Rattle.jpa_object_rows.specs.Unambiguous.{IsUnambiguous, is_class, joins_of}
 use Rattle.jpa_object_rows.proofs.Bytes.Orders.{identities, are_same_numbers}
 use Rattle.jpa_object_rows.proofs.Bytes.Mapped.{IsMapped}
 use Rattle.jpa_object_rows.proofs.Bytes.MappedClasses.{unambiguous_mapped}
 use Rattle.jpa_object_rows.proofs.Bytes.Reading.{storable}
 use Rattle.jpa_object_rows.proofs.Bytes.Owned.{owned_of}
-use Rattle.jpa_object_rows.proofs.Bytes.Tables.{own_tables}
-use Rattle.jpa_object_rows.proofs.Bytes.FlatNumbers.{small_each}
-use Rattle.jpa_object_rows.proofs.Bytes.Classes.{has_entity}
 use Rattle.jpa_object_rows.proofs.Bytes.Rounds.{set_read}
-use Rattle.jpa_object_rows.proofs.Bytes.NumbersRead.{numbers_read}
+use Rattle.jpa_object_rows.proofs.Bytes.Others.{apart_identities}
+use Rattle.jpa_object_rows.proofs.Bytes.Numbers.{small_table, base_rises}
 use Rattle.jpa_object_rows.proofs.Bytes.Exact.{rows_put, rows_dropped, rows_replaced}
-use Rattle.jpa_object_rows.proofs.Bytes.ExactNumbers.{rows_numbered}
 use Rattle.jpa_object_rows.specs.Raw.{raw, AreNamed, AreWhole, IsRowBy}
-use Rattle.jpa_object_rows.specs.Objects.{is_discriminator, number_id, number_row, with_object, without_pairs, without_object}
-use Rattle.jpa_object_rows.specs.Sets.{set_in, numbers_in, AreOnes, AreUnitRows, base_of, with_number, with_next, with_numbers, with_set, rows_of}
-use Rattle.jpa_object_rows.proofs.Raw.{raw_put}
-use Rattle.jpa_object_rows.proofs.Over.{object_over_spelled, pairs_left_spelled, object_left_spelled}
-use Rattle.jpa_object_rows.proofs.Named.{object_named, pairs_named, number_named}
+use Rattle.jpa_object_rows.specs.Objects.{is_discriminator, number_id, number_row, object_rows, with_object, without_pairs, without_object}
+use Rattle.jpa_rows.specs.NextNumbers.{next_entries, base_of, number_rows}
+use Rattle.jpa_object_rows.specs.Sets.{set_in, numbers_in, AreOnes, AreUnitRows, with_set, rows_of}
+use Rattle.jpa_object_rows.proofs.Over.{found_over, over_rises, object_over_spelled, pairs_left_spelled, object_left_spelled}
+use Rattle.jpa_object_rows.proofs.Named.{object_named, pairs_named}
 use Rattle.jpa_object_rows.proofs.Targets.{same_id}
 use Rattle.jpa_object_rows.proofs.Read.{same_by_table}
-use Rattle.jpa_object_rows.proofs.Numbers.{numbers_same}
 use Rattle.jpa_object_rows.proofs.Kept.{unit_put, unit_left, unit_dropped, unit_numbered}
+use Rattle.jpa_object_rows.proofs.NextNumbers.{rows_keep, base_keeps, entry_given, found_row, number_found, all_read, has_set, others_set}
+use Rattle.jpa_object_rows.proofs.Marked.{set_passed}
 
 -- ---- rows with the same bytes are one
 
@@ -71,47 +69,12 @@ unit_same m a b g h e = same_raw (schema_of m) a b (g.named).named (h.named).nam
 
 -- ---- next numbers
 
--- tables and numbers that are integers of 64 bits
-abbrev IsSmallRoot : Entity → Type 0
-IsSmallRoot e = (table : ℕ) → Has (root_tables e.origin) table → is_i64 (pos table) ≡ true
-
 -- rows of the unit with these bytes
 record IsSpelledAs (m : PersistenceUnit) (rows : Rows) (bytes : by_bytes.Rows) : Type 0 where
   unit : AreUnitRows m rows
   same : raw rows ≡ bytes
 
 module _ (m : PersistenceUnit) (clear : IsUnambiguous m) where
-  numbered_spelled : (table k : ℕ) → is_i64 (pos table) ≡ true → is_i64 (pos k) ≡ true → (rows : Rows) (bytes : by_bytes.Rows) → IsSpelledAs m rows bytes
-      → IsSpelledAs m (put identity_cmp (number_id table) (number_row k) rows) (put row_cmp (written.number_row table) (written.number_columns k) bytes)
-  numbered_spelled table k small_table small rows bytes h = record {
-    unit = unit_numbered m clear table k small_table small rows h.unit;
-    same = raw_put (schema_of m) (number_id table) (number_named m table small_table) (number_row k) rows ((h.unit).named).named
-        ∙ ap (put row_cmp (written.number_row table) (written.number_columns k)) h.same;
-  }
-
-  number_spelled : (table k : ℕ) → is_i64 (pos table) ≡ true → is_i64 (pos k) ≡ true → (rows : Rows) (bytes : by_bytes.Rows) → IsSpelledAs m rows bytes
-      → IsSpelledAs m (with_number table k rows) (written.with_number table k bytes)
-  number_spelled table k small_table small rows bytes h =
-      elim (k == 1) as (λ b. IsSpelledAs m (cond b rows (put identity_cmp (number_id table) (number_row k) rows)) (cond b bytes (put row_cmp (written.number_row table) (written.number_columns k) bytes))) [
-        | true ↦ h
-        | false ↦ numbered_spelled table k small_table small rows bytes h
-      ]
-
-  next_spelled : (origin : Origin) (k : ℕ) → ((table : ℕ) → Has (root_tables origin) table → is_i64 (pos table) ≡ true) → is_next origin k ≡ true → (rows : Rows) (bytes : by_bytes.Rows) → IsSpelledAs m rows bytes
-      → IsSpelledAs m (with_next origin k rows) (written.with_next origin k bytes)
-  next_spelled (Origin.Extends parent) k small is rows bytes h = h
-  next_spelled (Origin.Root root) k small is rows bytes h =
-      elim root.generated as (λ b. cond b (nat_lt 0 k && is_i64 (pos k)) (k == 1) ≡ true → IsSpelledAs m (cond b (with_number root.table k rows) rows) (cond b (written.with_number root.table k bytes) bytes)) [
-        | true ↦ λ g. number_spelled root.table k (small root.table (inl refl)) (and_second (nat_lt 0 k) _ g) rows bytes h
-        | false ↦ λ g. h
-      ] is
-
-  nothing_spelled : IsSpelledAs m [] []
-  nothing_spelled = record {
-    unit = record { named = record { rising = tt; named = tt }; whole = tt; filled = tt; ones = λ class is. all_from (λ join. AreOnes join []) (joins_of (relations_of m class)) (λ join k. tt) };
-    same = refl;
-  }
-
   small_revision : is_i64 (pos m.revision) ≡ true
   small_revision = by_test (m.revision == 1) refl
     where
@@ -119,31 +82,28 @@ module _ (m : PersistenceUnit) (clear : IsUnambiguous m) where
       by_test true e = ap (λ n. is_i64 (pos n)) (are_same_numbers m.revision 1 e)
       by_test false e = ap (λ n. is_i64 (pos n)) (are_same_numbers m.revision 2 (ap (λ b. b || m.revision == 2) (sym e) ∙ clear.revision))
 
-  base_spelled : IsSpelledAs m (base_of m) (written.base_of m)
-  base_spelled = number_spelled 0 m.revision refl small_revision [] [] nothing_spelled
+  no_rows : AreUnitRows m []
+  no_rows = record { named = record { rising = tt; named = tt }; whole = tt; filled = tt; ones = λ class is. all_from (λ join. AreOnes join []) (joins_of (relations_of m class)) (λ join k. tt) }
 
-  numbers_spelled : (entities : List Entity) (numbers : List ℕ) → AllByRecursion IsSmallRoot entities → each_fits (λ e k. is_next e.origin k) entities numbers ≡ true
-      → IsSpelledAs m (with_numbers (zip entities numbers) (base_of m)) (written.with_numbers (zip entities numbers) (written.base_of m))
-  numbers_spelled [] numbers small h = base_spelled
-  numbers_spelled (e ∷ entities) [] small h = base_spelled
-  numbers_spelled (e ∷ entities) (k ∷ numbers) small h =
-      next_spelled e.origin k small.0 (and_first (is_next e.origin k) _ h) (with_numbers (zip entities numbers) (base_of m)) (written.with_numbers (zip entities numbers) (written.base_of m))
-      (numbers_spelled entities numbers small.1 (and_second (is_next e.origin k) _ h))
+  numbers_unit : (numbers : List ℕ) → are_numbers m numbers ≡ true → AreUnitRows m (number_rows m numbers)
+  numbers_unit numbers are =
+      rows_keep (AreUnitRows m) m numbers
+      (λ p h root k rows. unit_numbered m clear root.table p.1 (small_table m clear numbers p h root k)
+      (and_second (nat_lt 0 p.1) _ (entry_given m numbers are p h root k)) rows)
+      (base_keeps (AreUnitRows m) m (λ more rows. unit_numbered m clear 0 m.revision refl small_revision rows) no_rows)
 
-  small_roots : AllByRecursion IsSmallRoot m.entities
-  small_roots =
-      all_from IsSmallRoot m.entities
-      (λ e k table h. small_each (flat_map own_tables m.entities) clear.small.1 table
-      (into_flat_map own_tables m.entities e table k (append_has (root_tables e.origin) (flat_map (λ r. join_tables r.side) e.relations) table (inl h))))
+-- ---- objects over others
 
-  -- one number more
-  numbers_with : (entities : List Entity) (numbers : List ℕ) (i k : ℕ) → each_fits (λ e k. is_next e.origin k) entities numbers ≡ true → is_next (slice_index_or entities i no_entity).origin k ≡ true
-      → each_fits (λ e k. is_next e.origin k) entities (slice_set numbers i k) ≡ true
-  numbers_with [] [] i k h is = refl
-  numbers_with [] (n ∷ numbers) i k h is = absurd (subst T (sym h) tt)
-  numbers_with (e ∷ entities) [] i k h is = absurd (subst T (sym h) tt)
-  numbers_with (e ∷ entities) (n ∷ numbers) zero k h is = and_both (is_next e.origin k) _ is (and_second (is_next e.origin n) _ h)
-  numbers_with (e ∷ entities) (n ∷ numbers) (suc i) k h is = and_both (is_next e.origin n) _ (and_first (is_next e.origin n) _ h) (numbers_with entities numbers i k (and_second (is_next e.origin n) _ h) is)
+-- what is found over rows depends on what is found in them
+set_over : (world : World) (q : RowId) (set : StoredSet) (a b : Rows) → find identity_cmp q a ≡ find identity_cmp q b → find identity_cmp q (with_set world set a) ≡ find identity_cmp q (with_set world set b)
+set_over world q [] a b same = same
+set_over world q (e ∷ set) a b same =
+    let rows = object_rows world e.0 e.1 in
+    found_over q rows (with_set world set a) ∙ ap (or_else (find identity_cmp q rows)) (set_over world q set a b same) ∙ sym (found_over q rows (with_set world set b))
+
+set_over_rises : (world : World) (set : StoredSet) (rows : Rows) → AreRising rows → AreRising (with_set world set rows)
+set_over_rises world [] rows rise = rise
+set_over_rises world (e ∷ set) rows rise = over_rises (object_rows world e.0 e.1) (with_set world set rows) (set_over_rises world set rows rise)
 
 -- ---- objects
 
@@ -177,8 +137,7 @@ module _ (world : World) (mapped : IsMapped world.model) (regular : IsRegular wo
   module _ (numbers : List ℕ) (are : are_numbers world.model numbers ≡ true) where
     all_spelled : (set : StoredSet) → AreStorable world set → IsSpelledAs world.model (rows_of world set numbers) (written.rows_of world set numbers)
     all_spelled set h =
-        let ps = zip (world.model).entities numbers in
-        set_spelled set h (with_numbers ps (base_of world.model)) (written.with_numbers ps (written.base_of world.model)) (numbers_spelled world.model clear (world.model).entities numbers (small_roots world.model clear) are)
+        set_spelled set h (number_rows world.model numbers) (raw (number_rows world.model numbers)) (record { unit = numbers_unit world.model clear numbers are; same = refl })
 
     pub rows_of_unit : (set : StoredSet) → AreStorable world set → AreUnitRows world.model (rows_of world set numbers)
     rows_of_unit set h = (all_spelled set h).unit
@@ -192,9 +151,9 @@ module _ (world : World) (mapped : IsMapped world.model) (regular : IsRegular wo
 
     pub numbers_read_in : (set : StoredSet) → AreStorable world set → numbers_in world.model (rows_of world set numbers) ≡ numbers
     numbers_read_in set h =
-        let unit = rows_of_unit set h in
-        sym (numbers_same world.model (rows_of world set numbers) unit.named unit.whole clear)
-        ∙ ap (numbers_of world.model) (all_spelled set h).same ∙ numbers_read world clear set numbers h are
+        let m = world.model in
+        all_read (rows_of world set numbers) m.entities numbers are
+        (λ p k root is g. set_passed world clear (number_id root.table) refl set h (number_rows m numbers) ∙ found_row m clear numbers p k root is g)
 
     module _ (set : StoredSet) (up : T (is_sorted identity_cmp set)) (h : AreStorable world set) where
       spelled : IsSpelledAs world.model (rows_of world set numbers) (written.rows_of world set numbers)
@@ -240,12 +199,14 @@ module _ (world : World) (mapped : IsMapped world.model) (regular : IsRegular wo
       → put identity_cmp (number_id root.table) (number_row k) (rows_of world set numbers) ≡ rows_of world set (slice_set numbers class k)
   rows_numbered_in set h numbers are class k root within long is generated more positive small =
       let m = world.model in
-      let next = ap (λ o. is_next o k) is ∙ ap (λ b. cond b (nat_lt 0 k && is_i64 (pos k)) (k == 1)) generated ∙ and_both (nat_lt 0 k) _ positive small in
-      let still = numbers_with m clear m.entities numbers class k are next in
-      let before = all_spelled numbers are set h in
-      let after = all_spelled (slice_set numbers class k) still set h in
-      let e = entity_at m class in
-      let own = all_each IsSmallRoot m.entities (small_roots m clear) e (has_entity m class within) root.table (subst (λ o. Has (root_tables o) root.table) (sym is) (inl refl)) in
-      let put_one = numbered_spelled m clear root.table k own small (rows_of world set numbers) (written.rows_of world set numbers) before in
-      unit_same m (put identity_cmp (number_id root.table) (number_row k) (rows_of world set numbers)) (rows_of world set (slice_set numbers class k)) put_one.unit after.unit
-      (put_one.same ∙ rows_numbered world clear set h numbers class k root within long is generated more ∙ sym after.same)
+      let q = number_id root.table in
+      let others = slice_set numbers class k in
+      let e = slice_index_or m.entities class no_entity in
+      sym (put_by_answers identities q (number_row k) (rows_of world set numbers) (rows_of world set others) (set_over_rises world set (number_rows m numbers) (base_rises m clear numbers)) (set_over_rises world set (number_rows m others) (base_rises m clear others))
+      (set_passed world clear q refl set h (number_rows m others)
+      ∙ found_row m clear others (e, k) (has_set m.entities numbers class k within long) root is generated
+      ∙ number_found root.table k more)
+      (λ z apart. set_over world z set (number_rows m others) (number_rows m numbers)
+      (found_over z (next_entries (zip m.entities others)) (base_of m)
+      ∙ ap (λ o. or_else o (find identity_cmp z (base_of m))) (others_set z m.entities numbers class k root is (apart_identities z q apart))
+      ∙ sym (found_over z (next_entries (zip m.entities numbers)) (base_of m)))))

@@ -5,6 +5,7 @@ pub mod Raw
 -- ---- the rows of an object
 pub mod Objects
 pub mod Over
+pub mod NextNumbers
 pub mod Changes
 pub mod Places
 -- ---- a unit's tables
@@ -18,7 +19,6 @@ pub mod Targets
 pub mod Stored
 pub mod Contents
 pub mod Read
-pub mod Numbers
 pub mod Kept
 pub mod Exact
 pub mod Scans

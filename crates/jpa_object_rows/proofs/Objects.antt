@@ -1,4 +1,4 @@
--- The main row of an object, its pairs and next numbers are spelled with the cells that they are to have.
+-- The main row of an object and its pairs are spelled with the cells that they are to have.
 use Rattle.std.specs.Prelude.{◌≡◌, ℕ, ℤ, pos, List, [], ◌∷◌, ◌++◌, map, Option, Some, None, option_map}
 use Rattle.std.proofs.Common.{refl, ap, ◌∙◌, arith}
 use Rattle.std.proofs.lemmas.Bool.Decides.{nat_tests}
@@ -23,7 +23,7 @@ use Rattle.jpa_row_laws.specs.Slots.{filled}
 use Rattle.jpa_object_rows.specs.Rows.{row_of}
 use Rattle.jpa_object_rows.specs.Identities as identities
 use Rattle.jpa_object_rows.specs.Written as written
-use Rattle.jpa_object_rows.specs.Objects.{value_content, link_content, Places, version_places, attribute_places, side_places, relation_places, places_of, field_of, main_row, pair_id, pair_row, number_id, number_row}
+use Rattle.jpa_object_rows.specs.Objects.{value_content, link_content, Places, version_places, attribute_places, side_places, relation_places, places_of, field_of, main_row, pair_id, pair_row}
 use Rattle.jpa_object_rows.proofs.Renamed.{renamed, KeepsOrder, AreKeys, filled_renamed}
 
 -- ---- the main row
@@ -100,16 +100,10 @@ main_row_spelled world x =
     cells_of_fields (filled nat_cmp (places_of world x)) ∙ filled_renamed columns_keep_order content_bytes (places_of world x) (every (places_of world x))
     ∙ ap (filled int_cmp) (places_spelled world x)
 
--- ---- pairs and next numbers
+-- ---- pairs
 
 pub pair_id_spelled : (join : ℕ) (owner target : Identity) → row_of (pair_id join owner target) ≡ identities.pair_row join owner target
 pair_id_spelled join owner target = λ i. record { table = join; row = flat_map-append part_bytes owner.key target.key i }
 
 pub pair_row_spelled : cells_of pair_row ≡ written.pair_columns
 pair_row_spelled = refl
-
-pub number_id_spelled : (table : ℕ) → row_of (number_id table) ≡ written.number_row table
-number_id_spelled table = refl
-
-pub number_row_spelled : (k : ℕ) → cells_of (number_row k) ≡ written.number_columns k
-number_row_spelled k = refl

@@ -28,7 +28,7 @@ use Rattle.jpa_object_rows.proofs.Objects.{main_row_spelled, pair_id_spelled}
 
 -- ---- rows over others
 
-either_first : (b : Bool) (row : Row) (o p : Option Row) → cond b (Some row) (or_else o p) ≡ or_else (cond b (Some row) o) p
+pub either_first : (b : Bool) (row : Row) (o p : Option Row) → cond b (Some row) (or_else o p) ≡ or_else (cond b (Some row) o) p
 either_first true row o p = refl
 either_first false row o p = refl
 
@@ -83,7 +83,7 @@ pub found_replaced : (world : World) (id : Identity) (old x : Stored) (q : RowId
 found_replaced world id old x q rows =
     found_over q (object_rows world id x) (without_pairs world id old rows) ∙ ap (or_else (find identity_cmp q (object_rows world id x))) (found_left q (pair_ids world id old) rows)
 
-over_joined : (es fs rows : Rows) → with_rows (es ++ fs) rows ≡ with_rows es (with_rows fs rows)
+pub over_joined : (es fs rows : Rows) → with_rows (es ++ fs) rows ≡ with_rows es (with_rows fs rows)
 over_joined [] fs rows = refl
 over_joined (e ∷ es) fs rows = ap (put identity_cmp e.0 e.1) (over_joined es fs rows)
 

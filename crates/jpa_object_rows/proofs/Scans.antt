@@ -2,14 +2,11 @@
 -- its objects in the order of their identities.
 use Rattle.std.specs.Prelude.{◌≡◌, ℕ, Bool, true, false, cond, ◌==◌, T, List, [], ◌∷◌, Option, Some, None, option_map}
 use Rattle.std.proofs.Common.{refl, sym, ap, subst, ◌∙◌, inl}
-use Rattle.std.specs.List.{zip}
-use Rattle.std.specs.FinMap.{find, put, is_sorted}
+use Rattle.std.specs.FinMap.{find, is_sorted}
 use Rattle.std.specs.FinMap.Entries.{where_key, find-where_key, is_sorted-where_key}
 use Rattle.std.specs.Ordering.{eq_by_cmp}
 use Rattle.jpa_value.specs.declared.value.Identity.{Identity}
 use Rattle.jpa_value.specs.Value.{identity_cmp}
-use Rattle.jpa_model.specs.declared.unit.Entity.{Entity}
-use Rattle.jpa_model.specs.declared.unit.Origin.{Origin}
 use Rattle.jpa_model.specs.declared.unit.Root.{Root}
 use Rattle.jpa_model.specs.declared.unit.Relation.{Relation}
 use Rattle.jpa_model.specs.declared.unit.PersistenceUnit.{PersistenceUnit}
@@ -22,7 +19,7 @@ use Rattle.jpa_rows.specs.Rows.{RowId, Row, Rows, AreRising, table_rows}
 use Rattle.jpa_row_laws.proofs.Facts.{some_none}
 use Rattle.jpa_row_laws.proofs.Each.{Each}
 use Rattle.jpa_row_laws.proofs.Elements.{Has, into_flat_map}
-use Rattle.jpa_row_laws.proofs.Maps.{same_key, found_other, same_answers}
+use Rattle.jpa_row_laws.proofs.Maps.{same_answers}
 use Rattle.jpa_object_rows.specs.Identities.{root_at}
 use Rattle.jpa_object_rows.specs.View.{is_storable, AreStorable}
 use Rattle.jpa_object_rows.specs.Unambiguous.{IsUnambiguous}
@@ -33,20 +30,15 @@ use Rattle.jpa_object_rows.proofs.Bytes.Tables.{zero_root}
 use Rattle.jpa_rows.specs.Tables.{schema_of}
 use Rattle.jpa_object_rows.proofs.Bytes.Inverse.{scan_is, leading_read}
 use Rattle.jpa_object_rows.specs.Raw.{raw, AreRowsOf}
-use Rattle.jpa_object_rows.specs.Objects.{main_row, pair_ids, as_pairs, object_entries, object_rows, with_object, number_id, number_row}
-use Rattle.jpa_object_rows.specs.Sets.{base_of, set_in, with_number, with_next, with_numbers, with_set, rows_of}
+use Rattle.jpa_object_rows.specs.Objects.{main_row, pair_ids, as_pairs, object_entries, object_rows, with_object}
+use Rattle.jpa_rows.specs.NextNumbers.{number_rows}
+use Rattle.jpa_object_rows.specs.Sets.{set_in, with_set, rows_of}
 use Rattle.jpa_object_rows.proofs.Renamed.{renamed, some_if, found_renamed, sorted_renamed}
 use Rattle.jpa_object_rows.proofs.Raw.{raw_rises}
 use Rattle.jpa_object_rows.proofs.Changes.{same_order, any_keys}
 use Rattle.jpa_object_rows.proofs.Over.{found_over, or_nothing}
+use Rattle.jpa_object_rows.proofs.NextNumbers.{number_each, rows_each, unless_same, or_none}
 use Rattle.jpa_object_rows.proofs.Kept.{along_each, join_of_class}
-
-unless_same : (q id : RowId) → (q ≡ id → ⊥) → eq_by_cmp identity_cmp q id ≡ false
-unless_same q id apart = by_test (eq_by_cmp identity_cmp q id) refl
-  where
-    by_test : (b : Bool) → eq_by_cmp identity_cmp q id ≡ b → eq_by_cmp identity_cmp q id ≡ false
-    by_test true e = absurd (apart (same_key identities q id e))
-    by_test false e = e
 
 -- an id of no root's table
 abbrev NoRoot : PersistenceUnit → RowId → Row → Type 0
@@ -58,24 +50,10 @@ module _ (m : PersistenceUnit) (clear : IsUnambiguous m) (q : RowId) (root : Roo
   passed (e ∷ es) h =
       ap (λ b. cond b (Some e.1) (find identity_cmp q es)) (unless_same q e.0 (λ same. h.0 root (ap (λ (id : RowId). root_at m id.table) (sym same) ∙ at))) ∙ passed es h.1
 
-  number_apart : (table : ℕ) → q ≡ number_id table → ⊥
-  number_apart table same = some_none root (sym at ∙ ap (λ (id : RowId). root_at m id.table) same ∙ zero_root m clear.tables)
-
-  past_number : (table k : ℕ) (rows : Rows) → find identity_cmp q (with_number table k rows) ≡ find identity_cmp q rows
-  past_number table k rows =
-      elim (k == 1) as (λ b. find identity_cmp q (cond b rows (put identity_cmp (number_id table) (number_row k) rows)) ≡ find identity_cmp q rows) [
-        | true ↦ refl
-        | false ↦ found_other identities q (number_id table) (number_row k) rows (unless_same q (number_id table) (number_apart table))
-      ]
-
-  past_next : (origin : Origin) (k : ℕ) (rows : Rows) → find identity_cmp q (with_next origin k rows) ≡ find identity_cmp q rows
-  past_next (Origin.Extends parent) k rows = refl
-  past_next (Origin.Root own) k rows =
-      elim own.generated as (λ b. find identity_cmp q (cond b (with_number own.table k rows) rows) ≡ find identity_cmp q rows) [ true ↦ past_number own.table k rows | false ↦ refl ]
-
-  past_numbers : (ps : List (Entity × ℕ)) (rows : Rows) → find identity_cmp q (with_numbers ps rows) ≡ find identity_cmp q rows
-  past_numbers [] rows = refl
-  past_numbers (p ∷ ps) rows = past_next (p.0).origin p.1 (with_numbers ps rows) ∙ past_numbers ps rows
+  pub past_numbers : (numbers : List ℕ) → find identity_cmp q (number_rows m numbers) ≡ None
+  past_numbers numbers =
+      let no_root = λ (root : Root) (at : root_at m 0 ≡ Some root). some_none root (sym at ∙ zero_root m clear.tables) in
+      passed (number_rows m numbers) (rows_each (NoRoot m) m numbers (λ p h own k. no_root) (number_each (NoRoot m) 0 m.revision (λ more. no_root)))
 
 -- pairs stand in no root's table
 pairs_apart : (world : World) → IsUnambiguous world.model → (id : Identity) (x : Stored) → is_storable world id x ≡ true → Each (NoRoot world.model) (as_pairs (pair_ids world id x))
@@ -113,16 +91,11 @@ module _ (world : World) (clear : IsUnambiguous world.model) (q : RowId) (root :
       ∙ later_or (eq_by_cmp identity_cmp q e.0) (main_row world e.1) (option_map (main_row world) (stored_at set q)) (find identity_cmp q rows)
       ∙ ap (λ o. or_else o (find identity_cmp q rows)) (some_if (main_row world) (eq_by_cmp identity_cmp q e.0) e.1 (stored_at set q))
 
-  or_none : (o : Option Row) → or_else o None ≡ o
-  or_none None = refl
-  or_none (Some row) = refl
-
   -- the row under an identity
   pub main_found : (set : StoredSet) → AreStorable world set → (numbers : List ℕ) → find identity_cmp q (rows_of world set numbers) ≡ option_map (main_row world) (stored_at set q)
   main_found set h numbers =
-      let ps = zip (world.model).entities numbers in
-      set_found set h (with_numbers ps (base_of world.model))
-      ∙ ap (or_else (option_map (main_row world) (stored_at set q))) (past_numbers world.model clear q root at ps (base_of world.model) ∙ past_number world.model clear q root at 0 (world.model).revision [])
+      set_found set h (number_rows world.model numbers)
+      ∙ ap (or_else (option_map (main_row world) (stored_at set q))) (past_numbers world.model clear q root at numbers)
       ∙ or_none (option_map (main_row world) (stored_at set q))
 
 -- ---- a whole table

@@ -1,6 +1,6 @@
 -- What an owner holds along its relations is the same by typed rows and by their bytes.
 use Rattle.std.specs.Prelude.{◌≡◌, ℕ, true, List, [], ◌∷◌}
-use Rattle.std.proofs.Common.{refl, sym, ap, subst, ◌∙◌, inl, inr}
+use Rattle.std.proofs.Common.{refl, sym, subst, ◌∙◌, inl, inr}
 use Rattle.std.specs.List.{zip}
 use Rattle.jpa_value.specs.declared.value.Identity.{Identity}
 use Rattle.jpa_model.specs.declared.unit.PersistenceUnit.{PersistenceUnit}
@@ -22,6 +22,7 @@ use Rattle.jpa_object_rows.specs.Raw.{raw, AreRowsOf}
 use Rattle.jpa_object_rows.specs.Sets.{targets_in, AreOnes, HoldsOnes}
 use Rattle.jpa_object_rows.proofs.Tables.{join_table_found}
 use Rattle.jpa_object_rows.proofs.Named.{identity_key}
+use Rattle.jpa_object_rows.proofs.NextNumbers.{zipped_first}
 use Rattle.jpa_object_rows.proofs.Targets.{OwnsIn, pairs_read}
 
 -- pairs that are the same along these relations are held alike
@@ -37,12 +38,6 @@ same_pairs pairs others (p ∷ ps) same h = (by_side (p.0).side (λ join e. same
     by_side (Side.OneToMany o) same has = tt
     by_side (Side.ManyToMany join) same has = sym (same join refl) ∙ has
     by_side (Side.ManyToManyInverse o) same has = tt
-
-pub zipped_first : {A B : Type 0} (xs : List A) (ys : List B) (p : A × B) → Has (zip xs ys) p → Has xs p.0
-zipped_first [] ys p h = absurd h
-zipped_first (x ∷ xs) [] p h = absurd h
-zipped_first (x ∷ xs) (y ∷ ys) p (inl e) = inl (ap (λ (q : _ × _). q.0) e)
-zipped_first (x ∷ xs) (y ∷ ys) p (inr h) = inr (zipped_first xs ys p h)
 
 -- an identity of a class's hierarchy, whose key can be spelled
 module _ (m : PersistenceUnit) (clear : IsUnambiguous m) (class : ℕ) (is : is_class m class ≡ true) (owner : Identity) (of_root : is_identity_of (root_of m class) owner ≡ true)

@@ -1,9 +1,8 @@
 -- The rows of a stored object: its main row in the table of its hierarchy, and a row of the join
 -- table for each pair that it owns (Jakarta Persistence 3.1, chapters 2.10 relations, 2.12
 -- hierarchies, 3.4.2 versions, 3.8 converters).
-use Rattle.std.specs.Prelude.{ℕ, ℤ, pos, Bool, List, [], ◌∷◌, ◌++◌, map, Option, Some, None}
+use Rattle.std.specs.Prelude.{ℕ, ℤ, Bool, List, [], ◌∷◌, ◌++◌, map, Option, Some, None}
 use Rattle.std.specs.List.{flat_map, zip}
-use Rattle.std.specs.FinMap.{put}
 use Rattle.std.specs.Ordering.{nat_cmp}
 use Rattle.jpa_value.specs.declared.value.Value.{Value}
 use Rattle.jpa_value.specs.declared.value.Identity.{Identity}
@@ -23,6 +22,7 @@ use Rattle.jpa_rows.specs.declared.row.RowChange.{RowChange}
 use Rattle.jpa_rows.specs.Cells.{column_value}
 use Rattle.jpa_rows.specs.declared.schema.Holds.{Holds}
 use Rattle.jpa_rows.specs.Rows.{RowId, Row, Rows, may_hold}
+pub use Rattle.jpa_rows.specs.NextNumbers.{number_in_first, number_id, number_row, with_rows}
 use Rattle.jpa_row_laws.specs.Changes.{dropped}
 use Rattle.jpa_row_laws.specs.Slots.{filled}
 
@@ -110,10 +110,6 @@ main_row world x = row_of_places (places_of world x)
 abbrev pub pair_id : ℕ → Identity → Identity → RowId
 pair_id join owner target = record { table = join; key = owner.key ++ target.key }
 
--- a row that has a number in column 0
-abbrev pub number_in_first : ℕ → Row
-number_in_first k = record { column = 0; content = Content.Value (Value.Int (pos k)) } ∷ []
-
 -- the row of a pair, which says 1
 abbrev pub pair_row : Row
 pair_row = number_in_first 1
@@ -135,22 +131,7 @@ pairs_along owner = flat_map (λ p. side_pairs owner (p.0).side p.1)
 abbrev pub pair_ids : World → Identity → Stored → List RowId
 pair_ids world id x = pairs_along id (zip (relations_of world.model x.class) x.owned)
 
--- ---- a next number: a row of table 0, named by the hierarchy's table
-
--- the id of the row of a table's next number
-abbrev pub number_id : ℕ → RowId
-number_id table = record { table = 0; key = Value.Int (pos table) ∷ [] }
-
--- the row of a next number
-abbrev pub number_row : ℕ → Row
-number_row k = number_in_first k
-
 -- ---- rows put over others, or dropped from them
-
--- rows with others put over them
-abbrev pub with_rows : Rows → Rows → Rows
-with_rows [] rows = rows
-with_rows (e ∷ es) rows = put identity_cmp e.0 e.1 (with_rows es rows)
 
 -- rows without those of some ids
 abbrev pub without_rows : List RowId → Rows → Rows

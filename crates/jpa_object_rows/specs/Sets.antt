@@ -1,13 +1,12 @@
 -- What rows stand for: the set of stored objects, the pairs of an owner, and the next numbers.
-use Rattle.std.specs.Prelude.{◌≡◌, ℕ, pos, negsuc, true, ◌==◌, List, [], ◌∷◌, map, Option, Some, None, option_map}
+use Rattle.std.specs.Prelude.{◌≡◌, ℕ, pos, negsuc, true, List, [], ◌∷◌, map, Option, Some, None, option_map}
 use Rattle.std.specs.Prelude.{if◌then◌else◌}
 use Rattle.std.specs.List.{flat_map, zip, AllByRecursion}
-use Rattle.std.specs.FinMap.{find, put}
+use Rattle.std.specs.FinMap.{find}
 use Rattle.std.specs.Ordering.{nat_cmp}
 use Rattle.jpa_value.specs.declared.value.Value.{Value}
 use Rattle.jpa_value.specs.declared.value.Identity.{Identity}
 use Rattle.jpa_value.specs.Value.{identity_cmp, same_value}
-use Rattle.jpa_model.specs.declared.unit.Entity.{Entity}
 use Rattle.jpa_model.specs.declared.unit.Origin.{Origin}
 use Rattle.jpa_model.specs.declared.unit.PersistenceUnit.{PersistenceUnit}
 use Rattle.jpa_model.specs.Chains.{root_of, relations_of}
@@ -20,7 +19,8 @@ use Rattle.jpa_rows.specs.Tables.{schema_of}
 use Rattle.jpa_object_rows.specs.Unambiguous.{is_class, joins_of}
 use Rattle.jpa_object_rows.specs.View.{set_of, Pairs, PairsAre}
 use Rattle.jpa_object_rows.specs.Raw.{raw, AreRowsOf, AreWhole, AreFilled}
-use Rattle.jpa_object_rows.specs.Objects.{main_row, number_id, number_row, pair_row, with_object}
+use Rattle.jpa_object_rows.specs.Objects.{main_row, number_id, pair_row, with_object}
+use Rattle.jpa_rows.specs.NextNumbers.{number_rows}
 
 -- the set that rows stand for
 abbrev pub set_in : World → Rows → StoredSet
@@ -110,31 +110,13 @@ next_at rows (Origin.Extends parent) = 1
 abbrev pub numbers_in : PersistenceUnit → Rows → List ℕ
 numbers_in m rows = map (λ e. next_at rows e.origin) m.entities
 
--- ---- the rows of a set and of next numbers, where one that is 1 has none
-
--- rows with that of a next number; 1 has no row
-abbrev pub with_number : ℕ → ℕ → Rows → Rows
-with_number table k rows = if k == 1 then rows else put identity_cmp (number_id table) (number_row k) rows
-
--- rows with that of a root's next number, where keys are generated
-abbrev pub with_next : Origin → ℕ → Rows → Rows
-with_next (Origin.Root root) k rows = if root.generated then with_number root.table k rows else rows
-with_next (Origin.Extends parent) k rows = rows
-
--- rows with those of the next numbers of all classes
-abbrev pub with_numbers : List (Entity × ℕ) → Rows → Rows
-with_numbers [] rows = rows
-with_numbers (p ∷ ps) rows = with_next (p.0).origin p.1 (with_numbers ps rows)
+-- ---- the rows of a set and of next numbers
 
 -- rows with those of all objects of a set
 abbrev pub with_set : World → StoredSet → Rows → Rows
 with_set world [] rows = rows
 with_set world (e ∷ set) rows = with_object world e.0 e.1 (with_set world set rows)
 
--- the row of the revision
-abbrev pub base_of : PersistenceUnit → Rows
-base_of m = with_number 0 m.revision []
-
 -- the rows of a set and of the next numbers
 abbrev pub rows_of : World → StoredSet → List ℕ → Rows
-rows_of world set numbers = with_set world set (with_numbers (zip (world.model).entities numbers) (base_of world.model))
+rows_of world set numbers = with_set world set (number_rows world.model numbers)

@@ -1,5 +1,5 @@
 -- The set of stored objects that rows stand for: it has what can be read.
-use Rattle.std.specs.Prelude.{◌≡◌, ℕ, ℤ, pos, negsuc, Bool, true, ◌==◌, ◌&&◌, List, [], ◌∷◌, map, take, find, Option}
+use Rattle.std.specs.Prelude.{◌≡◌, ℕ, ℤ, pos, Bool, true, ◌==◌, ◌&&◌, List, [], ◌∷◌, map, take, find, Option}
 use Rattle.std.specs.Prelude.{Some, None, unwrap_or, if◌then◌else◌}
 use Rattle.std.specs.List.{zip, list_all, AllByRecursion}
 use Rattle.std.specs.FinMap as maps
@@ -12,7 +12,6 @@ use Rattle.jpa_value.specs.Value.{identity_cmp}
 use Rattle.jpa_model.specs.declared.unit.Root.{Root}
 use Rattle.jpa_model.specs.declared.unit.PersistenceUnit.{PersistenceUnit}
 use Rattle.jpa_model.specs.declared.unit.Attribute.{Attribute}
-use Rattle.jpa_model.specs.declared.unit.Origin.{Origin}
 use Rattle.jpa_model.specs.declared.unit.Relation.{Relation}
 use Rattle.jpa_model.specs.declared.unit.Side.{Side}
 use Rattle.jpa_model.specs.declared.unit.VersionColumn.{VersionColumn}
@@ -26,7 +25,7 @@ use Rattle.jpa_row_laws.specs.Entries.{read_by, entries_of}
 use Rattle.jpa_object_rows.specs.Rows.{row_cmp, row_of, Columns, Rows, same_bytes, same_columns}
 use Rattle.jpa_rows.specs.Tables.{classes, kinds_of}
 use Rattle.jpa_object_rows.specs.Identities.{identity_at, target_at}
-use Rattle.jpa_object_rows.specs.Written.{class_bytes, columns_of, pair_columns, number_row}
+use Rattle.jpa_object_rows.specs.Written.{class_bytes, columns_of, pair_columns}
 
 -- ---- an object read off its main row and its pairs: a guess, which counts only where its own row
 -- is the given one
@@ -187,31 +186,3 @@ table_rows table rows = where_key row_cmp (λ r. r.table == table) rows
 abbrev pub scanned : World → ℕ → Rows → StoredSet
 scanned world table rows =
     entries_of identity_cmp (identity_at world.model) (stored_in world rows) (table_rows table rows)
-
--- ---- next numbers: 1 where no row says another one
-
--- the next number that a value is; 1 where it is none
-abbrev pub next_in : Value → ℕ
-next_in Value.Null = 1
-next_in (Value.Int (pos k)) = k
-next_in (Value.Int (negsuc k)) = 1
-next_in (Value.Text bytes) = 1
-next_in (Value.Bytes bytes) = 1
-
--- the next number in a row; 1 where there is no row
-abbrev pub number_in : Option Columns → ℕ
-number_in None = 1
-number_in (Some columns) = next_in (value_from (maps.find int_cmp (pos 0) columns))
-
--- the next number of a table
-abbrev pub number_at : Rows → ℕ → ℕ
-number_at rows table = number_in (maps.find row_cmp (number_row table) rows)
-
--- the next number of a root with generated keys, 1 of other classes
-abbrev pub next_at : Rows → Origin → ℕ
-next_at rows (Origin.Root root) = if root.generated then number_at rows root.table else 1
-next_at rows (Origin.Extends parent) = 1
-
--- the next numbers of all classes
-abbrev pub numbers_of : PersistenceUnit → Rows → List ℕ
-numbers_of m rows = map (λ e. next_at rows e.origin) m.entities

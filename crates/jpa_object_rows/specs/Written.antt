@@ -1,5 +1,5 @@
 -- The rows of a set of stored objects and of the next numbers.
-use Rattle.std.specs.Prelude.{ℕ, ℤ, pos, List, [], ◌∷◌, ◌++◌, ◌==◌, map, Option, Some, None, if◌then◌else◌}
+use Rattle.std.specs.Prelude.{ℕ, ℤ, pos, List, [], ◌∷◌, ◌++◌, map, Option, Some, None}
 use Rattle.std.specs.List.{flat_map, zip}
 use Rattle.std.specs.FinMap.{put}
 use Rattle.std.specs.Ordering.{int_cmp}
@@ -8,8 +8,6 @@ use Rattle.jpa_value.specs.declared.value.Identity.{Identity}
 use Rattle.jpa_model.specs.declared.unit.Attribute.{Attribute}
 use Rattle.jpa_model.specs.declared.unit.Relation.{Relation}
 use Rattle.jpa_model.specs.declared.unit.Entity.{Entity}
-use Rattle.jpa_model.specs.declared.unit.Origin.{Origin}
-use Rattle.jpa_model.specs.declared.unit.PersistenceUnit.{PersistenceUnit}
 use Rattle.jpa_model.specs.declared.unit.Side.{Side}
 use Rattle.jpa_model.specs.declared.unit.VersionColumn.{VersionColumn}
 use Rattle.jpa_model.specs.Chains.{attributes_of, relations_of, root_of, entity_at}
@@ -20,7 +18,9 @@ use Rattle.jpa_stored.specs.Sets.{StoredSet}
 use Rattle.jpa_rows.specs.Cells.{value_bytes, column_value}
 use Rattle.jpa_row_laws.specs.Changes.{dropped}
 use Rattle.jpa_row_laws.specs.Slots.{filled}
-use Rattle.jpa_object_rows.specs.Rows.{RowId, row_cmp, Columns, Rows, row_of}
+use Rattle.jpa_object_rows.specs.Rows.{row_cmp, Columns, Rows, row_of}
+use Rattle.jpa_object_rows.specs.Raw.{raw}
+use Rattle.jpa_rows.specs.NextNumbers.{number_rows}
 use Rattle.jpa_object_rows.specs.Identities.{pair_row}
 
 -- ---- the main row of an object
@@ -139,34 +139,8 @@ abbrev pub without_object : World → Identity → Stored → Rows → Rows
 without_object world id x rows =
     dropped row_cmp (row_of id) (without_joins id (zip (relations_of world.model x.class) x.owned) rows)
 
--- ---- next numbers: a row of table 0 for each that is not 1
-
--- the id of the row of a table's next number, in table 0
-abbrev pub number_row : ℕ → RowId
-number_row table = record { table = 0; row = key_bytes (Value.Int (pos table) ∷ []) }
-
--- the cells of the row of a next number
-abbrev pub number_columns : ℕ → Columns
-number_columns k = (pos 0, 1 ∷ int_bytes (pos k)) ∷ []
-
--- rows with that of a next number; 1 has no row
-abbrev pub with_number : ℕ → ℕ → Rows → Rows
-with_number table k rows = if k == 1 then rows else put row_cmp (number_row table) (number_columns k) rows
-
--- rows with that of a root's next number, where keys are generated
-abbrev pub with_next : Origin → ℕ → Rows → Rows
-with_next (Origin.Root root) k rows = if root.generated then with_number root.table k rows else rows
-with_next (Origin.Extends parent) k rows = rows
-
--- rows with those of the next numbers of all classes
-abbrev pub with_numbers : List (Entity × ℕ) → Rows → Rows
-with_numbers [] rows = rows
-with_numbers (p ∷ ps) rows = with_next (p.0).origin p.1 (with_numbers ps rows)
-
--- the row of the revision
-abbrev pub base_of : PersistenceUnit → Rows
-base_of m = with_number 0 m.revision []
+-- ---- with the rows of next numbers, spelled
 
 -- the rows of a set and of the next numbers
 abbrev pub rows_of : World → StoredSet → List ℕ → Rows
-rows_of world set numbers = with_set world set (with_numbers (zip (world.model).entities numbers) (base_of world.model))
+rows_of world set numbers = with_set world set (raw (number_rows world.model numbers))

@@ -1,78 +1,39 @@
 -- The row of a next number in the rows of a set: where the number is not 1 it stands, and else none does.
-use Rattle.std.specs.Prelude.{◌≡◌, ◌≢◌, ℕ, zero, suc, pos, ◌<◌, nat_le, Bool, true, false, cond, ◌==◌, ◌&&◌, nat_lt, List, [], ◌∷◌, length, slice_set, Option, Some, None}
+use Rattle.std.specs.Prelude.{◌≡◌, ◌≢◌, ℕ, zero, suc, pos, ◌<◌, nat_le, Bool, true, false, cond, ◌==◌, ◌&&◌, nat_lt, List, [], ◌∷◌, length, slice_set, Some, None}
 use Rattle.std.proofs.Common.{refl, sym, ap, subst, ◌∙◌, arith, get_or}
-use Rattle.std.proofs.Math.ListN.{get_or-map}
 use Rattle.std.specs.List.{zip}
-use Rattle.std.specs.FinMap.{find, put}
+use Rattle.std.specs.FinMap.{find}
 use Rattle.std.specs.Ordering.{eq_by_cmp}
 use Rattle.jpa_value.specs.Value.{identity_cmp, is_i64}
 use Rattle.jpa_model.specs.declared.unit.Entity.{Entity}
 use Rattle.jpa_model.specs.declared.unit.Origin.{Origin}
 use Rattle.jpa_model.specs.declared.unit.PersistenceUnit.{PersistenceUnit}
 use Rattle.jpa_model.specs.declared.unit.Root.{Root}
-use Rattle.jpa_model.specs.Chains.{entity_at, no_entity}
+use Rattle.jpa_model.specs.Chains.{entity_at}
 use Rattle.jpa_model.specs.Kept.{IsDescribed}
 use Rattle.jpa_behaviour.specs.Behaviour.{World, IsRegular}
 use Rattle.jpa_stored.specs.Sets.{StoredSet, each_fits}
 use Rattle.jpa_rows.specs.Cells.{is_next, are_numbers}
 use Rattle.jpa_rows.specs.Rows.{RowId, Row, Rows}
-use Rattle.jpa_row_laws.proofs.Each.{Each, each_put}
-use Rattle.jpa_row_laws.proofs.Elements.{found_has}
-use Rattle.jpa_row_laws.proofs.Facts.{and_first, and_second, some_none, true_false, value_in}
-use Rattle.jpa_row_laws.proofs.Lists.{all_each}
-use Rattle.jpa_row_laws.proofs.Maps.{found_put, same_key, ties_itself}
-use Rattle.jpa_object_rows.specs.Unambiguous.{IsUnambiguous, is_class}
+use Rattle.jpa_row_laws.proofs.Elements.{Has}
+use Rattle.jpa_row_laws.proofs.Facts.{and_first, and_second, some_none, value_in}
+use Rattle.jpa_row_laws.proofs.Maps.{same_key, ties_itself}
+use Rattle.jpa_object_rows.specs.Unambiguous.{is_class}
 use Rattle.jpa_object_rows.specs.View.{AreStorable}
 use Rattle.jpa_object_rows.proofs.Bytes.Described.{described_mapped}
 use Rattle.jpa_object_rows.proofs.Bytes.Mapped.{IsMapped}
 use Rattle.jpa_object_rows.proofs.Bytes.MappedClasses.{unambiguous_mapped}
 use Rattle.jpa_object_rows.proofs.Bytes.Orders.{identities, are_same_numbers}
-use Rattle.jpa_object_rows.specs.Objects.{is_discriminator, number_id, number_row, object_entries, object_rows}
-use Rattle.jpa_object_rows.specs.Sets.{number_in, next_at, base_of, with_number, with_next, with_numbers, with_set, rows_of}
-use Rattle.jpa_object_rows.proofs.Exact.{rows_numbered_in, numbers_read_in}
-use Rattle.jpa_object_rows.proofs.Kept.{over_each}
-use Rattle.jpa_object_rows.proofs.Marked.{Elsewhere, entries_elsewhere}
+use Rattle.jpa_object_rows.specs.Objects.{is_discriminator, number_id, number_row}
+use Rattle.jpa_rows.specs.NextNumbers.{number_entry, number_rows}
+use Rattle.jpa_object_rows.specs.Sets.{rows_of}
+use Rattle.jpa_object_rows.proofs.Marked.{set_passed}
+use Rattle.jpa_object_rows.proofs.NextNumbers.{found_row, number_found, has_set}
 use Rattle.jpa_overlay.specs.Overlay.{Changes}
 use Rattle.jpa_object_store.specs.Shown.{with_puts, Recall, with_old_next}
 use Rattle.jpa_object_store.specs.Shown as shown
 use Rattle.jpa_object_store.proofs.Stepped.{fits_length, is_number, is_below}
 use Rattle.jpa_object_store.proofs.Stood.{past_puts, Replaces, recalled}
-
--- ---- no row of table 0 says that a next number is 1
-
-abbrev SaysMore : RowId → Row → Type 0
-SaysMore id row = id.table ≡ 0 → number_in (Some row) == 1 ≡ false
-
-number_says : (table k : ℕ) (rows : Rows) → Each SaysMore rows → Each SaysMore (with_number table k rows)
-number_says table k rows h =
-    elim (k == 1) as (λ b. k == 1 ≡ b → Each SaysMore (cond b rows (put identity_cmp (number_id table) (number_row k) rows))) [
-      | true ↦ λ e. h
-      | false ↦ λ more. each_put identities SaysMore (number_id table) (number_row k) rows (λ zero. more) h
-    ] refl
-
-next_says : (origin : Origin) (k : ℕ) (rows : Rows) → Each SaysMore rows → Each SaysMore (with_next origin k rows)
-next_says (Origin.Extends parent) k rows h = h
-next_says (Origin.Root root) k rows h = elim root.generated as (λ b. Each SaysMore (cond b (with_number root.table k rows) rows)) [ true ↦ number_says root.table k rows h | false ↦ h ]
-
-numbers_say : (m : PersistenceUnit) (ps : List (Entity × ℕ)) → Each SaysMore (with_numbers ps (base_of m))
-numbers_say m [] = number_says 0 m.revision [] tt
-numbers_say m (p ∷ ps) = next_says (p.0).origin p.1 (with_numbers ps (base_of m)) (numbers_say m ps)
-
--- rows of other tables say nothing
-elsewhere_say : (es : Rows) → Each Elsewhere es → Each SaysMore es
-elsewhere_say [] h = tt
-elsewhere_say (e ∷ es) h = (λ zero. absurd (h.0 zero), elsewhere_say es h.1)
-
-module _ (world : World) (clear : IsUnambiguous world.model) where
-  set_says : (set : StoredSet) → AreStorable world set → (base : Rows) → Each SaysMore base → Each SaysMore (with_set world set base)
-  set_says [] h base g = g
-  set_says (e ∷ set) h base g =
-      over_each SaysMore (object_rows world e.0 e.1) (with_set world set base)
-      (over_each SaysMore (object_entries world e.0 e.1) [] (elsewhere_say (object_entries world e.0 e.1) (entries_elsewhere world clear e.0 e.1 h.0)) tt)
-      (set_says set h.1 base g)
-
-  rows_say : (set : StoredSet) → AreStorable world set → (numbers : List ℕ) → Each SaysMore (rows_of world set numbers)
-  rows_say set h numbers = set_says set h (with_numbers (zip (world.model).entities numbers) (base_of world.model)) (numbers_say world.model (zip (world.model).entities numbers))
 
 -- ---- the row of one number
 
@@ -80,11 +41,6 @@ set_again : (ns : List ℕ) (i d : ℕ) → i < length ns → slice_set ns i (ge
 set_again [] i d l = absurd (omega arith)
 set_again (n ∷ ns) zero d l = refl
 set_again (n ∷ ns) (suc i) d l = ap (λ r. n ∷ r) (set_again ns i d (omega arith))
-
-any_default : (ns : List ℕ) (i d e : ℕ) → i < length ns → get_or ns i d ≡ get_or ns i e
-any_default [] i d e l = absurd (omega arith)
-any_default (n ∷ ns) zero d e l = refl
-any_default (n ∷ ns) (suc i) d e l = any_default ns i d e (omega arith)
 
 -- the id of one row, and the row
 one_found : (id q : RowId) (r row : Row) → find identity_cmp q ((id, r) ∷ []) ≡ Some row → (q ≡ id) × (r ≡ row)
@@ -98,34 +54,19 @@ module _ (world : World) (mapped : IsMapped world.model) (regular : IsRegular wo
     (set : StoredSet) (h : AreStorable world set) (numbers : List ℕ) (are : are_numbers world.model numbers ≡ true) (class : ℕ) (within : is_class world.model class ≡ true) (less : class < length numbers)
     (long : nat_lt class (length numbers) ≡ true) (root : Root) (is : (entity_at world.model class).origin ≡ Origin.Root root) (generated : root.generated ≡ true)
     (k : ℕ) (at : get_or numbers class 0 ≡ k) (positive : nat_lt 0 k ≡ true) (small : is_i64 (pos k) ≡ true) where
-  number_there : k == 1 ≡ false → find identity_cmp (number_id root.table) (rows_of world set numbers) ≡ Some (number_row k)
-  number_there more =
+  number_stands : find identity_cmp (number_id root.table) (rows_of world set numbers) ≡ find identity_cmp (number_id root.table) (number_entry root.table k)
+  number_stands =
+      let m = world.model in
+      let clear = unambiguous_mapped m mapped in
       let again : slice_set numbers class k ≡ numbers = ap (slice_set numbers class) (sym at) ∙ set_again numbers class 0 less in
-      ap (λ ns. find identity_cmp (number_id root.table) (rows_of world set ns)) (sym again)
-      ∙ ap (find identity_cmp (number_id root.table)) (sym (rows_numbered_in world mapped regular named set h numbers are class k root within long is generated more positive small))
-      ∙ found_put identities (number_id root.table) (number_row k) (rows_of world set numbers)
+      let there = subst (λ ns. Has (zip m.entities ns) (entity_at m class, k)) again (has_set m.entities numbers class k within long) in
+      set_passed world clear (number_id root.table) refl set h (number_rows m numbers) ∙ found_row m clear numbers (entity_at m class, k) there root is generated
 
-  -- it is read again
-  number_read : number_in (find identity_cmp (number_id root.table) (rows_of world set numbers)) ≡ k
-  number_read =
-      let rows = rows_of world set numbers in
-      let none = next_at rows no_entity.origin in
-      sym (ap (λ b. cond b (number_in (find identity_cmp (number_id root.table) rows)) 1) generated)
-      ∙ sym (ap (next_at rows) is)
-      ∙ sym (get_or-map (λ (e : Entity). next_at rows e.origin) (world.model).entities class no_entity)
-      ∙ ap (λ ns. get_or ns class none) (numbers_read_in world mapped regular named numbers are set h)
-      ∙ any_default numbers class none 0 less ∙ at
+  number_there : k == 1 ≡ false → find identity_cmp (number_id root.table) (rows_of world set numbers) ≡ Some (number_row k)
+  number_there more = number_stands ∙ number_found root.table k more
 
   number_absent : k == 1 ≡ true → find identity_cmp (number_id root.table) (rows_of world set numbers) ≡ None
-  number_absent one = by_row (find identity_cmp (number_id root.table) (rows_of world set numbers)) refl
-    where
-      by_row : (o : Option Row) → find identity_cmp (number_id root.table) (rows_of world set numbers) ≡ o → o ≡ None
-      by_row None e = refl
-      by_row (Some row) e =
-          let rows = rows_of world set numbers in
-          let says = all_each (λ (e : RowId × Row). SaysMore e.0 e.1) rows (rows_say world (unambiguous_mapped world.model mapped) set h numbers) (number_id root.table, row)
-          (found_has identities (number_id root.table) row rows e) refl in
-          absurd (true_false (sym one ∙ ap (λ n. n == 1) (sym number_read ∙ ap number_in e) ∙ says))
+  number_absent one = number_stands ∙ ap (λ b. find identity_cmp (number_id root.table) (cond b [] ((number_id root.table, number_row k) ∷ []))) one
 
   -- the row that stands, if any
   abbrev old_number : Bool → Rows

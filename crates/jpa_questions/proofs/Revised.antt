@@ -9,7 +9,8 @@ use Rattle.jpa_model.specs.Kept.{IsDescribed}
 use Rattle.jpa_behaviour.specs.Behaviour.{World}
 use Rattle.jpa_stored.specs.Sets.{StoredSet}
 use Rattle.jpa_object_rows.specs.Objects.{number_id, number_row}
-use Rattle.jpa_object_rows.specs.Sets.{base_of, rows_of}
+use Rattle.jpa_rows.specs.NextNumbers.{base_of}
+use Rattle.jpa_object_rows.specs.Sets.{rows_of}
 use Rattle.jpa_object_rows.proofs.Bytes.Described.{unambiguous}
 use Rattle.jpa_object_rows.proofs.Bytes.Rounds.{held_storable}
 use Rattle.jpa_object_rows.proofs.Marked.{revision_found}

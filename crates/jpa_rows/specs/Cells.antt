@@ -1,8 +1,8 @@
 -- The cells of a set of stored objects and the next numbers of the generators, and what it is for
 -- the cells of a store to stand for them (Jakarta Persistence 3.1, chapters 2.4 keys and 2.10 to
 -- 2.12 mapping of relations and hierarchies; the form of the cells is this provider's own).
-use Rattle.std.specs.Prelude.{◌≡◌, ◌↔◌, ℕ, ℤ, pos, Bool, true, false, ◌==◌, List, [], ◌∷◌, ◌++◌, slice_index_or, Option}
-use Rattle.std.specs.Prelude.{Some, None, if◌then◌else◌, Contains, nat_lt, ◌&&◌, ◌||◌, T}
+use Rattle.std.specs.Prelude.{◌≡◌, ◌↔◌, ℕ, ℤ, pos, Bool, true, false, ◌==◌, List, [], ◌∷◌, ◌++◌, map, Option}
+use Rattle.std.specs.Prelude.{slice_index_or, Some, None, if◌then◌else◌, Contains, nat_lt, ◌&&◌, ◌||◌, T}
 use Rattle.std.specs.List.{flat_map, filter, zip, list_any, list_all}
 use Rattle.std.specs.FinMap.{is_sorted}
 use Rattle.jpa_value.specs.declared.value.Value.{Value}
@@ -18,7 +18,10 @@ use Rattle.jpa_behaviour.specs.Behaviour.{World}
 use Rattle.jpa_stored.specs.declared.stored.Stored.{Stored}
 use Rattle.jpa_stored.specs.Sets.{StoredSet, all_shaped, each_fits, IsSound}
 use Rattle.jpa_value.specs.Value.{identity_cmp, is_null, is_i64, is_representable}
-use Rattle.jpa_key.specs.Keys.{int_bytes, key_bytes}
+use Rattle.jpa_key.specs.Keys.{key_bytes}
+pub use Rattle.jpa_rows.specs.ValueBytes.{value_bytes, is_given}
+use Rattle.jpa_rows.specs.Rows.{RowId, Row, cells_of}
+use Rattle.jpa_rows.specs.NextNumbers.{number_rows}
 
 -- a cell of a store: a table, the bytes of a row, a column, and its own bytes
 pub record Cell : Type 0 where
@@ -28,13 +31,6 @@ pub record Cell : Type 0 where
   pub bytes : List ℕ
 
 -- ---- cells of one object
-
--- null has no cell
-abbrev pub value_bytes : Value → Option (List ℕ)
-value_bytes Value.Null = None
-value_bytes (Value.Int n) = Some (1 ∷ int_bytes n)
-value_bytes (Value.Text bytes) = Some (2 ∷ bytes)
-value_bytes (Value.Bytes bytes) = Some (3 ∷ bytes)
 
 -- a cell with these bytes, where there are any
 abbrev pub cell_if : ℕ → List ℕ → ℕ → Option (List ℕ) → List Cell
@@ -96,23 +92,16 @@ object_cells world id x =
 
 -- ---- the cells of all
 
--- a next number is stored where it is not 1
-abbrev pub number_cells : ℕ → ℕ → List Cell
-number_cells table k =
-    if k == 1 then [] else value_cell 0 (key_bytes (Value.Int (pos table) ∷ [])) 0 (Value.Int (pos k))
+-- a row as cells: its columns under its table and the bytes of its key
+abbrev pub row_cells : RowId × Row → List Cell
+row_cells e =
+    let row = key_bytes (e.0).key in
+    map (λ c. record { table = (e.0).table; row = row; column = c.0; bytes = c.1 }) (cells_of e.1)
 
--- the cell of a root's next number, where keys are generated
-abbrev pub generator_cells : Origin → ℕ → List Cell
-generator_cells (Origin.Root root) k = if root.generated then number_cells root.table k else []
-generator_cells (Origin.Extends parent) k = []
-
--- with the revision of the rows, which stands where the next number of table 0 would: revision 1
--- has no row
+-- the cells of the objects, and those of the rows of next numbers
 abbrev pub rows : World → StoredSet → List ℕ → List Cell
 rows world set numbers =
-    flat_map (λ e. object_cells world e.0 e.1) set
-    ++ (flat_map (λ p. generator_cells (p.0).origin p.1) (zip (world.model).entities numbers)
-    ++ number_cells 0 (world.model).revision)
+    flat_map (λ e. object_cells world e.0 e.1) set ++ flat_map row_cells (number_rows world.model numbers)
 
 -- ---- the tables of a persistence unit: 0 for next numbers, those of the roots, and join tables
 
@@ -145,13 +134,6 @@ AreRows world cells set numbers =
     (c : Cell) → Contains (filter (is_own_cell world.model) cells) c ↔ Contains (rows world set numbers) c
 
 -- ---- what a store can hold
-
--- whether a value is not null
-abbrev pub is_given : Value → Bool
-is_given Value.Null = false
-is_given (Value.Int n) = true
-is_given (Value.Text bytes) = true
-is_given (Value.Bytes bytes) = true
 
 -- null passes no converter, and no other value becomes null
 abbrev pub passes : World → Attribute → Value → Bool

@@ -19,7 +19,7 @@ use Rattle.jpa_rows.specs.declared.schema.TableRule.{TableRule}
 use Rattle.jpa_rows.specs.declared.schema.Schema.{Schema}
 use Rattle.jpa_rows.specs.declared.row.RowChange.{RowChange}
 use Rattle.jpa_row_laws.specs.Changes.{seen}
-use Rattle.jpa_rows.specs.Cells.{value_bytes, is_given}
+use Rattle.jpa_rows.specs.ValueBytes.{value_bytes, is_given}
 
 -- what names a row: its table and its key
 abbrev pub RowId : Type 0

@@ -56,6 +56,7 @@ module _ (c : App) (words : List Text) (m : ArgMatches) (s : Settings) (is : c â
     query = value_read c words m (codes "query") is h i;
     params = values_read c words m (codes "param") is h i;
     explain = is_set (value_read c words m (codes "explain") is h i);
+    indexes = values_read c words m (codes "index") is h i;
     language = value_read c words m (codes "language") is h i;
     grammar = is_set (value_read c words m (codes "grammar") is h i);
   })

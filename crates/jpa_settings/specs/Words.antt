@@ -35,11 +35,11 @@ plain = let bare = new_app (codes "jpa") in record bare { top = record bare.top 
 abbrev pub with_files : App
 with_files = with_rule (with_rule plain (option_rule (codes "mapping"))) (option_rule (codes "db"))
 
--- the program with its files and with a question: --query, --param and --explain
+-- the program with its files and with a question: --query, --param, --explain and --index
 abbrev pub with_question : App
 with_question =
     let asked = with_rule (with_rule with_files (option_rule (codes "query"))) (repeated_rule (codes "param")) in
-    with_rule asked (flag_rule (codes "explain"))
+    with_rule (with_rule asked (flag_rule (codes "explain"))) (repeated_rule (codes "index"))
 
 -- the same with the language of queries and its grammar: --language and --grammar
 abbrev pub command : App
@@ -99,6 +99,10 @@ param_needs_query = codes "error: '--param <NAME=VALUE>' needs '--query <TEXT>'"
 abbrev pub explain_needs_query : Text
 explain_needs_query = codes "error: '--explain' needs '--query <TEXT>'" ++ hint
 
+-- what is said of an index that is none of a plan without a store's file
+abbrev pub index_needs_plan : Text
+index_needs_plan = codes "error: '--index <ENTITY.NAME>' needs '--explain' without '--db <FILE>'" ++ hint
+
 -- what is said of the grammar beside another option than a language
 abbrev pub grammar_stands_alone : Text
 grammar_stands_alone = codes "error: '--grammar' stands alone, or with '--language <NAME>'" ++ hint
@@ -121,20 +125,26 @@ abbrev pub stray : List Text → Bool → Option Text
 stray (param ∷ params) explain = Some param_needs_query
 stray [] explain = if explain then Some explain_needs_query else None
 
--- a query asks a store's file; parameters and a plan are those of a query; what is said else
+-- a query asks a store's file, but for its plan; parameters and a plan are those of a query; what is said
+-- else
 abbrev pub needing : Option Text → Option Text → List Text → Bool → Option Text
 needing (Some query) (Some db) params explain = None
-needing (Some query) None params explain = Some query_needs_db
+needing (Some query) None params explain = if explain then None else Some query_needs_db
 needing None db params explain = stray params explain
 
 -- whether nothing is said of what is served or asked
 abbrev pub is_bare : Settings → Bool
 is_bare s = is_none s.mapping && is_none s.db && is_none s.query && (length s.params == 0) && not s.explain
+    && (length s.indexes == 0)
 
 -- the grammar goes with a language alone, and no option stands without the one that it needs; what is
 -- said else
 abbrev pub alone : Settings → Option Text
 alone s = if s.grammar && not (is_bare s) then Some grammar_stands_alone else needing s.query s.db s.params s.explain
+
+-- an index is one of a plan without a store's file; what is said else
+abbrev pub stray_index : Settings → Option Text
+stray_index s = if (length s.indexes == 0) || (s.explain && is_none s.db) then None else Some index_needs_plan
 
 -- what is said first, else the other
 abbrev pub said_first : Option Text → Option Text → Option Text
@@ -144,7 +154,7 @@ said_first (Some said) other = Some said
 -- each option stands with those that it goes with, and the language of queries is one; what is said
 -- else
 abbrev pub lacking : Settings → Option Text
-lacking s = said_first (alone s) (unknown s.language)
+lacking s = said_first (said_first (alone s) (stray_index s)) (unknown s.language)
 
 -- what clap found of the options
 abbrev pub found : ArgMatches → Settings
@@ -154,6 +164,7 @@ found matches = record {
   query = first_value (found_of matches) (codes "query");
   params = unwrap_or (option_map raw_values (matched_of (found_of matches) (codes "param"))) [];
   explain = is_set (first_value (found_of matches) (codes "explain"));
+  indexes = unwrap_or (option_map raw_values (matched_of (found_of matches) (codes "index"))) [];
   language = first_value (found_of matches) (codes "language");
   grammar = is_set (first_value (found_of matches) (codes "grammar"));
 }
@@ -166,6 +177,7 @@ said words = record {
   query = value_of (codes "query") words;
   params = values_of (codes "param") words;
   explain = has_flag (codes "explain") words;
+  indexes = values_of (codes "index") words;
   language = value_of (codes "language") words;
   grammar = has_flag (codes "grammar") words;
 }

@@ -27,8 +27,10 @@ pub struct Settings {
     pub query: Option<Text>,
     /// What is said of its parameters, each as `NAME=VALUE`.
     pub params: Seq<Text>,
-    /// Whether its plan is asked, in place of its rows.
+    /// Whether its plan is asked, in place of its rows: of a store's file, or of a manager's.
     pub explain: bool,
+    /// What a manager's plan has an index of, each as `ENTITY.NAME`.
+    pub indexes: Seq<Text>,
     /// The language of queries, where it is said: `profile` or `wide`.
     pub language: Option<Text>,
     /// Whether its grammar is asked.
@@ -84,7 +86,19 @@ fn explain_flag<'a>(alloc: Global) -> Arg<'a>
     Arg::new(alloc, "explain")
         .long("explain")
         .action(ArgAction::SetTrue)
-        .help("Tells how the query is answered, in place of its rows")
+        .help("Tells how the query is answered, in place of its rows; without --db by a manager")
+}
+
+/// The option of what a manager's plan has an index of.
+fn index_option<'a>(alloc: Global) -> Arg<'a>
+    ensures rule { rule_of result ≡ words.repeated_rule (codes "index") }
+    ensures local { result.global ≡ false }
+{
+    Arg::new(alloc, "index")
+        .long("index")
+        .value_name("ENTITY.NAME")
+        .action(ArgAction::Append)
+        .help("A part of a key or an attribute that a manager has an index of; once for each")
 }
 
 /// The option of the language of queries.
@@ -116,9 +130,11 @@ fn with_question<'a>(alloc: Global) -> Result<Command<'a>, AllocError>
     let query = query_option(alloc);
     let param = param_option(alloc);
     let explain = explain_flag(alloc);
+    let index = index_option(alloc);
     let with_query = with_files(alloc)?.arg(query)?;
     let with_param = with_query.arg(param)?;
-    Ok(with_param.arg(explain)?)
+    let with_explain = with_param.arg(explain)?;
+    Ok(with_explain.arg(index)?)
 }
 
 /// The command as clap reads it.
@@ -208,6 +224,7 @@ fn settings_in(alloc: Global, matches: &ArgMatches<'_>) -> Result<Settings, Stop
         query: copied(alloc, matches.get_str("query"))?,
         params: copies(alloc, matches.get_strs("param"))?,
         explain: is_set(matches.get_str("explain")),
+        indexes: copies(alloc, matches.get_strs("index"))?,
         language: copied(alloc, matches.get_str("language"))?,
         grammar: is_set(matches.get_str("grammar")),
     })
@@ -221,6 +238,9 @@ const PARAM_NEEDS_QUERY: &str =
 
 const EXPLAIN_NEEDS_QUERY: &str =
     "error: '--explain' needs '--query <TEXT>'\n\nFor more information, try '--help'.\n";
+
+const INDEX_NEEDS_PLAN: &str =
+    "error: '--index <ENTITY.NAME>' needs '--explain' without '--db <FILE>'\n\nFor more information, try '--help'.\n";
 
 const GRAMMAR_STANDS_ALONE: &str =
     "error: '--grammar' stands alone, or with '--language <NAME>'\n\nFor more information, try '--help'.\n";
@@ -266,6 +286,7 @@ fn is_bare(settings: &Settings) -> bool
         && settings.query.is_none()
         && settings.params.as_slice().is_empty()
         && !settings.explain
+        && settings.indexes.as_slice().is_empty()
 }
 
 /// What is said of an option that stands without the one that it needs, or of the grammar beside one
@@ -279,7 +300,19 @@ fn alone(settings: &Settings) -> Option<&'static str>
     match (&settings.query, &settings.db) {
         (None, _) => stray(settings),
         (Some(_), Some(_)) => None,
+        (Some(_), None) if settings.explain => None,
         (Some(_), None) => Some(QUERY_NEEDS_DB),
+    }
+}
+
+/// What is said of an index that isn't one of a manager's plan.
+fn stray_index(settings: &Settings) -> Option<&'static str>
+    ensures { option_map (λ v. v.now) result ≡ words.stray_index settings.now }
+{
+    if settings.indexes.as_slice().is_empty() || settings.explain && settings.db.is_none() {
+        None
+    } else {
+        Some(INDEX_NEEDS_PLAN)
     }
 }
 
@@ -287,7 +320,10 @@ fn alone(settings: &Settings) -> Option<&'static str>
 fn lacking(settings: &Settings) -> Option<&'static str>
     ensures { option_map (λ v. v.now) result ≡ words.lacking settings.now }
 {
-    match alone(settings) {
+    if let Some(said) = alone(settings) {
+        return Some(said);
+    }
+    match stray_index(settings) {
         Some(said) => Some(said),
         None => unknown(&settings.language),
     }
@@ -306,11 +342,12 @@ fn refused(alloc: Global, said: &str) -> Stop
 
 /// What the words of a command line say, of which the first is the program's own name: `--mapping
 /// FILE`, `--db FILE`, `--query TEXT`, `--explain`, `--language NAME` and `--grammar`, each at most
-/// once, and `--param NAME=VALUE` as often as it stands there, in any order, as clap reads them.
+/// once, and `--param NAME=VALUE` and `--index ENTITY.NAME` as often as they stand there, in any
+/// order, as clap reads them.
 ///
 /// `Ok` only where clap finds no fault in the words, and they lack no option: a query needs a
-/// store's file, parameters and a plan need a query, the grammar goes with a language alone, and the
-/// language is one. Where clap finds a fault, that is the only one: `Shown` with the text that was
+/// store's file or asks its plan, parameters and a plan need a query, an index needs a plan without
+/// a store's file, the grammar goes with a language alone, and the language is one. Where clap finds a fault, that is the only one: `Shown` with the text that was
 /// asked for, where the fault is a request for the help or the version, and `Words` with what clap
 /// says of any other. `Words` also where an option lacks the one that it needs, for the grammar
 /// beside another option, and for a language that there isn't. For want of memory it is `Refused`

@@ -1,15 +1,13 @@
 -- A row of a join table whose owner stands, with the relation, is one of the owner's pairs; and the rows of a set have their owners.
-use Rattle.std.specs.Prelude.{◌≡◌, ◌==◌, ◌&&◌, not, ℕ, suc, Bool, true, false, T, List, [], ◌∷◌, ◌++◌, length, map, take, drop, Option, Some, None, cond, option_map}
+use Rattle.std.specs.Prelude.{◌≡◌, ◌==◌, ◌&&◌, not, ℕ, suc, Bool, true, T, List, [], ◌∷◌, ◌++◌, length, map, take, drop, Option, Some, None, option_map}
 use Rattle.std.proofs.Common.{refl, sym, ap, subst, ◌∙◌, inl, inr}
 use Rattle.std.proofs.Math.Seq.{take-append_seam}
 use Rattle.std.proofs.lemmas.List.{take-append-drop}
 use Rattle.std.specs.List.{zip, flat_map}
-use Rattle.std.specs.FinMap.{put, is_sorted}
+use Rattle.std.specs.FinMap.{is_sorted}
 use Rattle.jpa_value.specs.declared.value.Value.{Value}
 use Rattle.jpa_value.specs.declared.value.Identity.{Identity}
 use Rattle.jpa_value.specs.Value.{identity_cmp, fits, is_null}
-use Rattle.jpa_model.specs.declared.unit.Entity.{Entity}
-use Rattle.jpa_model.specs.declared.unit.Origin.{Origin}
 use Rattle.jpa_model.specs.declared.unit.Part.{Part}
 use Rattle.jpa_model.specs.declared.unit.PersistenceUnit.{PersistenceUnit}
 use Rattle.jpa_model.specs.declared.unit.Relation.{Relation}
@@ -21,7 +19,7 @@ use Rattle.jpa_stored.specs.declared.stored.Stored.{Stored}
 use Rattle.jpa_stored.specs.Sets.{StoredSet, stored_at, is_of, each_fits, owns_well}
 use Rattle.jpa_rows.specs.Cells.{join_tables, root_tables}
 use Rattle.jpa_rows.specs.Rows.{RowId, Row, Rows, table_rows}
-use Rattle.jpa_row_laws.proofs.Each.{Each, each_put}
+use Rattle.jpa_row_laws.proofs.Each.{Each}
 use Rattle.jpa_row_laws.proofs.Facts.{true_false, and_second}
 use Rattle.jpa_row_laws.proofs.Elements.{Has, append_has, from_flat_map, into_flat_map, into_map, into_filter, has_found}
 use Rattle.jpa_row_laws.proofs.Lists.{all_each, has_any}
@@ -34,9 +32,11 @@ use Rattle.jpa_object_rows.proofs.Bytes.MappedClasses.{unambiguous_mapped}
 use Rattle.jpa_object_rows.proofs.Bytes.Orders.{identities, same_number}
 use Rattle.jpa_object_rows.proofs.Bytes.Reading.{storable}
 use Rattle.jpa_object_rows.proofs.Bytes.Tables.{has_join_table, zero_join}
-use Rattle.jpa_object_rows.specs.Objects.{pair_id, pair_row, side_pairs, pairs_along, number_id, number_row, object_entries, object_rows}
-use Rattle.jpa_object_rows.specs.Sets.{key_after, identity_of, target_in, if_any, targets_in, base_of, with_number, with_next, with_numbers, with_set, rows_of}
+use Rattle.jpa_object_rows.specs.Objects.{pair_id, pair_row, side_pairs, pairs_along, number_id, object_entries, object_rows}
+use Rattle.jpa_object_rows.specs.Sets.{key_after, identity_of, target_in, if_any, targets_in, with_set, rows_of}
+use Rattle.jpa_rows.specs.NextNumbers.{number_rows}
 use Rattle.jpa_object_rows.proofs.Kept.{over_each, along_each}
+use Rattle.jpa_object_rows.proofs.NextNumbers.{number_each, rows_each}
 use Rattle.jpa_object_rows.proofs.Stored.{own_join}
 use Rattle.jpa_object_rows.proofs.Targets.{after_joined}
 use Rattle.jpa_store_reader.specs.Owners.{owner_of, is_owned_by, is_owned}
@@ -118,22 +118,6 @@ key_count [] (v ∷ key) h = absurd (true_false (sym h))
 key_count (part ∷ parts) [] h = absurd (true_false (sym h))
 key_count (part ∷ parts) (v ∷ key) h = ap suc (key_count parts key (and_second (fits part.kind v && not (is_null v)) _ h))
 
-module _ (P : RowId → Row → Type 0) (each : (table k : ℕ) → P (number_id table) (number_row k)) where
-  number_each : (table k : ℕ) (rows : Rows) → Each P rows → Each P (with_number table k rows)
-  number_each table k rows h =
-      elim (k == 1) as (λ b. Each P (cond b rows (put identity_cmp (number_id table) (number_row k) rows))) [
-        | true ↦ h
-        | false ↦ each_put identities P (number_id table) (number_row k) rows (each table k) h
-      ]
-
-  next_each : (origin : Origin) (k : ℕ) (rows : Rows) → Each P rows → Each P (with_next origin k rows)
-  next_each (Origin.Extends parent) k rows h = h
-  next_each (Origin.Root root) k rows h = elim root.generated as (λ b. Each P (cond b (with_number root.table k rows) rows)) [ true ↦ number_each root.table k rows h | false ↦ h ]
-
-  pub numbers_each : (m : PersistenceUnit) (ps : List (Entity × ℕ)) → Each P (with_numbers ps (base_of m))
-  numbers_each m [] = number_each 0 m.revision [] tt
-  numbers_each m (p ∷ ps) = next_each (p.0).origin p.1 (with_numbers ps (base_of m)) (numbers_each m ps)
-
 module _ (world : World) (mapped : IsMapped world.model) (set : StoredSet) (up : T (is_sorted identity_cmp set)) where
   clear : IsUnambiguous world.model
   clear = unambiguous_mapped world.model mapped
@@ -177,5 +161,6 @@ module _ (world : World) (mapped : IsMapped world.model) (set : StoredSet) (up :
   pub rows_owned : AreStorable world set → (numbers : List ℕ) → Each (λ id row. is_owned world.model set id ≡ true) (rows_of world set numbers)
   rows_owned h numbers =
       let m = world.model in
-      set_owned set h (λ id x k. k) (with_numbers (zip m.entities numbers) (base_of m))
-      (numbers_each (Owned m set) (λ table k. ap (is_owned_by m set (number_id table).key) (zero_join m clear.tables)) m (zip m.entities numbers))
+      let zero : is_owned_by m set (number_id 0).key (declarer_at m 0) ≡ true = ap (is_owned_by m set (number_id 0).key) (zero_join m clear.tables) in
+      set_owned set h (λ id x k. k) (number_rows m numbers)
+      (rows_each (Owned m set) m numbers (λ p k root at. ap (is_owned_by m set (number_id root.table).key) (zero_join m clear.tables)) (number_each (Owned m set) 0 m.revision (λ more. zero)))

@@ -3,7 +3,7 @@ use Rattle.std.specs.Prelude.{◌≡◌, ◌⊎◌, ◌==◌, ◌&&◌, ◌||◌
 use Rattle.std.proofs.Common.{refl, sym, ap, subst, ◌∙◌, inl, inr, arith}
 use Rattle.std.proofs.lemmas.Bool.Decides.{nat_tests}
 use Rattle.std.specs.List.{zip, list_all, AllByRecursion}
-use Rattle.std.specs.FinMap.{find, put, is_sorted}
+use Rattle.std.specs.FinMap.{find, is_sorted}
 use Rattle.jpa_value.specs.declared.value.Value.{Value}
 use Rattle.jpa_value.specs.declared.value.Identity.{Identity}
 use Rattle.jpa_value.specs.Value.{identity_cmp, is_i64}
@@ -34,7 +34,9 @@ use Rattle.jpa_object_rows.proofs.Bytes.Reading.{storable, object_spelled}
 use Rattle.jpa_object_rows.proofs.Bytes.Rounds.{held_storable}
 use Rattle.jpa_object_rows.specs.Raw.{raw, AreRowsOf, AreWhole, AreFilled}
 use Rattle.jpa_object_rows.specs.Objects.{is_discriminator, number_id, number_row}
-use Rattle.jpa_object_rows.specs.Sets.{set_in, number_in, next_at, numbers_in, AreUnitRows, base_of, rows_of}
+use Rattle.jpa_object_rows.specs.Sets.{set_in, number_in, next_at, numbers_in, AreUnitRows, rows_of}
+use Rattle.jpa_rows.specs.NextNumbers.{base_of}
+use Rattle.jpa_object_rows.proofs.NextNumbers.{number_each}
 use Rattle.jpa_object_rows.proofs.Clean.{IsObject, IsPairOf, IsNumber, IsRevision, IsKnown, known_rows}
 use Rattle.jpa_object_rows.proofs.Covered.{Stands}
 use Rattle.jpa_object_rows.proofs.Exact.{set_read_in, numbers_read_in}
@@ -167,11 +169,7 @@ module _ (world : World) (mapped : IsMapped world.model) (regular : IsRegular wo
         there.1 ∙ ap Some (r.says ∙ ap number_row (sym r.second))
 
     stood : is_marked m rows ≡ true → Each (Stands rows) (base_of m)
-    stood marked =
-        elim (m.revision == 1) as (λ b. m.revision == 1 ≡ b → Each (Stands rows) (cond b [] (put identity_cmp (number_id 0) (number_row m.revision) []))) [
-          | true ↦ λ first. tt
-          | false ↦ λ later. (revision_stands marked later, tt)
-        ] refl
+    stood marked = number_each (Stands rows) 0 m.revision (revision_stands marked)
 
     -- ---- objects and pairs
 

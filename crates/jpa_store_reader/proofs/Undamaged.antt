@@ -1,29 +1,27 @@
 -- Where the cells of tables stand for a set and next numbers, each of their rows is sound: that of an object, a pair, a next number or the revision.
-use Rattle.std.specs.Prelude.{◌≡◌, ◌≢◌, ◌==◌, ◌||◌, ◌&&◌, ℕ, pos, true, false, cond, nat_lt, ◌<◌, T, List, [], ◌∷◌, length, map, filter, slice_index_or, Some}
+use Rattle.std.specs.Prelude.{◌≡◌, ◌≢◌, ◌==◌, ◌||◌, ℕ, pos, true, false, cond, nat_lt, ◌<◌, T, List, [], ◌∷◌, length, map, filter, slice_index_or, Some}
 use Rattle.std.proofs.Common.{refl, sym, ap, subst, ◌∙◌, inl, inr, suc, arith}
 use Rattle.std.proofs.lemmas.Bool.Decides.{nat_tests}
-use Rattle.std.specs.List.{flat_map, zip, list_any, AllByRecursion}
-use Rattle.std.specs.FinMap.{put, is_sorted}
+use Rattle.std.specs.List.{flat_map, list_any, AllByRecursion}
+use Rattle.std.specs.FinMap.{is_sorted}
 use Rattle.std.specs.FinMap.Entries.{below_all, is_sorted-where_key, where_key}
 use Rattle.std.specs.Cmp.{tied_itself, nat_cmp_total}
 use Rattle.std.specs.Ordering.{int_cmp, ordering_then, is_lt}
 use Rattle.std.specs.declared.cmp.Ordering.TheVariants.{Less}
 use Rattle.sqlite_trees.specs.Tree.{IsAscending}
 use Rattle.jpa_value.specs.declared.value.Identity.{Identity}
-use Rattle.jpa_value.specs.Value.{identity_cmp, is_i64}
 use Rattle.jpa_model.specs.declared.unit.Entity.{Entity}
-use Rattle.jpa_model.specs.declared.unit.Origin.{Origin}
 use Rattle.jpa_model.specs.declared.unit.PersistenceUnit.{PersistenceUnit}
 use Rattle.jpa_model.specs.Chains.{entity_at, no_entity, relations_of}
 use Rattle.jpa_behaviour.specs.Behaviour.{World, IsRegular}
 use Rattle.jpa_stored.specs.declared.stored.Stored.{Stored}
-use Rattle.jpa_stored.specs.Sets.{StoredSet, each_fits}
+use Rattle.jpa_stored.specs.Sets.{StoredSet}
 use Rattle.jpa_rows.specs.declared.schema.TableRule.{TableRule}
-use Rattle.jpa_rows.specs.Cells.{Cell, is_own_cell, is_next, tables_of, StandFor}
+use Rattle.jpa_rows.specs.Cells.{Cell, is_own_cell, are_numbers, tables_of, StandFor}
 use Rattle.jpa_rows.specs.Rows.{RowId, Row, Rows, table_of, table_rows}
 use Rattle.jpa_rows.specs.Tables.{schema_of}
 use Rattle.jpa_row_laws.proofs.Facts.{and_first, and_second, both_hold}
-use Rattle.jpa_row_laws.proofs.Each.{Each, each_put}
+use Rattle.jpa_row_laws.proofs.Each.{Each}
 use Rattle.jpa_row_laws.proofs.Elements.{Has, append_has, SameElements, has_from_contains, contains_from_has, from_flat_map, into_flat_map, from_map, from_filter, into_filter}
 use Rattle.jpa_row_laws.proofs.Lists.{all_each, all_from, all_where, has_any, flat_map-map, flat_map_same}
 use Rattle.jpa_object_rows.specs.Flat as flat
@@ -36,15 +34,17 @@ use Rattle.jpa_object_rows.proofs.Bytes.Classes.{is_below, find_some}
 use Rattle.jpa_object_rows.proofs.Bytes.Mapped.{IsMapped}
 use Rattle.jpa_object_rows.proofs.Bytes.MappedClasses.{unambiguous_mapped}
 use Rattle.jpa_object_rows.proofs.Bytes.OneRows.{one_rows}
-use Rattle.jpa_object_rows.proofs.Bytes.Orders.{identities, are_same_numbers, same_number}
+use Rattle.jpa_object_rows.proofs.Bytes.Orders.{are_same_numbers, same_number}
 use Rattle.jpa_object_rows.proofs.Bytes.Reading.{storable}
 use Rattle.jpa_object_rows.proofs.Bytes.Rounds.{held_storable}
 use Rattle.jpa_object_rows.specs.Raw.{raw, raw_entry, is_key_by, IsRowBy}
-use Rattle.jpa_object_rows.specs.Objects.{is_discriminator, number_id, number_row, object_entries, object_rows}
-use Rattle.jpa_object_rows.specs.Sets.{base_of, with_number, with_next, with_numbers, with_set, rows_of, AreUnitRows}
+use Rattle.jpa_object_rows.specs.Objects.{is_discriminator, number_row, object_entries, object_rows}
+use Rattle.jpa_rows.specs.NextNumbers.{base_of, number_rows}
+use Rattle.jpa_object_rows.specs.Sets.{with_set, rows_of, AreUnitRows}
 use Rattle.jpa_object_rows.proofs.Cells.{raw_normal, rows_stand_for}
 use Rattle.jpa_object_rows.proofs.Exact.{rows_of_unit}
 use Rattle.jpa_object_rows.proofs.Kept.{over_each, along_each}
+use Rattle.jpa_object_rows.proofs.NextNumbers.{zipped_first, entry_given, number_each, rows_each}
 use Rattle.jpa_object_rows.proofs.Stored.{own_join}
 use Rattle.jpa_object_rows.proofs.Tables.{unit_numbers}
 use Rattle.jpa_cells_meaning.specs.declared.Cell.{Cell as StoredCell}
@@ -95,51 +95,33 @@ module _ (world : World) (mapped : IsMapped world.model) where
   set_sound [] h base g = g
   set_sound (e ∷ set) h base g = over_each Sound (object_rows world e.0 e.1) (with_set world set base) (object_sound e.0 e.1 h.0) (set_sound set h.1 base g)
 
-  next_sound : (class : ℕ) → is_class m class ≡ true → (origin : Origin) → (entity_at m class).origin ≡ origin → (k : ℕ) → is_next origin k ≡ true → (base : Rows) → Each Sound base → Each Sound (with_next origin k base)
-  next_sound class is (Origin.Extends parent) at k next base h = h
-  next_sound class is (Origin.Root root) at k next base h =
-      elim root.generated as (λ b. root.generated ≡ b → cond b (nat_lt 0 k && is_i64 (pos k)) (k == 1) ≡ true → Each Sound (cond b (with_number root.table k base) base)) [
-        | true ↦ λ generated given.
-            elim (k == 1) as (λ b. k == 1 ≡ b → Each Sound (cond b base (put identity_cmp (number_id root.table) (number_row k) base))) [
-              | true ↦ λ one. h
-              | false ↦ λ more.
-                  each_put identities Sound (number_id root.table) (number_row k) base
-                  (inr (inl (record {
-                    class = class;
-                    root = root;
-                    next = k;
-                    within = is;
-                    origin = at;
-                    generated = generated;
-                    under = refl;
-                    says = refl;
-                    more = above_one k (and_first (nat_lt 0 k) _ given) more;
-                    small = and_second (nat_lt 0 k) _ given;
-                  })))
-                  h
-            ] refl
-        | false ↦ λ generated given. h
-      ] refl next
-
   base_sound : Each Sound (base_of m)
   base_sound =
-      elim (m.revision == 1) as (λ b. m.revision == 1 ≡ b → Each Sound (cond b [] (put identity_cmp (number_id 0) (number_row m.revision) []))) [
-        | true ↦ λ first. tt
-        | false ↦ λ later.
-            let second = are_same_numbers m.revision 2 (ap (λ b. b || m.revision == 2) (sym later) ∙ clear.revision) in
-            (inl (record { second = second; under = refl; says = ap number_row second }), tt)
-      ] refl
+      number_each Sound 0 m.revision
+      (λ later. let second = are_same_numbers m.revision 2 (ap (λ b. b || m.revision == 2) (sym later) ∙ clear.revision) in inl (record { second = second; under = refl; says = ap number_row second }))
 
-  numbers_sound : (entities : List Entity) (numbers : List ℕ) → ((e : Entity) → Has entities e → Has m.entities e) → each_fits (λ e k. is_next e.origin k) entities numbers ≡ true → Each Sound (with_numbers (zip entities numbers) (base_of m))
-  numbers_sound [] numbers within h = base_sound
-  numbers_sound (e ∷ entities) [] within h = base_sound
-  numbers_sound (e ∷ entities) (k ∷ numbers) within h =
-      let c = at_place m.entities no_entity e (within e (inl refl)) in
-      next_sound c.0 (is_below c.0 (length m.entities) c.1) e.origin (ap (λ (d : Entity). d.origin) c.2) k (and_first (is_next e.origin k) _ h) (with_numbers (zip entities numbers) (base_of m))
-      (numbers_sound entities numbers (λ d g. within d (inr g)) (and_second (is_next e.origin k) _ h))
+  numbers_sound : (numbers : List ℕ) → are_numbers m numbers ≡ true → Each Sound (number_rows m numbers)
+  numbers_sound numbers are =
+      rows_each Sound m numbers
+      (λ p h root k.
+      let c = at_place m.entities no_entity p.0 (zipped_first m.entities numbers p h) in
+      let given = entry_given m numbers are p h root k in
+      inr (inl (record {
+        class = c.0;
+        root = root;
+        next = p.1;
+        within = is_below c.0 (length m.entities) c.1;
+        origin = ap (λ (d : Entity). d.origin) c.2 ∙ k.origin;
+        generated = k.generated;
+        under = refl;
+        says = refl;
+        more = above_one p.1 (and_first (nat_lt 0 p.1) _ given) k.more;
+        small = and_second (nat_lt 0 p.1) _ given;
+      })))
+      base_sound
 
-  pub rows_sound : (set : StoredSet) (numbers : List ℕ) → AreStorable world set → each_fits (λ e k. is_next e.origin k) m.entities numbers ≡ true → AreSoundRows world (rows_of world set numbers)
-  rows_sound set numbers h are = set_sound set h (with_numbers (zip m.entities numbers) (base_of m)) (numbers_sound m.entities numbers (λ e k. k) are)
+  pub rows_sound : (set : StoredSet) (numbers : List ℕ) → AreStorable world set → are_numbers m numbers ≡ true → AreSoundRows world (rows_of world set numbers)
+  rows_sound set numbers h are = set_sound set h (number_rows m numbers) (numbers_sound numbers are)
 
 -- ---- the rows of a table, by their bytes
 

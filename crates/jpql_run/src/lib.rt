@@ -44,6 +44,7 @@ mod steps;
 mod tuple;
 mod tuples;
 mod values;
+mod ways;
 
 pub use asking::is_key_part;
 pub use block::{objects_for, tuples_for};
@@ -63,3 +64,4 @@ pub use run::Run;
 pub use tuple::Tuple;
 pub use tuples::objects_of;
 pub use values::value;
+pub use ways::{FoundBy, Way, ways_of};

@@ -7,12 +7,10 @@ from typing import Any, Dict, Mapping, Sequence
 from ..entities import Entity
 from ..jpql import LanguageName
 from ..jpql_check import Kinds, QueryFinding, check
-from ..refusals import KarzhoulError, Refused
+from ..refusals import Refused
 from ..unit import EntityDescription
 
 Answer = Dict[str, Any]
-# What the client raises where a value, a key or a word can't be taken.
-FAULTS = (KarzhoulError, ValueError, TypeError, LookupError, AttributeError, OverflowError)
 
 
 class Declined(Exception):

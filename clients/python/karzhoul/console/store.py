@@ -15,7 +15,7 @@ from ..refusals import Misused, ProgramEnded, Restarted
 from ..rows import Names
 from ..spelling import row_of_cells
 from ..unit import EntityDescription, entities_of, shown_entities
-from .answers import FAULTS, Answer, Declined, declined, mistakes_of, refusal_of, said_mistake
+from .answers import Answer, Declined, declined, mistakes_of, refusal_of, said_mistake
 from .cells import Plain, Reference, Unread, kind_of, value_of
 from .changing import Changes, tell_lost
 from .objects import Objects
@@ -54,7 +54,7 @@ class Store:
                 yield self._changes.manager
             except Unread:  # Nothing was asked.
                 raise
-            except FAULTS as fault:
+            except Exception as fault:
                 answer = refusal_of(fault)
                 self._changes.repair()
                 raise Declined(answer) from fault
@@ -75,7 +75,7 @@ class Store:
 
     @contextmanager
     def _turn(self) -> Iterator[None]:
-        """One thread's turn. What is refused is a `Declined`."""
+        """One thread's turn. What is refused is a `Declined`, whatever a method of a class raised."""
         with self._lock:
             if self._is_closed:
                 raise Declined(declined("Closed", ["the console is ending"]))
@@ -83,7 +83,7 @@ class Store:
                 yield
             except Declined:
                 raise
-            except FAULTS as fault:
+            except Exception as fault:
                 raise Declined(self._refusal(fault)) from fault
 
     def _refusal(self, fault: BaseException) -> Answer:
@@ -156,7 +156,7 @@ class Store:
                 with self._reading(mistakes) as manager:
                     rows = self._rows(manager, text, params, first, most + 1)
                     table = self.objects.table(text, rows[:most])
-            except FAULTS as fault:
+            except Exception as fault:
                 raise self._declined(fault, mistakes) from fault
         return {**table, "first": first, "more": len(rows) > most}
 
@@ -170,7 +170,7 @@ class Store:
                     table = self.objects.table(
                         text, self._rows(manager, text, params, None, None)
                     )
-            except FAULTS as fault:
+            except Exception as fault:
                 raise self._declined(fault, mistakes) from fault
         titles = table["titles"] or list(Names(text).fields)
         rows = [[each or "object" for each in titles], *(map(_plain, row) for row in table["rows"])]
@@ -243,7 +243,7 @@ class Store:
         seconds, and then the program is ended, or the connection."""
         self._is_closed = True
         if not self._lock.acquire(timeout=_GRACE):
-            self._app.program.kill()
+            self._app.program.stop()  # By which the call that waits is told.
             self._lock.acquire()
         try:
             return self._changes.give_up()

@@ -1,10 +1,11 @@
-"""The words of the commands `export` and `import`."""
+"""The words of the commands `export`, `import` and `mirror`."""
 
 from __future__ import annotations
 
 import argparse
 from typing import Any, List
 
+from ..server.command import of_a_server, seconds
 from .naming import AS_MAPPED, SNAKE
 
 _EXPORT = """Writes what a store holds as tables with names and types of their own: one for each
@@ -14,6 +15,11 @@ It is whole each time: there is no --since. docs/OUTGROW.md tells the rest."""
 _IMPORT = """Makes a new store of tables as 'export' writes them, by the same mapping and the same
 --names, --name and --as: the same objects, versions and next keys. Everything is stored, or
 nothing."""
+
+_MIRROR = """Keeps tables as 'export' writes them up to date with the store of a server, in a file
+of SQLite that others read meanwhile: a new one, or one that 'export' or a run before has written.
+The store is read in a copy of it, as 'karzhoul backup' makes one, and what has changed is written in
+one transaction. It runs until it gets SIGTERM or Ctrl-C; a killed one is started again."""
 
 
 def add_commands(
@@ -31,10 +37,30 @@ def add_commands(
 
     word = "make a store of the tables that export wrote"
     back = commands.add_parser("import", parents=over, help=word, description=_IMPORT)
-    back.add_argument("--sqlite", metavar="FILE", required=True, help="the file of SQLite")
+    source = back.add_mutually_exclusive_group(required=True)
+    source.add_argument("--sqlite", metavar="FILE", help="the file of SQLite")
+    source.add_argument("--postgresql", metavar="DATABASE",
+                        help="the database of PostgreSQL, as psql -d names it")
     back.add_argument("db", help="the new database file")
     _add_names(back)
     back.set_defaults(run=run_import)
+    _add_mirror(commands, over[0])
+
+
+def _add_mirror(commands: Any, common: argparse.ArgumentParser) -> None:
+    made = commands.add_parser(
+        "mirror", parents=[of_a_server(), common], description=_MIRROR,
+        help="keep tables of SQLite up to date with the store of a server",
+    )
+    add = made.add_argument
+    add("--sqlite", metavar="FILE", required=True, help="the file of SQLite")
+    add("--mapping", help="the module of the server's classes, which say what is unique (else the "
+        "mapping is the server's)")
+    add("--every", type=seconds, default=1.0, metavar="SECONDS",
+        help="how often it is looked whether something was committed (%(default)g)")
+    add("--once", action="store_true", help="bring the file up to date, and end")
+    _add_names(made)
+    made.set_defaults(run=run_mirror)
 
 
 def _add_names(parser: argparse.ArgumentParser) -> None:
@@ -64,3 +90,10 @@ def run_import(said: argparse.Namespace) -> int:
     from . import imported
 
     return imported.run(said)
+
+
+def run_mirror(said: argparse.Namespace) -> int:
+    """Has tables follow the store of a server."""
+    from . import mirrored
+
+    return mirrored.run(said)

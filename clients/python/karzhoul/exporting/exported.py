@@ -6,9 +6,10 @@ import argparse
 import os
 import sqlite3
 import sys
+from contextlib import contextmanager
 from dataclasses import replace
 from pathlib import Path
-from typing import Any, Dict, List, Mapping, Tuple, Union
+from typing import Any, Dict, Iterator, List, Mapping, Optional, Sequence, Tuple, Union
 
 from .. import factory
 from ..classes.mapping import FORMS
@@ -23,13 +24,21 @@ from .dialects import DIALECTS, Dialect
 from .naming import Names, given_names
 from .rows import NoRow, Rows
 from .script import Script
-from .sqlite import File
+from .sqlite import File, refuse_logs
 from .tables import Tables
 
 WRONG = 1
 _FORMS_OF = f"SELECT f.at, f.form FROM {FORMS} f"
 _KINDS = {int: "int", str: "text", bytes: "bytes"}
 Target = Union[File, Script]
+
+
+class NoTables(KarzhoulError):
+    """Names that a database doesn't take; nothing was written."""
+
+    def __init__(self, faults: Sequence[str]) -> None:
+        super().__init__("\n".join(faults))
+        self.faults = list(faults)
 
 
 def run(said: argparse.Namespace) -> int:
@@ -39,27 +48,25 @@ def run(said: argparse.Namespace) -> int:
         raise FileNotFoundError(f"there is no file {said.db}")
     if name != "-":
         check_new(Path(name))
+    if said.sqlite is not None:
+        refuse_logs(Path(name))
     side = side_of(mapped(said.mapping), said.what)
     _refuse_older(side, Path(said.db))
-    with factory.open(bare(side.mapping), said.db, program=said.program) as app:
+    with opened(side, Path(said.db), said.program) as app:
         try:
-            _take_forms(side, app)
-            tables = Tables(side, Names(said.names, given_names(said.name)), said.what == "column")
-            tables.names.check()
-            if tables.faults + dialect.faults(tables):
-                return stopped(tables.faults + dialect.faults(tables), f"{name} was not written")
+            tables = tables_of(side, app, said, dialect)
             target: Target = (
                 File(Path(name), tables.all) if said.sql is None
                 else Script(name, tables.all, dialect)
             )
-            return _export(app, tables, dialect, target, name)
-        except NoRow as why:
-            return stopped([str(why)], f"{name} was not written")
+            count = write(app, tables, dialect, target)
+        except (NoTables, NoRow) as why:
+            return stopped(why.faults, f"{name} was not written")
         except (sqlite3.Error, OSError) as fault:
             raise KarzhoulError(f"{name} can't be written, and was not: {fault}") from fault
-        except KeyboardInterrupt:
-            app.program.kill()  # Else the end would wait for the call's answer.
-            raise
+    if name != "-":
+        print(f"{name}: {count:,} objects in {len(tables.all)} tables")
+    return 0
 
 
 def _wanted(said: argparse.Namespace) -> Tuple[Dialect, str]:
@@ -135,18 +142,41 @@ def _refuse_older(side: Side, db: Path) -> None:
         )
 
 
-def _take_forms(side: Side, app: factory.EntityManagerFactory) -> None:
+@contextmanager
+def opened(
+    side: Side, db: Path, program: Optional[str]
+) -> Iterator[factory.EntityManagerFactory]:
+    """A store that is read, over a mapping by which nobody hears of it."""
+    with factory.open(bare(side.mapping), str(db), program=program) as app:
+        try:
+            yield app
+        except KeyboardInterrupt:
+            app.program.kill()  # Else the end would wait for the call's answer.
+            raise
+
+
+def tables_of(
+    side: Side, app: factory.EntityManagerFactory, said: argparse.Namespace, dialect: Dialect
+) -> Tables:
+    """The tables that the words of a command make of a store; a `NoTables` says what a database
+    doesn't take."""
     if side.made is None and any(it["name"] == FORMS for it in side.mapping["entities"]):
         rows = app.create_entity_manager().query(_FORMS_OF)
         side.take_forms({at: form for at, form in rows})
+    tables = Tables(side, Names(said.names, given_names(said.name)), said.what == "column")
+    tables.names.check()
+    if tables.faults + dialect.faults(tables):
+        raise NoTables(tables.faults + dialect.faults(tables))
+    return tables
 
 
 # ---- what is written
 
 
-def _export(
-    app: factory.EntityManagerFactory, tables: Tables, dialect: Dialect, target: Target, name: str
+def write(
+    app: factory.EntityManagerFactory, tables: Tables, dialect: Dialect, target: Target
 ) -> int:
+    """Writes a store as tables; how many objects it has."""
     stored, rows, counts = Stored(app), Rows(tables, dialect), _counts(app, tables)
     with Progress(sum(counts.values())) as told, target:
         done = 0
@@ -164,9 +194,7 @@ def _export(
             tables.of_entity(it.entity).name: it.number for it in stored.nexts()
             if it.entity in tables.side.shapes
         })
-    if name != "-":
-        print(f"{name}: {sum(counts.values()):,} objects in {len(tables.all)} tables")
-    return 0
+    return sum(counts.values())
 
 
 def _counts(app: factory.EntityManagerFactory, tables: Tables) -> Dict[str, int]:

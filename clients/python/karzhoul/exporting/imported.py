@@ -5,8 +5,9 @@ from __future__ import annotations
 import argparse
 import shutil
 import sqlite3
+from contextlib import contextmanager
 from pathlib import Path
-from typing import Dict, List, Optional
+from typing import Dict, Iterator, List, Optional
 
 from ..classes import lock as locks
 from ..finding import find_program
@@ -18,9 +19,10 @@ from ..migrating.sides import mapped
 from ..migrating.singles import Singles
 from ..migrating.writing import NewStore, carrying
 from ..progress import Progress
-from ..refusals import Damaged, KarzhoulError
+from ..refusals import Damaged, KarzhoulError, ProgramEnded
 from .exported import WRONG, check_new, side_of, stopped
 from .naming import Names, given_names
+from .postgresql import WrongTables, fetched
 from .reading import Reading, Straight
 from .sqlite import opened_to_read, put_new
 from .tables import Tables
@@ -28,9 +30,9 @@ from .tables import Tables
 
 def run(said: argparse.Namespace) -> int:
     """Makes a store of tables; 1 where the mapping, a table or a row stands in the way."""
-    source, db = Path(said.sqlite), Path(said.db)
-    if not source.is_file():
-        raise FileNotFoundError(f"there is no file {source}")
+    db = Path(said.db)
+    if said.sqlite is not None and not Path(said.sqlite).is_file():
+        raise FileNotFoundError(f"there is no file {said.sqlite}")
     for path in (db, _log(db)):
         check_new(path)
     tables = Tables(side_of(mapped(said.mapping), said.what),
@@ -39,10 +41,40 @@ def run(said: argparse.Namespace) -> int:
     if tables.faults:
         return stopped(tables.faults, f"{db} was not made")
     try:
-        with opened_to_read(source) as store:
-            return _Import(said, tables, Reading(store, tables), db).run()
+        with _folder_beside(db) as folder:
+            return _imported(said, tables, db, folder)
+    except WrongTables as wrong:
+        return stopped(wrong.faults, f"{db} was not made: name the mapping, --names, --name and --as "
+                                     "of the export")
     except sqlite3.Error as fault:
+        source = said.sqlite or said.postgresql
         raise KarzhoulError(f"{source} can't be read ({fault}), and {db} was not made") from fault
+    except OSError as fault:
+        raise KarzhoulError(f"{db} can't be written, and was not made: {fault}") from fault
+
+
+@contextmanager
+def _folder_beside(db: Path) -> Iterator[Path]:
+    """A folder in which a store is made."""
+    folder = db.with_name(f"{db.name}.importing")
+    if folder.exists():
+        shutil.rmtree(folder)  # What a run left that was killed.
+    folder.mkdir()
+    try:
+        yield folder
+    finally:
+        shutil.rmtree(folder)
+
+
+def _imported(said: argparse.Namespace, tables: Tables, db: Path, folder: Path) -> int:
+    source = (Path(said.sqlite) if said.sqlite is not None
+              else fetched(said.postgresql, tables.all, folder))
+    with opened_to_read(source) as store:
+        reading = Reading(store, tables)
+        misfits = reading.misfits()
+        if misfits:
+            raise WrongTables(misfits)
+        return _Import(said, tables, reading, db, folder).run()
 
 
 def _log(db: Path) -> Path:
@@ -53,22 +85,14 @@ class _Import:
     """One run of the command."""
 
     def __init__(
-        self, said: argparse.Namespace, tables: Tables, reading: Reading, db: Path
+        self, said: argparse.Namespace, tables: Tables, reading: Reading, db: Path, folder: Path
     ) -> None:
         self._side, self._reading, self._db = tables.side, reading, db
         self._program, self._said = find_program(said.program), said
-        self._folder = db.with_name(f"{db.name}.importing")
-        self._new = self._folder / "new.db"
+        self._folder, self._new = folder, folder / "new.db"
 
     def run(self) -> int:
-        """Makes the store in a folder of its own, and puts it in its place."""
-        misfits = self._reading.misfits()
-        if misfits:
-            return stopped(misfits, f"{self._db} was not made: name the mapping, --names, --name "
-                                    "and --as of the export")
-        if self._folder.exists():
-            shutil.rmtree(self._folder)  # What a run left that was killed.
-        self._folder.mkdir()
+        """Makes the store in its folder, and puts it in its place."""
         try:
             counts = self._written()
             if counts is None:
@@ -84,8 +108,8 @@ class _Import:
         except Damaged as damaged:
             return stopped([f"the tables are no store of the mapping: {damaged}"],
                            f"{self._db} was not made")
-        finally:
-            shutil.rmtree(self._folder)
+        except ProgramEnded as ended:
+            raise KarzhoulError(f"{self._db} was not made: {ended}") from ended
         print(f"{self._db}: {sum(counts.values()):,} objects")
         return 0
 

@@ -3,7 +3,7 @@
 from __future__ import annotations
 
 import sqlite3
-from typing import Dict, Iterator, List, Optional, Sequence, Tuple, Union
+from typing import Callable, Dict, Iterator, List, Optional, Sequence, Tuple, Union
 
 from ..classes.types import Unfit as UnfitValue
 from ..dumping import tops_in_order
@@ -20,6 +20,23 @@ Cells = Sequence[Value]
 
 class _Wrong(Exception):
     """What is wrong with a row."""
+
+
+def misfits_of(tables: Sequence[Table], columns: Callable[[Table], Sequence[str]]) -> List[str]:
+    """What is lacking of tables, or is none of the mapping's, where these are the columns that
+    there are of each."""
+    found: List[str] = []
+    for table in tables:
+        there = {name.lower(): name for name in columns(table)}
+        wanted = {it.name.lower(): it.name for it in table.columns}
+        if not there:
+            found.append(f"there is no table {table.name}")
+            continue
+        found += [f"{table.name} has no column {name}" for each, name in wanted.items()
+                  if each not in there]
+        found += [f"{table.name} has a column {name}, of which the mapping knows nothing"
+                  for each, name in there.items() if each not in wanted]
+    return found
 
 
 class Straight:
@@ -44,19 +61,9 @@ class Reading:
 
     def misfits(self) -> List[str]:
         """What of the tables is lacking, or is none of the mapping's."""
-        found: List[str] = []
-        for table in self._tables.all:
-            rows = self._store.execute(f"PRAGMA table_info({quoted(table.name)})").fetchall()
-            there = {row[1].lower(): row[1] for row in rows}
-            wanted = {it.name.lower(): it.name for it in table.columns}
-            if not rows:
-                found.append(f"there is no table {table.name}")
-                continue
-            found += [f"{table.name} has no column {name}" for each, name in wanted.items()
-                      if each not in there]
-            found += [f"{table.name} has a column {name}, of which the mapping knows nothing"
-                      for each, name in there.items() if each not in wanted]
-        return found
+        return misfits_of(self._tables.all, lambda table: [
+            row[1] for row in self._store.execute(f"PRAGMA table_info({quoted(table.name)})")
+        ])
 
     def count(self) -> int:
         """How many objects there are."""

@@ -17,6 +17,11 @@ _Cell = Tuple[Column, Callable[[Record], Any], Optional[Make]]
 class NoRow(KarzhoulError):
     """An object that can't be a row; nothing was written."""
 
+    @property
+    def faults(self) -> List[str]:
+        """What is said of it."""
+        return [str(self)]
+
 
 class Rows:
     """Makes rows of the records of a store, for a database. A `NoRow` says which object has a value

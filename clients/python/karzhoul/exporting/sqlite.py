@@ -153,6 +153,14 @@ class File:
         put_new(self._part, self._path)
 
 
+def refuse_logs(path: Path) -> None:
+    """Refuses a log without its file, which SQLite would take for that of a new one."""
+    for log in (path.with_name(f"{path.name}-wal"), path.with_name(f"{path.name}-journal")):
+        if os.path.lexists(log):
+            raise FileExistsError(f"there is a file {log} without its {path.name}, and SQLite would "
+                                  "take it for the new one's: remove it")
+
+
 def put_new(part: Path, path: Path) -> None:
     """Gives a file its name, which no other file has; else a `FileExistsError`."""
     descriptor = os.open(part, os.O_RDONLY)
@@ -174,6 +182,12 @@ def put_new(part: Path, path: Path) -> None:
 def opened_to_read(path: Path) -> "closing[sqlite3.Connection]":
     """A file that is there, opened to be read alone."""
     return closing(sqlite3.connect(f"file:{_quoted_path(path)}?mode=ro", uri=True))
+
+
+def opened_to_write(path: Path, wait: float) -> sqlite3.Connection:
+    """A file that is there, opened to be changed; another one's write is waited for so long."""
+    way = f"file:{_quoted_path(path)}?mode=rw"
+    return sqlite3.connect(way, wait, isolation_level=None, uri=True)
 
 
 def _quoted_path(path: Path) -> str:

@@ -4,9 +4,9 @@ from __future__ import annotations
 
 import json
 import os
-from contextlib import suppress
+from contextlib import contextmanager, suppress
 from pathlib import Path
-from typing import Any, BinaryIO, Dict, List
+from typing import Any, BinaryIO, Dict, Iterator, List
 
 from ..factory import started
 from ..program import Words
@@ -18,15 +18,25 @@ _CHUNK = 1 << 18
 
 def asked(way: Way, call: str) -> Any:
     """The answer to a call of the server's own; a `KarzhoulError` where it is refused."""
-    with way.connected() as made, made.makefile("rb") as replies:
-        made.sendall(way.hello() + json.dumps({"serve": call}).encode() + b"\n")
+    with _asked(way, way.hello(), call) as replies:
         _said(replies, way)
         return _said(replies, way)
 
 
+@contextmanager
+def _asked(way: Way, hello: bytes, call: str) -> Iterator[BinaryIO]:
+    """The replies of a server to who one is, and to a call of its own."""
+    with way.connected() as made, made.makefile("rb") as replies:
+        try:
+            made.sendall(hello + json.dumps({"serve": call}).encode() + b"\n")
+            yield replies
+        except ConnectionError as fault:
+            raise KarzhoulError(f"{way} has ended the connection: {fault}") from fault
+
+
 def _said(replies: BinaryIO, way: Way) -> Any:
     line = replies.readline()
-    if not line:
+    if not line.endswith(b"\n"):
         raise KarzhoulError(f"{way} has ended the connection")
     said = json.loads(line)
     if "ok" not in said:
@@ -42,11 +52,7 @@ def backup(way: Way, file: Path, program: Words) -> int:
         if os.path.lexists(each):
             raise FileExistsError(f"there is a file {each} already")
     try:
-        with way.connected() as made, made.makefile("rb") as replies:
-            made.sendall(way.hello(mapping=True) + b'{"serve":"backup"}\n')
-            served = _said(replies, way)
-            for path, size in zip(files, _said(replies, way)["files"]):
-                _take(replies, path, size, way)
+        served = copied(way, file)
         mapping = json.dumps(served["mapping"]).encode()
         started(program, mapping, str(file), None, served["language"]).close()
         with suppress(FileNotFoundError):
@@ -57,6 +63,17 @@ def backup(way: Way, file: Path, program: Words) -> int:
             with suppress(FileNotFoundError):
                 each.unlink()
         raise
+
+
+def copied(way: Way, file: Path) -> Dict[str, Any]:
+    """Writes a copy of the store of a server, and of its log, to files that are made; what the
+    server tells of what it serves."""
+    with _asked(way, way.hello(mapping=True), "backup") as replies:
+        served: Dict[str, Any] = _said(replies, way)
+        files = [file, file.with_name(f"{file.name}-wal")]
+        for path, size in zip(files, _said(replies, way)["files"]):
+            _take(replies, path, size, way)
+    return served
 
 
 def _take(replies: BinaryIO, path: Path, size: int, way: Way) -> None:

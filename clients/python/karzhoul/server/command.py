@@ -37,11 +37,7 @@ def add_commands(
 ) -> None:
     """Adds them to the parts of the command."""
     _add_serve(commands, [common, over, stored])
-    of_server = argparse.ArgumentParser(add_help=False)
-    add = of_server.add_argument
-    add("--from", dest="address", required=True, metavar="ADDRESS", help="where the server listens")
-    add("--token-file", metavar="FILE", help="the file with the server's token, for tcp")
-    add("--tls-ca", metavar="FILE", help="the certificates to trust; without it no TLS is spoken")
+    of_server = of_a_server()
     saved = commands.add_parser(
         "backup", parents=[of_server, common], description=_BACKUP,
         help="copy the store that a server serves, and try the copy",
@@ -55,13 +51,23 @@ def add_commands(
     told.set_defaults(run=run_status)
 
 
+def of_a_server() -> argparse.ArgumentParser:
+    """The words that say which server is meant."""
+    made = argparse.ArgumentParser(add_help=False)
+    add = made.add_argument
+    add("--from", dest="address", required=True, metavar="ADDRESS", help="where the server listens")
+    add("--token-file", metavar="FILE", help="the file with the server's token, for tcp")
+    add("--tls-ca", metavar="FILE", help="the certificates to trust; without it no TLS is spoken")
+    return made
+
+
 def _add_serve(commands: Any, takes: Parsers) -> None:
     made = commands.add_parser(
         "serve", parents=takes, description=_SERVE, help="serve a database file to many processes"
     )
     add, default = made.add_argument, Settings()
-    add("--listen", required=True, metavar="ADDRESS",
-        help="unix:/run/app.sock, or tcp:127.0.0.1:7117")
+    add("--listen", required=True, action="append", metavar="ADDRESS",
+        help="unix:/run/app.sock, or tcp:127.0.0.1:7117: one of them")
     add("--mode", default="600", help="the permissions of a unix socket, in octal (%(default)s)")
     add("--token-file", metavar="FILE",
         help=f"a file with the token that tcp connections show, of {LEAST_TOKEN} bytes or more")
@@ -77,9 +83,9 @@ def _add_serve(commands: Any, takes: Parsers) -> None:
         ("grace", default.grace, "how long transactions may still take after SIGTERM"),
         ("half-line", default.half_line, "how long a line may take to come, or a reply to be read"),
     ):
-        add(f"--{name}", type=_seconds, default=value, metavar="SECONDS",
+        add(f"--{name}", type=seconds, default=value, metavar="SECONDS",
             help=f"{about} (%(default)g)")
-    add("--end-program-after", type=_seconds, metavar="SECONDS",
+    add("--end-program-after", type=seconds, metavar="SECONDS",
         help="end the program, and start it again, where a call takes longer (never)")
     add("--connections", type=int, default=default.most_connections, metavar="N",
         help="how many there may be at a time (%(default)s)")
@@ -114,7 +120,7 @@ def run_backup(said: argparse.Namespace) -> int:
     """Writes a copy of the store of a server, and tries it."""
     from .asking import backup
 
-    told = backup(_way(said), Path(said.file), find_program(said.program))
+    told = backup(way_of(said), Path(said.file), find_program(said.program))
     print(f"{said.file}: {told:,} bytes, opened and looked at")
     return 0
 
@@ -123,12 +129,13 @@ def run_status(said: argparse.Namespace) -> int:
     """Tells how a server is."""
     from .asking import asked, status_page
 
-    told = asked(_way(said), "status")
+    told = asked(way_of(said), "status")
     print(json.dumps(told) if said.json else status_page(told), end="\n" if said.json else "")
     return 0
 
 
-def _way(said: argparse.Namespace) -> Way:
+def way_of(said: argparse.Namespace) -> Way:
+    """How the server is reached that these words say."""
     token = Path(said.token_file).read_text().strip() if said.token_file else None
     return Way(said.address, token, said.tls_ca)
 
@@ -160,7 +167,9 @@ def _settings(said: argparse.Namespace) -> Settings:
 
 
 def _listening(said: argparse.Namespace) -> Listening:
-    address, tls = address_of(said.listen), None
+    if len(said.listen) > 1:
+        raise Misused(f"a server listens at one address, and not at {' and '.join(said.listen)}")
+    address, tls = address_of(said.listen[0]), None
     if not address.path and not said.token_file:
         raise Misused("a tcp address needs --token-file")
     if not address.is_loopback and not (said.tls_cert and said.tls_key):
@@ -183,11 +192,12 @@ def _listening(said: argparse.Namespace) -> Listening:
     return Listening(address, mode, tls, metrics)
 
 
-def _seconds(word: str) -> float:
+def seconds(word: str) -> float:
+    """The number of seconds that a word says."""
     try:
-        seconds = float(word)
+        found = float(word)
     except ValueError:
-        seconds = -1.0
-    if not 0 < seconds < 1e9:
+        found = -1.0
+    if not 0 < found < 1e9:
         raise argparse.ArgumentTypeError(f"{word!r} is no number of seconds above 0")
-    return seconds
+    return found

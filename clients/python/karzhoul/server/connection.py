@@ -54,7 +54,7 @@ class Connection(asyncio.BufferedProtocol):
         # By which another connection of the same client names it.
         self.key = secrets.token_hex(16)
         self.wait = service.settings.wait
-        self.translation = Translation()
+        self.translation: Translation = Translation()
         self.managers: Dict[int, Manager] = {}
         # How many managers it may create that were kept free for it, and until when.
         self.reserved, self.reserved_until = 0, 0.0

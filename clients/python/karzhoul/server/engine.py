@@ -13,7 +13,7 @@ from typing import Callable, Deque, List, NamedTuple, Optional
 from ..program import Program
 
 Take = Callable[[Optional[bytes]], None]
-_CHUNK = 1 << 18
+_CHUNK = 1 << 16  # As much as a pipe holds, and little enough to be kept at hand.
 
 
 class Asked(NamedTuple):
@@ -61,7 +61,11 @@ class Engine:
         return self._asked[0].since if self._asked else None
 
     def send(self, line: bytes, take: Take) -> None:
-        """Sends a line, at the next `flush`."""
+        """Sends a line, at the next `flush`. Of a program that has ended it is told so, since
+        nobody would else."""
+        if self._is_over:
+            self._loop.call_soon(take, None)
+            return
         self._lines.append(line)
         self._asked.append(Asked(take, time.monotonic()))
 

@@ -1,8 +1,8 @@
 """Whose turn it is to have one of the 16 managers that the program has open at a time, and when a
 new run of it begins.
 
-Who finds none free waits in turn. A run makes 1,000,000 objects: once it has made half of them,
-another one begins when no manager is open; once a tenth is left, as soon as no transaction is open,
+Who finds none free waits in turn. A run makes 1,000,000 objects and as many managers: once it has
+made half of either, another one begins when no manager is open; once a tenth is left, as soon as no transaction is open,
 for which those who begin one wait a second at a time; and once a hundredth is left, as long as it
 takes.
 """

@@ -90,7 +90,7 @@ class Own:
         if settings.token is not None and not connection.is_trusted:
             shown = token.encode(errors="replace") if isinstance(token, str) else b""
             if not hmac.compare_digest(shown, settings.token):
-                connection.close("Denied", "the token is another one")
+                connection.close("Denied", f"the token is {'another one' if shown else 'missing'}")
                 return
         connection.is_trusted = True
         connection.wait = _seconds(said.get("wait"), settings.wait)

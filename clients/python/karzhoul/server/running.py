@@ -23,13 +23,19 @@ from .service import Service
 from .settings import Listening, Served, Settings
 
 _BACKLOG = 1024
+# How long what is under way may still take once those that were open have had their time.
+_UNDER_WAY = 1.0
 
 
 def serve(
     settings: Settings, listening: Listening, start: Callable[[], Program], served: Served
 ) -> int:
     """Serves until it is told to end by a signal; its status."""
-    sockets = [_listening(listening.address, listening.mode)]
+    try:
+        sockets = [_listening(listening.address, listening.mode)]
+    except OSError as fault:
+        told = f"nobody can listen at {listening.address}: {fault.strerror or fault}"
+        raise OSError(told) from fault
     try:
         _raise_files(settings.most_connections)
         program = start()
@@ -105,6 +111,9 @@ class _Ending:
         service.is_ending = True
         self._server.close()
         service.later(self._wait())
+        # Also where a call is under way then that takes longer.
+        loop = asyncio.get_running_loop()
+        loop.call_later(service.settings.grace + _UNDER_WAY, service.end, 0)
 
     async def _wait(self) -> None:
         service, loop = self._service, asyncio.get_running_loop()

@@ -9,13 +9,16 @@ import struct
 import time
 from collections import deque
 from contextlib import asynccontextmanager
-from typing import Any, AsyncIterator, Callable, Coroutine, Deque, Dict, List, Optional, Set
+from typing import (
+    Any, AsyncIterator, Callable, Coroutine, Deque, Dict, List, Optional, Set, Tuple,
+)
 
 from ..places import MOST
 from ..program import Program
 from ..refusals import KarzhoulError
 from .connection import Connection, Manager
 from .counts import Counts
+from .creating import Creation
 from .engine import Engine
 from .gate import DUE, LAST, LATE, Gate
 from .logs import log
@@ -80,8 +83,8 @@ class Service:
         # Those who wait to begin a transaction, and until when.
         self._held: Dict[Connection, float] = {}
         self._coming = self.active = self._last = 0
-        # How many objects the run has made.
-        self.made = 0
+        # How many objects the run has made, and managers, with those that are on their way.
+        self.made = self.created = 0
         # How many keep all lines from being handed on, and those who wait for a still program.
         self._stills = 0
         self._still = asyncio.Lock()
@@ -91,6 +94,12 @@ class Service:
         # Its status, once it has ended.
         self.ended: asyncio.Future[int] = asyncio.get_running_loop().create_future()
         self._tasks: Set[asyncio.Task[None]] = set()
+
+    @property
+    def used(self) -> int:
+        """How many numbers of a kind the run has given, of which it has 1,000,000: of objects, or
+        of managers where these are more, as where many only read."""
+        return max(self.made, self.created)
 
     # ---- connections
 
@@ -133,16 +142,17 @@ class Service:
             self.gate.give_back()
         connection.reserved = 0
         for number, manager in connection.managers.items():
-            self._close_manager(connection.translation.managers.real_of[number], manager)
+            self.close_manager(connection.translation.managers.real_of[number], manager)
         connection.managers = {}
         if not connection.is_closed:
             connection.close()
         self._closing[connection] = time.monotonic()
         self.engine.flush()
 
-    def _close_manager(
+    def close_manager(
         self, real: int, manager: Manager, then: Optional[Callable[[], None]] = None
     ) -> None:
+        """Rolls back what a manager has open, and closes it."""
         if manager.since is not None:
             self.active -= 1
             self.engine.send(b'{"call":"rollback","em":%d}' % real, _nothing)
@@ -163,7 +173,7 @@ class Service:
             turns = self.ready
             while turns and len(self.engine) < _WINDOW:
                 connection = turns.popleft()
-                if connection.step():
+                if connection.step() and connection.has_lines:
                     turns.append(connection)
                 else:
                     connection.is_ready = False
@@ -224,8 +234,19 @@ class Service:
         else:
             self.gate.wait(Turn(self, connection))
             return False
-        self.send(connection, call)
+        self.send_creation(connection, call)
         return True
+
+    def send_creation(self, connection: Connection, call: Call) -> None:
+        """Has the program create a manager for a connection."""
+        self.created += 1
+        if call is not BEGUN:
+            self.send(connection, call)
+            return
+        creation = Creation(self, connection, self.created)
+        for line, take in creation.lines():
+            self.counts.lines += 1
+            self.engine.send(line, take)
 
     def no_manager(self, why: str) -> bytes:
         """The refusal of a manager, with who has those that there are."""
@@ -243,10 +264,12 @@ class Service:
         if self.is_ending:
             self.refuse(connection, refusal("Closed", f"{_ENDING}, and begins no transaction"))
             return True
-        if is_within and self.made < LAST:
+        if is_within and self.used < LAST:
             self.send(connection, call)
             return True
         if is_within or self._held.get(connection, time.monotonic() + 1) < time.monotonic():
+            # It waits no more, and may wait for something else next.
+            self._held.pop(connection, None)
             why = "few objects of the run are left, and a new one waits for transactions to end"
             self.refuse(connection, refusal("Limit", why))
             return True
@@ -280,7 +303,7 @@ class Service:
 
         connection.sent, connection.is_blocked = left + 1, True
         for number, manager in managers.items():
-            self._close_manager(connection.translation.managers.real_of[number], manager, over)
+            self.close_manager(connection.translation.managers.real_of[number], manager, over)
         over()
         return True
 
@@ -293,34 +316,20 @@ class Service:
             lost = "; it may be stored or not" if call.word == "commit" else ""
             connection.say(refusal("ProgramEnded", f"the program ended before it answered{lost}"))
             return
+        self.answer(connection, self.heard(connection, call, reply)[1])
+
+    def heard(self, connection: Connection, call: Call, reply: bytes) -> Tuple[str, bytes]:
+        """Takes note of the reply to a call of a connection: the name of its refusal, if it is one,
+        and what the connection is told."""
         made = self.made
         text, self.made = connection.translation.reply(call.word, reply, made)
         self.counts.objects += self.made - made
         refused = self.counts.refused(reply) if reply.startswith(b'{"error":') else ""
         self._note(connection, call, refused, reply)
-        if call is BEGUN and not refused:
-            self._begin_created(connection, text)
-        else:
-            self._say(connection, text)
+        return refused, text
 
-    def _begin_created(self, connection: Connection, created: bytes) -> None:
-        """Opens the transaction of a manager that was just created, and tells of it then."""
-        em = max(connection.managers)
-        real = connection.translation.managers.real_of[em]
-        begin = Call("begin", em, b'{"call":"begin","em":%d}' % real)
-
-        def begun(reply: Optional[bytes]) -> None:
-            if reply is None:
-                self._take(connection, begin, None)
-                return
-            connection.is_answered("begin")
-            self._note(connection, begin, "", reply)
-            self._say(connection, created)
-
-        connection.is_sent("begin")
-        self.engine.send(begin.line, begun)
-
-    def _say(self, connection: Connection, reply: bytes) -> None:
+    def answer(self, connection: Connection, reply: bytes) -> None:
+        """Tells a connection the reply to a line of its."""
         if not connection.is_closed:
             connection.say(reply)
             connection.heard = time.monotonic()
@@ -334,6 +343,7 @@ class Service:
         word = call.word
         if word == "createEntityManager":
             if refused:
+                self.created -= 1
                 self.gate.give_back()
             else:
                 number = max(connection.translation.managers.real_of)
@@ -370,7 +380,7 @@ class Service:
         """Replies have come."""
         if self.engine.is_idle:
             self._wake_idle()
-        if self.made >= DUE and not self._is_renewing:
+        if self.used >= DUE and not self._is_renewing:
             self._look_at_run()
         self.dispatch()
 
@@ -422,24 +432,24 @@ class Service:
 
     def _look_at_run(self) -> None:
         """Begins a new run, or has those who begin wait for one, where it is time."""
-        if not self.gate.taken or (self.made >= LATE and not self.active):
+        if not self.gate.taken or (self.used >= LATE and not self.active):
             self._is_renewing = True
             self.later(self._renew())
         else:
-            self.gate.hold(self.made, time.monotonic())
+            self.gate.hold(self.used, time.monotonic())
 
     async def _renew(self) -> None:
         """Begins a new run, where still no transaction is open."""
         try:
             async with self.still():
-                late = self.made >= LATE
+                late = self.used >= LATE
                 if self.active or (self.gate.taken and not late):
                     return
                 if await self.ask(_RESTART) != NULL:
                     return
                 self.counts.restarts += 1
-                log("restart", objects=self.made)
-                self.made = 0
+                log("restart", objects=self.made, managers=self.created)
+                self.made = self.created = 0
                 await self._keep()
         finally:
             self._is_renewing = False
@@ -458,6 +468,7 @@ class Service:
                 told = await self.ask(CREATE)
                 if told is None:
                     return
+                self.created += 1
                 kept[number] = int(told[told.rindex(b":") + 1 : -1])
                 if manager.mode:
                     mode = manager.mode[manager.mode.index(b',"mode"') :]
@@ -477,7 +488,7 @@ class Service:
         self._stills += 1
         self.engine.left()
         self._wake_idle()
-        self.active = self.made = 0
+        self.active = self.made = self.created = 0
         for connection in list(self.connections):
             is_lost = not connection.translation.is_empty
             connection.managers, connection.reserved = {}, 0
@@ -485,6 +496,7 @@ class Service:
                 why = "the program ended: what was not committed is lost; connect again"
                 connection.close("ProgramEnded", why)
                 self.look_at_end(connection)
+            connection.wake()  # What it sent behind a line that wasn't answered is still its turn.
         self.gate.begun(0)
         self.tell()
         if self.is_ending:
@@ -539,7 +551,7 @@ class Service:
         long enough go on."""
         now, settings = time.monotonic(), self.settings
         self.gate.refuse_late(now)
-        if self.gate.is_over(now) and self.made < LAST:
+        if self.gate.is_over(now) and self.used < LAST:
             self.gate.go_on()
             self._release()
         for connection, until in list(self._held.items()):

@@ -25,7 +25,9 @@ class Way:
 
     def __init__(self, word: str, token: Union[None, str, bytes], tls: Tls) -> None:
         self.address: Address = address_of(word)
-        self._token = token.decode() if isinstance(token, bytes) else token
+        said = token.decode() if isinstance(token, bytes) else token
+        # What a file has ends with its line.
+        self._token = None if said is None else said.strip()
         self._tls = _context(tls)
 
     def __str__(self) -> str:

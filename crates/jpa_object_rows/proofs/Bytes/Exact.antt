@@ -1,14 +1,14 @@
 -- Rows that are exactly those of a set and next numbers stay so: what a change of the set makes of its rows.
 use Rattle.std.specs.Prelude.{◌≡◌, ℕ, Bool, true, false, cond, List, [], ◌∷◌, ◌++◌, Some, None, T}
 use Rattle.std.proofs.Common.{refl, sym, ap, ◌∙◌, append_assoc}
-use Rattle.std.specs.List.{flat_map, zip}
+use Rattle.std.specs.List.{flat_map}
 use Rattle.std.specs.FinMap.{is_sorted}
 use Rattle.jpa_value.specs.declared.value.Identity.{Identity}
 use Rattle.jpa_value.specs.Value.{identity_cmp, same_identity}
 use Rattle.jpa_behaviour.specs.Behaviour.{World}
 use Rattle.jpa_stored.specs.declared.stored.Stored.{Stored}
 use Rattle.jpa_stored.specs.Sets.{StoredSet, stored_at, with_stored, without}
-use Rattle.jpa_rows.specs.Cells.{object_cells, generator_cells, rows, number_cells}
+use Rattle.jpa_rows.specs.Cells.{object_cells, row_cells, rows}
 use Rattle.jpa_row_laws.specs.Changes.{dropped}
 use Rattle.jpa_row_laws.proofs.Facts.{some_none}
 use Rattle.jpa_row_laws.proofs.Maps.{put_by_answers, put_rises, dropped_rises, dropped_other, found_dropped, put_again}
@@ -16,8 +16,10 @@ use Rattle.jpa_row_laws.proofs.Each.{each_put}
 use Rattle.jpa_row_laws.proofs.Elements.{same_self, same_eq, same_then, same_back, same_append, same_flat_map_of, put_new, found_has}
 use Rattle.jpa_row_laws.proofs.Lists.{all_each, all_where}
 use Rattle.jpa_object_rows.specs.Rows.{AreRising}
-use Rattle.jpa_object_rows.specs.Written.{base_of, with_object, without_joins, without_object, with_numbers, rows_of}
+use Rattle.jpa_object_rows.specs.Written.{with_object, without_joins, without_object, rows_of}
 use Rattle.jpa_object_rows.specs.View.{is_storable, AreStorable}
+use Rattle.jpa_object_rows.specs.Raw.{raw}
+use Rattle.jpa_rows.specs.NextNumbers.{number_rows}
 use Rattle.jpa_object_rows.specs.Unambiguous.{IsUnambiguous}
 use Rattle.jpa_object_rows.specs.Flat.{cells_of}
 use Rattle.jpa_object_rows.proofs.Bytes.Orders.{identities}
@@ -25,10 +27,9 @@ use Rattle.jpa_object_rows.proofs.Bytes.SetLaws.{is_without}
 use Rattle.jpa_object_rows.proofs.Bytes.Reading.{object_spelled}
 use Rattle.jpa_object_rows.proofs.Bytes.Owned.{owned_of}
 use Rattle.jpa_object_rows.proofs.Bytes.Rounds.{with_set_rises}
-use Rattle.jpa_object_rows.proofs.Bytes.Numbers.{base_rises, with_numbers_rise}
+use Rattle.jpa_object_rows.proofs.Bytes.Numbers.{numbers_rise, numbers_no_row}
 use Rattle.jpa_object_rows.proofs.Bytes.Fresh.{HasNoRow}
 use Rattle.jpa_object_rows.proofs.Bytes.FlatObject.{with_object_cells}
-use Rattle.jpa_object_rows.proofs.Bytes.FlatNumbers.{numbers_no_row}
 use Rattle.jpa_object_rows.proofs.Bytes.FlatSet.{AreOthers, set_no_row, rows_cells}
 use Rattle.jpa_object_rows.proofs.Bytes.OneRows.{one_rows}
 use Rattle.jpa_object_rows.proofs.Bytes.Normal.{rows_normal, normal_object}
@@ -44,13 +45,13 @@ absent_others q (e ∷ set) none = by_test (same_identity q e.0) refl none (λ n
 
 module _ (world : World) (clear : IsUnambiguous world.model) (set : StoredSet) (numbers : List ℕ) (up : T (is_sorted identity_cmp set)) (h : AreStorable world set) where
   rows_rise : AreRising (rows_of world set numbers)
-  rows_rise = with_set_rises world set (with_numbers (zip (world.model).entities numbers) (base_of world.model)) (with_numbers_rise (zip (world.model).entities numbers) (base_of world.model) (base_rises world.model))
+  rows_rise = with_set_rises world set (raw (number_rows world.model numbers)) (numbers_rise world.model clear numbers)
 
   -- an object that is not in the set has no row
   pub absent_no_row : (id : Identity) (x : Stored) → is_storable world id x ≡ true → stored_at set id ≡ None → HasNoRow world.model id (rows_of world set numbers)
   absent_no_row id x g none =
       let si = object_spelled world clear id x g in
-      set_no_row world clear id si set (absent_others id set none) h (with_numbers (zip (world.model).entities numbers) (base_of world.model)) (numbers_no_row world.model clear numbers id si)
+      set_no_row world clear id si set (absent_others id set none) h (raw (number_rows world.model numbers)) (numbers_no_row world.model clear numbers id si)
 
   -- a new object
   pub rows_put : (id : Identity) (x : Stored) → is_storable world id x ≡ true → stored_at set id ≡ None → with_object world id x (rows_of world set numbers) ≡ rows_of world (with_stored id x set) numbers
@@ -58,7 +59,7 @@ module _ (world : World) (clear : IsUnambiguous world.model) (set : StoredSet) (
       let news = with_stored id x set in
       let storable = each_put identities (λ id x. is_storable world id x ≡ true) id x set g h in
       let cells = λ (e : Identity × Stored). object_cells world e.0 e.1 in
-      let gens = flat_map (λ p. generator_cells (p.0).origin p.1) (zip (world.model).entities numbers) ++ number_cells 0 (world.model).revision in
+      let gens = flat_map row_cells (number_rows world.model numbers) in
       one_rows (with_object world id x (rows_of world set numbers)) (rows_of world news numbers)
       (normal_object world clear id x g (rows_of world set numbers) (rows_normal world clear set numbers h)) (rows_normal world clear news numbers storable)
       (same_then (cells_of (with_object world id x (rows_of world set numbers))) (object_cells world id x ++ rows world set numbers) (cells_of (rows_of world news numbers))

@@ -16,7 +16,7 @@ use Rattle.jpa_stored.specs.Sets.{StoredSet}
 use Rattle.jpa_rows.specs.Cells.{Cell}
 use Rattle.jpa_object_rows.specs.Rows.{Rows}
 use Rattle.jpa_object_rows.specs.Written.{rows_of}
-use Rattle.jpa_object_rows.specs.View.{set_of, numbers_of}
+use Rattle.jpa_object_rows.specs.View.{set_of}
 use Rattle.jpa_object_rows.specs.Flat.{cells_of}
 
 -- ---- persons and their orders
@@ -88,9 +88,6 @@ first_cells = refl
 first_read : set_of both_sides first_rows ≡ first_set
 unfolding is_utf8 chars lib.Utf8.encode
 first_read = refl
-
-first_number : numbers_of both_sides.model first_rows ≡ 2 ∷ 1 ∷ []
-first_number = refl
 
 first_written : rows_of both_sides first_set (2 ∷ 1 ∷ []) ≡ first_rows
 first_written = refl

@@ -1,7 +1,7 @@
 -- The cells of the rows of a set and of next numbers are those of the set and the numbers.
 use Rattle.std.specs.Prelude.{◌≡◌, ℕ, false, List, [], ◌∷◌, ◌++◌, T}
 use Rattle.std.proofs.Common.{ap}
-use Rattle.std.specs.List.{flat_map, zip, AllByRecursion}
+use Rattle.std.specs.List.{flat_map, AllByRecursion}
 use Rattle.std.specs.FinMap.{is_sorted}
 use Rattle.std.specs.FinMap.Entries.{below_all}
 use Rattle.std.specs.Ordering.{is_eq}
@@ -9,20 +9,22 @@ use Rattle.jpa_value.specs.declared.value.Identity.{Identity}
 use Rattle.jpa_value.specs.Value.{identity_cmp, same_identity}
 use Rattle.jpa_behaviour.specs.Behaviour.{World}
 use Rattle.jpa_stored.specs.Sets.{StoredSet}
-use Rattle.jpa_rows.specs.Cells.{object_cells, rows}
+use Rattle.jpa_rows.specs.Cells.{object_cells, row_cells, rows}
 use Rattle.jpa_row_laws.proofs.Facts.{is_less, first_holds, second_holds}
-use Rattle.jpa_row_laws.proofs.Elements.{SameElements, same_self, same_then, same_append}
+use Rattle.jpa_row_laws.proofs.Elements.{SameElements, same_self, same_eq, same_then, same_append}
+use Rattle.jpa_row_laws.proofs.Lists.{flat_map-map}
 use Rattle.jpa_object_rows.specs.Rows.{Rows}
-use Rattle.jpa_object_rows.specs.Written.{base_of, with_set, with_numbers, rows_of}
+use Rattle.jpa_object_rows.specs.Written.{with_set, rows_of}
+use Rattle.jpa_object_rows.specs.Raw.{raw_entry, raw}
+use Rattle.jpa_rows.specs.NextNumbers.{number_rows}
 use Rattle.jpa_object_rows.specs.Unambiguous.{IsUnambiguous}
-use Rattle.jpa_object_rows.specs.Flat.{cells_of}
+use Rattle.jpa_object_rows.specs.Flat.{cells_of_row, cells_of}
 use Rattle.jpa_object_rows.specs.Identities.{IsSpelled}
 use Rattle.jpa_object_rows.specs.View.{AreStorable}
 use Rattle.jpa_object_rows.proofs.Bytes.Reading.{object_spelled}
-use Rattle.jpa_object_rows.proofs.Bytes.Tables.{own_tables}
 use Rattle.jpa_object_rows.proofs.Bytes.Fresh.{HasNoRow, no_row_stays}
 use Rattle.jpa_object_rows.proofs.Bytes.FlatObject.{same_more, with_object_cells}
-use Rattle.jpa_object_rows.proofs.Bytes.FlatNumbers.{numbers_no_row, numbers_cells}
+use Rattle.jpa_object_rows.proofs.Bytes.Numbers.{numbers_no_row}
 
 -- another identity
 abbrev pub AreOthers : Identity → StoredSet → Type 0
@@ -55,10 +57,8 @@ pub rows_cells : (world : World) → IsUnambiguous world.model → (set : Stored
     → SameElements (cells_of (rows_of world set numbers)) (rows world set numbers)
 rows_cells world clear set numbers up h =
     let m = world.model in
-    let base = with_numbers (zip m.entities numbers) (base_of m) in
+    let base = raw (number_rows m numbers) in
     let objects = flat_map (λ (e : Identity × Rattle.jpa_stored.specs.declared.stored.Stored.Stored). object_cells world e.0 e.1) set in
-    let all = flat_map own_tables m.entities in
     same_then (cells_of (rows_of world set numbers)) (objects ++ cells_of base) (rows world set numbers)
     (set_cells world clear set up h base (λ q sq. numbers_no_row m clear numbers q sq))
-    (same_append objects objects (cells_of base) _ (same_self objects)
-    (numbers_cells m clear numbers))
+    (same_append objects objects (cells_of base) (flat_map row_cells (number_rows m numbers)) (same_self objects) (same_eq (cells_of base) (flat_map row_cells (number_rows m numbers)) (flat_map-map cells_of_row raw_entry (number_rows m numbers))))

@@ -1,13 +1,10 @@
 -- The rows of a set are normal.
-use Rattle.std.specs.Prelude.{◌≡◌, ℕ, pos, true, false, cond, ◌==◌, List, [], ◌∷◌}
+use Rattle.std.specs.Prelude.{◌≡◌, ℕ, pos, true, List, [], ◌∷◌}
 use Rattle.std.proofs.Common.{sym, ap, ◌∙◌}
-use Rattle.std.specs.List.{zip}
 use Rattle.std.specs.FinMap.{find, put}
 use Rattle.std.specs.FinMap.Entries.{is_sorted-where_key}
 use Rattle.std.specs.Ordering.{int_cmp}
 use Rattle.jpa_value.specs.declared.value.Identity.{Identity}
-use Rattle.jpa_model.specs.declared.unit.Entity.{Entity}
-use Rattle.jpa_model.specs.declared.unit.Origin.{Origin}
 use Rattle.jpa_model.specs.declared.unit.Side.{Side}
 use Rattle.jpa_model.specs.declared.unit.PersistenceUnit.{PersistenceUnit}
 use Rattle.jpa_behaviour.specs.Behaviour.{World}
@@ -21,14 +18,17 @@ use Rattle.jpa_row_laws.proofs.Each.{each_put}
 use Rattle.jpa_row_laws.proofs.Lists.{all_where}
 use Rattle.jpa_object_rows.specs.Rows.{RowId, row_cmp, row_of, Columns, Row, Rows}
 use Rattle.jpa_object_rows.specs.Identities.{pair_row}
-use Rattle.jpa_object_rows.specs.Written.{base_of, columns_of, slots_of, pair_columns, with_pairs, with_side, with_joins, with_object, with_set, number_row, number_columns, with_number, with_next, with_numbers, rows_of}
+use Rattle.jpa_object_rows.specs.Written.{columns_of, slots_of, pair_columns, with_pairs, with_side, with_joins, with_object, with_set, rows_of}
 use Rattle.jpa_object_rows.specs.View.{is_storable, AreStorable}
+use Rattle.jpa_object_rows.specs.Raw.{raw}
+use Rattle.jpa_rows.specs.NextNumbers.{number_rows}
 use Rattle.jpa_object_rows.specs.Unambiguous.{IsUnambiguous}
 use Rattle.jpa_object_rows.specs.Flat.{IsRow, IsNormal, is_own_table, own_rows}
 use Rattle.jpa_object_rows.proofs.Bytes.Orders.{row_ids, column_numbers}
 use Rattle.jpa_object_rows.proofs.Bytes.Reading.{slots_hold}
 use Rattle.jpa_object_rows.proofs.Bytes.Relations.{Owned}
 use Rattle.jpa_object_rows.proofs.Bytes.Owned.{owned_of}
+use Rattle.jpa_object_rows.proofs.Bytes.Numbers.{numbers_normal}
 
 pub normal_put : (r : RowId) (columns : Columns) (rows : Rows) → IsRow columns → IsNormal rows → IsNormal (put row_cmp r columns rows)
 normal_put r columns rows row normal = record { rising = put_rises row_ids r columns rows normal.rising; each = each_put row_ids (λ r columns. IsRow columns) r columns rows row normal.each }
@@ -74,24 +74,7 @@ normal_set : (world : World) → IsUnambiguous world.model → (set : StoredSet)
 normal_set world clear [] h rows normal = normal
 normal_set world clear (e ∷ set) h rows normal = normal_object world clear e.0 e.1 h.0 (with_set world set rows) (normal_set world clear set h.1 rows normal)
 
--- ---- rows of next numbers
-
-normal_number : (table k : ℕ) (rows : Rows) → IsNormal rows → IsNormal (with_number table k rows)
-normal_number table k rows normal =
-    elim (k == 1) as (λ b. IsNormal (cond b rows (put row_cmp (number_row table) (number_columns k) rows))) [
-      | true ↦ normal
-      | false ↦ normal_put (number_row table) (number_columns k) rows (one_cell _) normal
-    ]
-
-normal_next : (origin : Origin) (k : ℕ) (rows : Rows) → IsNormal rows → IsNormal (with_next origin k rows)
-normal_next (Origin.Root root) k rows normal =
-    elim root.generated as (λ b. IsNormal (cond b (with_number root.table k rows) rows)) [ true ↦ normal_number root.table k rows normal | false ↦ normal ]
-normal_next (Origin.Extends parent) k rows normal = normal
-
-normal_numbers : (ps : List (Entity × ℕ)) (rows : Rows) → IsNormal rows → IsNormal (with_numbers ps rows)
-normal_numbers [] rows normal = normal
-normal_numbers (p ∷ ps) rows normal = normal_next (p.0).origin p.1 (with_numbers ps rows) (normal_numbers ps rows normal)
+-- ---- and those of next numbers
 
 pub rows_normal : (world : World) → IsUnambiguous world.model → (set : StoredSet) (numbers : List ℕ) → AreStorable world set → IsNormal (rows_of world set numbers)
-rows_normal world clear set numbers h =
-    let ps = zip (world.model).entities numbers in normal_set world clear set h (with_numbers ps (base_of world.model)) (normal_numbers ps (base_of world.model) (normal_number 0 (world.model).revision [] (record { rising = tt; each = tt })))
+rows_normal world clear set numbers h = normal_set world clear set h (raw (number_rows world.model numbers)) (numbers_normal world.model clear numbers)

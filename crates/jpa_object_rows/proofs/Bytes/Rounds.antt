@@ -16,14 +16,16 @@ use Rattle.jpa_rows.specs.Cells.{CanBeHeld, all_representable, all_pass, names_r
 use Rattle.jpa_row_laws.proofs.Facts.{is_less, first_holds, second_holds, and_first, and_second, and_both}
 use Rattle.jpa_row_laws.proofs.Maps.{put_first}
 use Rattle.jpa_object_rows.specs.Rows.{Rows, AreRising}
-use Rattle.jpa_object_rows.specs.Written.{base_of, with_set, with_numbers, rows_of}
+use Rattle.jpa_object_rows.specs.Written.{with_set, rows_of}
 use Rattle.jpa_object_rows.specs.View.{set_of, Pairs, pairs_of, PairsAre, SideHas, AreStorable}
+use Rattle.jpa_object_rows.specs.Raw.{raw}
+use Rattle.jpa_rows.specs.NextNumbers.{number_rows}
 use Rattle.jpa_object_rows.specs.Unambiguous.{IsUnambiguous}
 use Rattle.jpa_object_rows.specs.Identities.{IsSpelled}
 use Rattle.jpa_object_rows.proofs.Bytes.Others.{Stays, stays_self, stays_then}
 use Rattle.jpa_object_rows.proofs.Bytes.Reading.{object_spelled}
 use Rattle.jpa_object_rows.proofs.Bytes.Whole.{with_object_rises, object_stays, object_put}
-use Rattle.jpa_object_rows.proofs.Bytes.Numbers.{base_rises, base_put, base_stays, with_numbers_rise, with_numbers_stay, numbers_put}
+use Rattle.jpa_object_rows.proofs.Bytes.Numbers.{numbers_rise, numbers_no_set, numbers_no_pairs}
 
 pub with_set_rises : (world : World) (set : StoredSet) (rows : Rows) → AreRising rows → AreRising (with_set world set rows)
 with_set_rises world [] rows rise = rise
@@ -70,9 +72,7 @@ pub set_read : (world : World) → IsUnambiguous world.model → IsRegular world
     → set_of world (rows_of world set numbers) ≡ set
 set_read world clear regular set numbers up h =
     let m = world.model in
-    let ps = zip m.entities numbers in
-    set_read_over world clear regular (with_numbers ps (base_of m)) (with_numbers_rise ps (base_of m) (base_rises m)) (numbers_put world clear ps (base_of m) (base_rises m) ∙ base_put world clear)
-    (λ q sq join target. (λ i. (with_numbers_stay m clear q sq ps (base_of m) (base_rises m)).pairs i join target) ∙ (λ i. (base_stays m clear q sq).pairs i join target)) set up h
+    set_read_over world clear regular (raw (number_rows m numbers)) (numbers_rise m clear numbers) (numbers_no_set world clear numbers) (λ q sq join target. numbers_no_pairs m clear numbers q join target) set up h
 
 -- so rows stand for at most one set
 pub one_set : (world : World) → IsUnambiguous world.model → IsRegular world → (s t : StoredSet) (k n : List ℕ) → T (is_sorted identity_cmp s) → T (is_sorted identity_cmp t)

@@ -8,6 +8,8 @@ module karzhoul.jpa {
     requires transitive jakarta.persistence;
     requires net.bytebuddy;
     requires java.sql;
+    requires java.management;
+    requires jdk.jfr;
 
     exports karzhoul.jpa;
     // For the classes of proxies, which are made in the modules of their entities; not for applications.

@@ -218,19 +218,28 @@ final class Context {
 
     private void enter() {
         Session now = factory.pool().enter(session, waitMillis);
+        boolean isBegun = isActive && now.engine().isShared();
+        while (isBegun && !factory.pool().begin(now)) {
+            now = factory.pool().enter(session, waitMillis);
+        }
         boolean isOther = now != session;
         hold(now);
         try {
             if (isOther) {
                 renumbered(now);
             }
-            if (isActive) {
+            if (isActive && !isBegun) {
                 queue.begin(now.manager());
-                hasBegun = true;
             }
+            hasBegun = isActive;
+            isBeginSent = isBegun;
         } catch (RuntimeException e) {
-            factory.pool().leave(now);
             hold(null);
+            if (isBegun) {
+                factory.pool().abandon(now);
+            } else {
+                factory.pool().leave(now);
+            }
             throw e;
         }
     }

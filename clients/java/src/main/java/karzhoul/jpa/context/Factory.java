@@ -23,7 +23,6 @@ import java.util.function.Function;
 import java.util.function.Predicate;
 import karzhoul.jpa.Karzhoul;
 import karzhoul.jpa.criteria.Builder;
-import karzhoul.jpa.engine.Engine;
 import karzhoul.jpa.engine.Pool;
 import karzhoul.jpa.engine.Program;
 import karzhoul.jpa.graph.Graphs;
@@ -53,6 +52,8 @@ public final class Factory implements EntityManagerFactory {
     private final Graphs graphs;
     private final UnitMetamodel metamodel;
     private final Builder criteria;
+    private final Karzhoul beyond;
+    private final FactoryBean bean;
     private Function<Context, Push> pushing = Push::new;
 
 
@@ -83,6 +84,21 @@ public final class Factory implements EntityManagerFactory {
         settings.unit().entities().forEach(entity -> mapped.put(entity.mappedName(), entity));
         settings.unit().hidden().forEach(entity -> mapped.put(entity.mappedName(), entity));
         properties = Map.copyOf(settings.properties());
+        beyond = new KarzhoulOf(this, program);
+        bean = isBean(settings.properties()) ? bean() : null;
+    }
+
+    private static boolean isBean(Map<String, Object> properties) {
+        return String.valueOf(properties.get("karzhoul.jmx")).trim().equals("true");
+    }
+
+    private FactoryBean bean() {
+        try {
+            return new FactoryBean(settings.name(), beyond);
+        } catch (PersistenceException refused) {
+            program.close();
+            throw refused;
+        }
     }
 
     /** The entities of which this is true, and those from which a flush may lead to one of them. */
@@ -215,6 +231,9 @@ public final class Factory implements EntityManagerFactory {
         if (!isOpen.compareAndSet(true, false)) {
             throw new IllegalStateException("the entity manager factory is closed already");
         }
+        if (bean != null) {
+            bean.close();
+        }
         program.close();
     }
 
@@ -245,18 +264,11 @@ public final class Factory implements EntityManagerFactory {
     @Override
     public <T> T unwrap(Class<T> cls) {
         if (cls == Karzhoul.class) {
-            return cls.cast((Karzhoul) this::statistics);
+            return cls.cast(beyond);
         } else if (cls.isInstance(this)) {
             return cls.cast(this);
         }
         throw new PersistenceException("an entity manager factory of Karzhoul is no " + cls.getName());
-    }
-
-    private Karzhoul.Statistics statistics() {
-        needOpen();
-        Engine engine = pool().engine();
-        return new Karzhoul.Statistics(engine.calls(), engine.refusals(), engine.trips(), engine.made(),
-            pool().busy(), pool().run());
     }
 
     @Override

@@ -7,6 +7,7 @@ import java.util.ArrayList;
 import java.util.HashSet;
 import java.util.List;
 import java.util.Set;
+import karzhoul.jpa.CommitUnknownException;
 import karzhoul.jpa.engine.Event;
 import karzhoul.jpa.engine.Lines;
 import karzhoul.jpa.engine.ProgramEnded;
@@ -42,8 +43,8 @@ final class Flush {
     /** Flushes and commits; nothing is asked where nothing changed since the begin. */
     void commit() {
         prepare();
-        if (context.isTouched() && context.factory().writesFirst(context.identities().models())) {
-            write();
+        if (context.isTouched() && (context.factory().writesFirst(context.identities().models()) || !keyless().isEmpty())) {
+            write();                    // nothing is asked behind the commit: an end there would tell as refused what stands
         }
         if (!context.isTouched() && !context.isBegunThere()) {
             context.committed();
@@ -51,19 +52,19 @@ final class Flush {
         }
         context.send();                 // a change that were refused must not be behind a commit that is done
         queue.commit(context.manager());
-        context.hiddenRows().letGo();
         take(commitNow().events(), false);
         context.committed();
     }
 
     private Reply commitNow() {
         try {
-            return context.ask(0)[0];
+            return context.ask(0, (lines, number) -> context.hiddenRows().letGo(lines))[0];
         } catch (ProgramEnded e) {
-            throw e.isAsked() ? new CommitUnknown(e) : e;
+            throw e.isAsked() ? new CommitUnknownException(e.ofCommit(), e) : e;
         } catch (StoreFault e) {
             context.engine().close();       // its store is shut for good: the next entity manager has another one open it
-            throw new CommitUnknown(e);
+            throw new CommitUnknownException(e.getMessage() + " The program shut it as the commit was written: all of it is"
+                + " stored, or nothing. Look which before it is done again; the next entity manager starts the program", e);
         }
     }
 
@@ -144,6 +145,17 @@ final class Flush {
                     null, entry.instance()));
             }
         }
+    }
+
+    /** What may be persisted by the flush, and gets its key there. */
+    private List<Entry> keyless() {
+        List<Entry> keyless = new ArrayList<>();
+        for (Entry entry : context.identities().numbered()) {
+            if (entry.state() == Entry.State.NEW && Persist.isKeyless(entry)) {
+                keyless.add(entry);
+            }
+        }
+        return keyless;
     }
 
     private void write() {

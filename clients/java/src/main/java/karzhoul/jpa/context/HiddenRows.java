@@ -7,6 +7,7 @@ import java.util.HashSet;
 import java.util.List;
 import java.util.Map;
 import java.util.Set;
+import karzhoul.jpa.engine.Engine;
 import karzhoul.jpa.engine.Lines;
 import karzhoul.jpa.engine.Ref;
 import karzhoul.jpa.engine.Reply;
@@ -114,9 +115,9 @@ final class HiddenRows {
         }
     }
 
-    /** Lets all rows go, behind the commit: who commits next with this manager is to read them anew. */
-    void letGo() {
-        managed.forEach(number -> queue.detach(context.manager(), number));
+    /** Lets all rows go, behind the commit, which stands without: who commits next with this manager is to read them anew. */
+    void letGo(Lines behind) {
+        managed.forEach(number -> behind.detach(context.manager(), number).about(Engine.BEHIND));
     }
 
     /** The transaction has ended, or its manager was cleared. */

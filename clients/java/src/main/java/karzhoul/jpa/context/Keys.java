@@ -24,6 +24,7 @@ final class Keys {
         EntityModel model = entry.model();
         Object instance = entry.instance();
         give(model, instance);
+        persistFirst(model, instance);
         derive(model, instance);
         if (model.key().generation() != KeyModel.Generation.COUNTER && Targets.keyOf(model, instance) == null) {
             context.runAhead(Callbacks.Event.PrePersist, entry);
@@ -67,7 +68,11 @@ final class Keys {
                 throw context.marked(new PersistenceException("the key of a new " + model.name() + " is that of its "
                     + derived.from().path() + ", which is null"));
             }
-            List<Object> key = keyOf(from, derived, model);
+            List<Object> key = known(from);
+            if (key == null) {
+                throw context.marked(new IllegalStateException("the key of a new " + model.name() + " is that of its "
+                    + derived.from().path() + ", which has none yet: persist it first"));
+            }
             for (int i = 0; i < key.size(); i++) {
                 Attribute part = derived.parts().get(i);
                 part.set(instance, part.codec().toAttribute(key.get(i)));
@@ -75,17 +80,42 @@ final class Keys {
         }
     }
 
-    private List<Object> keyOf(Object from, KeyModel.Derived derived, EntityModel model) {
-        Entry target = context.entryOf(from);
-        boolean isNew = target == null || target.state() == Entry.State.NEW;
-        if (isNew && derived.from().cascades().contains(CascadeType.PERSIST) && !(from instanceof Proxied)) {
-            new Persist(context).of(from);
+    /** The key of an instance; null where it has none yet, or where that of before was rolled back with its row. */
+    List<Object> known(Object instance) {
+        Entry entry = context.entryOf(instance);
+        if (entry != null && entry.key() != null) {
+            return entry.key();
         }
-        List<Object> key = Targets.keyOf(context.modelOf(from), from);
-        if (key == null) {
-            throw context.marked(new IllegalStateException("the key of a new " + model.name() + " is that of its "
-                + derived.from().path() + ", which has none yet: persist it first"));
+        EntityModel model = context.modelOf(instance);
+        boolean isGivenAgain = model.key().generation() == KeyModel.Generation.COUNTER && context.isNeverStored(instance);
+        return isGivenAgain ? null : Targets.keyOf(model, instance);
+    }
+
+    /** Persists at first what a new instance has its key from, where the relation to it cascades that. */
+    private void persistFirst(EntityModel model, Object instance) {
+        for (KeyModel.Derived derived : model.key().derived()) {
+            Object from = derived.from().get(instance);
+            if (from == null || from instanceof Proxied || !derived.from().cascades().contains(CascadeType.PERSIST)) {
+                continue;
+            }
+            Entry entry = context.entryOf(from);
+            if (entry == null || entry.state() == Entry.State.NEW) {
+                new Persist(context).of(from);
+            }
         }
-        return key;
+    }
+
+    /** Whether keys of others are derived from the one that the program gives an entity. */
+    boolean isGivenOn(EntityModel model) {
+        return model.key().generation() == KeyModel.Generation.COUNTER && context.factory().unit().entities().stream()
+            .flatMap(other -> other.key().derived().stream())
+            .anyMatch(derived -> derived.from().target().root() == model.root());
+    }
+
+    /** Has the program persist one before it is told what it leads to, since others are to have its key. */
+    void persistAlone(Entry entry) {
+        context.queue().persist(context.manager(), entry.number()).about(entry);
+        context.touched(true);
+        Persist.askKeys(context, List.of(entry));
     }
 }

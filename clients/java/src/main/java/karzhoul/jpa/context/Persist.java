@@ -5,8 +5,13 @@ import jakarta.persistence.EntityExistsException;
 import jakarta.persistence.PersistenceException;
 import java.util.ArrayDeque;
 import java.util.ArrayList;
+import java.util.Collections;
 import java.util.Deque;
+import java.util.IdentityHashMap;
+import java.util.LinkedHashMap;
 import java.util.List;
+import java.util.Map;
+import java.util.Set;
 import karzhoul.jpa.engine.Lines;
 import karzhoul.jpa.engine.Reply;
 import karzhoul.jpa.model.Attribute;
@@ -25,6 +30,8 @@ final class Persist {
     private final Graph graph;
     private final List<Object> fresh = new ArrayList<>();
     private final List<Entry> made = new ArrayList<>();
+    /** What was persisted before the others for its key, with the key that it had. */
+    private final Map<Entry, Object> alone = new LinkedHashMap<>();
 
     Persist(Context context) {
         this.context = context;
@@ -39,6 +46,9 @@ final class Persist {
         }
         try {
             List<Entry> reached = reach(root);
+            Set<Object> waiting = Collections.newSetFromMap(new IdentityHashMap<>());
+            waiting.addAll(fresh);
+            List.copyOf(fresh).forEach(instance -> derive(instance, waiting));
             Push push = context.push();
             for (Object instance : fresh) {
                 made.add(push.known(instance));
@@ -55,12 +65,28 @@ final class Persist {
 
     /** What was refused is new as before, and may be persisted another time. */
     private void giveUp() {
+        alone.forEach(this::takeBack);
         for (Object instance : fresh) {
             Entry entry = context.entryOf(instance);
             if (entry != null && entry.state() == Entry.State.NEW) {
                 context.forget(entry);
             }
         }
+    }
+
+    /** Lets go, in the program, of what was persisted alone, without what it was told that it leads to; its key goes. */
+    private void takeBack(Entry entry, Object keyBefore) {
+        Lines queue = context.queue();
+        for (Relation relation : entry.model().relations()) {
+            if (relation.isMany()) {
+                ((List<?>) entry.relations[relation.place()]).forEach(member ->
+                    queue.takeOut(entry.number(), relation.member(), ((Entry) member).number()));
+            } else {
+                queue.link(entry.number(), relation.member(), 0);
+            }
+        }
+        queue.detach(context.manager(), entry.number());
+        entry.model().key().assign(entry.instance(), keyBefore);
     }
 
     /** Prepares all that is new along the cascade; answers what is managed already. */
@@ -99,7 +125,28 @@ final class Persist {
             Entry ahead = entry == null ? aheadOf(model, instance) : entry;
             context.runAhead(Callbacks.Event.PrePersist, ahead);
         }
+    }
+
+    /** Derives the key of what is new from those of others, which get theirs before, where the program gives it. */
+    private void derive(Object instance, Set<Object> waiting) {
+        if (!waiting.remove(instance)) {
+            return;
+        }
+        EntityModel model = context.modelOf(instance);
+        for (KeyModel.Derived derived : model.key().derived()) {
+            Object from = derived.from().get(instance);
+            derive(from, waiting);
+            Entry entry = context.entryOf(from);
+            if (entry != null && entry.state() == Entry.State.NEW && isKeyless(entry) && isFresh(from)) {
+                alone.put(entry, entry.model().key().of(from));
+                new Keys(context).persistAlone(entry);
+            }
+        }
         new Keys(context).derive(model, instance);
+    }
+
+    private boolean isFresh(Object instance) {
+        return fresh.stream().anyMatch(one -> one == instance);
     }
 
     /** A generated key that is set, or a proxy that isn't this context's, is of what was stored before. */
@@ -142,6 +189,18 @@ final class Persist {
 
     /** These are managed, once the calls that wait are done; keys that the program gives are asked for. */
     static void manage(Context context, List<Entry> persisted) {
+        askKeys(context, persisted);
+        for (Entry entry : persisted) {
+            if (entry.state() == Entry.State.NEW) {
+                context.isMade(entry);
+            }
+            entry.state(Entry.State.MANAGED);
+            context.identities().put(entry);
+        }
+    }
+
+    /** Gives those their keys that the program gave. */
+    static void askKeys(Context context, List<Entry> persisted) {
         Lines queue = context.queue();
         int from = queue.count();
         List<Entry> keyed = persisted.stream().filter(Persist::isKeyless).toList();
@@ -153,13 +212,6 @@ final class Persist {
             for (int i = 0; i < replies.length; i++) {
                 giveKey(keyed.get(i), replies[i].ok());
             }
-        }
-        for (Entry entry : persisted) {
-            if (entry.state() == Entry.State.NEW) {
-                context.isMade(entry);
-            }
-            entry.state(Entry.State.MANAGED);
-            context.identities().put(entry);
         }
     }
 

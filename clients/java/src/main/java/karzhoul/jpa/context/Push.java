@@ -11,6 +11,7 @@ import java.util.List;
 import java.util.Map;
 import karzhoul.jpa.engine.Lines;
 import karzhoul.jpa.model.Attribute;
+import karzhoul.jpa.model.Callbacks;
 import karzhoul.jpa.model.EntityModel;
 import karzhoul.jpa.model.KeyModel;
 import karzhoul.jpa.model.Relation;
@@ -100,13 +101,16 @@ class Push {
         if (entry.isHollow() || entry.state() == Entry.State.DETACHED) {
             return;
         }
-        Object instance = told.getOrDefault(entry, entry.instance());
+        tellValues(entry, told.getOrDefault(entry, entry.instance()));
+        tellRelations(entry);
+    }
+
+    private void tellValues(Entry entry, Object instance) {
         for (Attribute attribute : entry.model().attributes()) {
             if (attribute.role() != Attribute.Role.VERSION) {
                 value(entry, attribute, attribute.get(instance));
             }
         }
-        tellRelations(entry);
     }
 
     private void tellRelations(Entry entry) {
@@ -314,9 +318,22 @@ class Push {
         entry.number(context.newNumber(model));
         identities.put(entry);
         if (isPersisted) {
-            new Keys(context).prepare(entry);
+            prepare(entry);
         }
         work.add(entry);
         return entry;
+    }
+
+    /** Prepares what is going to be persisted; one that gives others its key is, with its values, before they are met. */
+    private void prepare(Entry entry) {
+        Keys keys = new Keys(context);
+        if (!keys.isGivenOn(entry.model())) {
+            keys.prepare(entry);
+            return;
+        }
+        context.runAhead(Callbacks.Event.PrePersist, entry);
+        tellValues(entry, entry.instance());
+        keys.persistAlone(entry);
+        Persist.manage(context, List.of(entry));
     }
 }

@@ -2,6 +2,7 @@ package karzhoul.jpa.context;
 
 import jakarta.persistence.EntityTransaction;
 import jakarta.persistence.RollbackException;
+import karzhoul.jpa.CommitUnknownException;
 import karzhoul.jpa.engine.Refusals;
 
 /** A resource-local transaction of an entity manager (chapter 7.5.3). */
@@ -24,7 +25,7 @@ final class Transaction implements EntityTransaction {
      * Commits what changed.
      *
      * @throws RollbackException where it can't be committed: it is rolled back then, and all is detached
-     * @throws CommitUnknown where the program ended before it answered, so that all of it stands, or nothing
+     * @throws CommitUnknownException where the program ended before it answered, so that all of it stands, or nothing
      */
     @Override
     public void commit() {
@@ -42,7 +43,7 @@ final class Transaction implements EntityTransaction {
             Culprits culprits = new Culprits(context);
             context.rolledBack(true);
             throw culprits.named(e);
-        } catch (CommitUnknown e) {
+        } catch (CommitUnknownException e) {
             context.forgetMade();
             rollBackAfter(e);
             throw e;

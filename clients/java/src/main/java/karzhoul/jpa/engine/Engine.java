@@ -4,20 +4,18 @@ import jakarta.persistence.PersistenceException;
 import java.io.IOException;
 import java.io.InputStream;
 import java.io.OutputStream;
-import java.nio.charset.StandardCharsets;
 import java.util.ArrayDeque;
 import java.util.Deque;
-import java.util.List;
-import java.util.concurrent.TimeUnit;
 import java.util.concurrent.atomic.LongAdder;
 import java.util.concurrent.locks.ReentrantLock;
 import java.util.function.ObjLongConsumer;
 
 /**
- * A running program behind its two pipes: lines go out, replies come in, one batch at a time. Safe for all threads.
+ * A running program behind two pipes, or behind a server: lines go out, replies come in, one batch at a time. Safe for
+ * all threads.
  *
  * <p>At most {@link #WINDOW} bytes are unanswered, less than a pipe holds: so neither side waits for the other for
- * ever, and no thread that reads is needed. The program ends with its input, so also with a JVM that is killed.
+ * ever, and no thread that reads is needed.
  */
 public final class Engine implements AutoCloseable {
     /** A batch, and what its last lines are once the number that the next object gets is known. */
@@ -26,7 +24,12 @@ public final class Engine implements AutoCloseable {
 
     /** How many bytes are unanswered at most. */
     public static final int WINDOW = 60_000;
-    private static final long PATIENCE = 10;
+
+    /** What a call is about that stands behind a commit, which is done whatever becomes of the call. */
+    public static final Object BEHIND = "what is let go";
+
+    /** What a call is about that only looks whether its number is of the present run. */
+    private static final Object PROBE = "the present run";
 
     /** Calls that were sent ahead. */
     public static final class Sent {
@@ -44,7 +47,7 @@ public final class Engine implements AutoCloseable {
     }
 
     private final ReentrantLock lock = new ReentrantLock();
-    private final Process process;
+    private final Transport transport;
     private final OutputStream out;
     private final InputStream in;
     private final Replies replies;
@@ -53,24 +56,18 @@ public final class Engine implements AutoCloseable {
     private int unreadBytes;
     private volatile IOException end;
     private volatile long made;
+    /** The last number that is known to be of before a new run of the server. */
+    private volatile long before;
+    private boolean isTold;
     private final LongAdder calls = new LongAdder();
     private final LongAdder refusals = new LongAdder();
     private final LongAdder trips = new LongAdder();
 
-    /**
-     * Starts the program.
-     *
-     * @throws PersistenceException where it can't be started
-     */
-    Engine(List<String> command, Journal journal) {
+    Engine(Transport transport, Journal journal) {
+        this.transport = transport;
         this.journal = journal;
-        try {
-            process = ProgramProcess.start(command, ProcessBuilder.Redirect.PIPE);
-        } catch (IOException e) {
-            throw new PersistenceException("the program " + command.get(0) + " can't be started: " + e.getMessage(), e);
-        }
-        out = process.getOutputStream();
-        in = process.getInputStream();
+        out = transport.out();
+        in = transport.in();
         replies = new Replies(in);
     }
 
@@ -96,12 +93,93 @@ public final class Engine implements AutoCloseable {
 
     /** Whether it runs still, as far as is known. */
     public boolean isRunning() {
-        return end == null && process.isAlive();
+        if (!isShared()) {
+            return end == null && transport.isOpen();
+        }
+        if (end != null || !lock.tryLock()) {
+            return end == null;             // who asks it at this moment finds out
+        }
+        try {
+            while (!unread.isEmpty()) {
+                readOldest();
+            }
+            return transport.isOpen();
+        } catch (IOException e) {
+            broken(e);
+            return false;
+        } finally {
+            lock.unlock();
+        }
     }
 
-    /** The process of the program. */
+    /** The process of the program; 0 where a server has it. */
     public long pid() {
-        return process.pid();
+        return transport.pid();
+    }
+
+    /** Whether other processes have managers of the same program, since a server has it. */
+    public boolean isShared() {
+        return transport instanceof ServerConnection;
+    }
+
+    /**
+     * Waits until a manager of the server is kept free for this one.
+     *
+     * @return null, or why none became free in so many milliseconds
+     * @throws IOException where the server has ended, or the thread was interrupted
+     */
+    String turn(long millis) throws IOException {
+        return ((ServerConnection) transport).turn(millis);
+    }
+
+    /** Whether the numbers that were told are of a run that the server has ended. */
+    boolean isRunOver() {
+        Lines lines = new Lines();
+        long probed = probe(lines);
+        return probed > 0 && isOver(ask(lines)[0], probed);
+    }
+
+    /** Adds a call that is refused where the server has begun a new run; answers its number, or 0 where it adds none. */
+    long probe(Lines lines) {
+        long last = made;
+        if (!isShared() || last <= before) {
+            return 0;
+        }
+        lines.values(new long[] {last}, 0, 1).about(PROBE);
+        return last;
+    }
+
+    /** Whether the reply to a {@link #probe} of this number tells a new run. */
+    boolean isOver(Reply reply, long probed) {
+        if (reply.isOfBefore()) {
+            lock.lock();
+            try {
+                before = Math.max(before, probed);
+            } finally {
+                lock.unlock();
+            }
+        }
+        return reply.isOfBefore();
+    }
+
+    /**
+     * Begins the transaction of a manager of the server, during which it begins no new run.
+     *
+     * @return false where a new run came before: then none is begun
+     */
+    boolean begin(long manager) {
+        Lines lines = new Lines().begin(manager).about(PROBE);
+        long probed = probe(lines);
+        Reply[] replies = ask(lines);
+        if (replies[0].isOfBefore()) {
+            return false;
+        } else if (replies[0].isRefused()) {
+            throw Refusals.of(Refusals.words(replies[0]), null);
+        } else if (probed > 0 && isOver(replies[1], probed)) {
+            ask(new Lines().rollback(manager));
+            return false;
+        }
+        return true;
     }
 
     /**
@@ -116,7 +194,7 @@ public final class Engine implements AutoCloseable {
             description.check(out, in);
         } catch (IOException e) {
             end = e;
-            throw ended(e, true);
+            throw transport.ended(e, true);
         } finally {
             lock.unlock();
         }
@@ -139,7 +217,7 @@ public final class Engine implements AutoCloseable {
         lock.lock();
         try {
             if (end != null) {
-                throw ended(end, false);
+                throw transport.ended(end, false);
             }
             while (!unread.isEmpty()) {
                 readOldest();
@@ -147,6 +225,7 @@ public final class Engine implements AutoCloseable {
             if (tail != null) {
                 tail.accept(lines, made + 1);
             }
+            isTold = journal.isTold();
             return exchange(lines);
         } catch (IOException e) {
             throw broken(e);
@@ -155,10 +234,30 @@ public final class Engine implements AutoCloseable {
         }
     }
 
+    /** What isn't to be done while calls are under way. */
+    interface Copying {
+        void copy() throws IOException;
+    }
+
+    /**
+     * Does this while no call is under way: so between two commits.
+     *
+     * @throws IOException where it does
+     */
+    void still(Copying work) throws IOException {
+        lock.lock();
+        try {
+            ask(new Lines());
+            work.copy();
+        } finally {
+            lock.unlock();
+        }
+    }
+
     private ProgramEnded broken(IOException e) {
         end = e;
-        process.destroy();
-        return ended(e, true);
+        transport.destroy();
+        return transport.ended(e, true);
     }
 
     /**
@@ -172,12 +271,13 @@ public final class Engine implements AutoCloseable {
         lock.lock();
         try {
             if (end != null) {
-                throw ended(end, false);
+                throw transport.ended(end, false);
             }
             Sent sent = new Sent(lines);
             while (!unread.isEmpty() && unreadBytes + lines.length() > WINDOW) {
                 readOldest();
             }
+            isTold = journal.isTold();
             unread.add(sent);
             unreadBytes += lines.length();
             trips.increment();
@@ -214,6 +314,7 @@ public final class Engine implements AutoCloseable {
             }
             replies.restarted();
             made = 0;
+            before = 0;
         } finally {
             lock.unlock();
         }
@@ -221,6 +322,8 @@ public final class Engine implements AutoCloseable {
 
     private Reply[] exchange(Lines lines) throws IOException {
         Reply[] told = new Reply[lines.count()];
+        Timing timing = journal.isTimed() ? new Timing(lines) : null;
+        Object recorded = Recording.isOn() ? TripEvent.begun() : null;
         byte[] bytes = lines.bytes();
         int sent = 0;
         int from = 0;
@@ -235,11 +338,32 @@ public final class Engine implements AutoCloseable {
             from = to;
             while (done < sent) {
                 told[done] = told(lines, done);
+                if (timing != null) {
+                    timing.answered(done);
+                }
+                if (isShared() && told[done].isRefused()) {
+                    ServerConnection.check(told[done], done == 0);
+                }
                 done++;
             }
         }
         made = replies.made();
+        if (timing != null) {
+            timing.end(journal);
+        }
+        if (recorded != null) {
+            TripEvent.ended(recorded, lines, told);
+        }
+        checkRun(told);
         return told;
+    }
+
+    private void checkRun(Reply[] told) {
+        for (Reply reply : told) {
+            if (isShared() && reply.isOfBefore() && reply.about() != PROBE && reply.about() != BEHIND) {
+                throw ((ServerConnection) transport).restarted(reply.why());
+            }
+        }
     }
 
     private Reply told(Lines lines, int place) throws IOException {
@@ -249,7 +373,7 @@ public final class Engine implements AutoCloseable {
             if (reply.isRefused()) {
                 refusals.increment();
             }
-            if (journal != null) {
+            if (isTold) {
                 journal.note(lines, place, reply);
             }
             return reply;
@@ -258,37 +382,15 @@ public final class Engine implements AutoCloseable {
         }
     }
 
-    private ProgramEnded ended(IOException cause, boolean isAsked) {
-        String told = "";
-        try {
-            if (process.waitFor(PATIENCE, TimeUnit.SECONDS)) {
-                byte[] words = process.getErrorStream().readNBytes(4096);
-                String said = new String(words, StandardCharsets.UTF_8).strip();
-                told = " (status " + process.exitValue() + (said.isEmpty() ? "" : ": " + said) + ")";
-            }
-        } catch (InterruptedException e) {
-            Thread.currentThread().interrupt();
-        } catch (IOException e) {
-            cause.addSuppressed(e);
-        }
-        return new ProgramEnded(told, isAsked, cause);
-    }
-
     /** Ends the program, once what is being asked was answered. */
     @Override
     public void close() {
         lock.lock();
         try {
             end = new IOException("it was closed");
-            out.close();
-            if (!process.waitFor(PATIENCE, TimeUnit.SECONDS)) {
-                process.destroy();
-            }
+            transport.close();
         } catch (IOException e) {
-            process.destroy();
-        } catch (InterruptedException e) {
-            process.destroy();
-            Thread.currentThread().interrupt();
+            transport.destroy();
         } finally {
             lock.unlock();
         }

@@ -100,6 +100,11 @@ public final class Lines {
         return put("{\"call\":\"restart\"}").end();
     }
 
+    /** Closes a manager, whose number names none from then on. */
+    public Lines close(long manager) {
+        return of("close", manager);
+    }
+
     public Lines begin(long manager) {
         return of("begin", manager);
     }

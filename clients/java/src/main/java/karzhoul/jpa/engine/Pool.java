@@ -1,15 +1,19 @@
 package karzhoul.jpa.engine;
 
 import jakarta.persistence.PersistenceException;
+import java.io.IOException;
+import java.io.InterruptedIOException;
 import java.util.ArrayDeque;
 import java.util.Deque;
 import java.util.Iterator;
 import java.util.LinkedHashSet;
+import java.util.List;
 import java.util.Set;
 import java.util.concurrent.TimeUnit;
 import java.util.concurrent.locks.Condition;
 import java.util.concurrent.locks.ReentrantLock;
 import java.util.function.Supplier;
+import karzhoul.jpa.Karzhoul;
 
 /**
  * The program's managers, given to the entity managers that need one, and the program's runs. Safe for all threads.
@@ -19,6 +23,9 @@ import java.util.function.Supplier;
  * of the objects that it may; who wants to begin then waits, but not longer than {@link #PATIENCE}, since a thread
  * may wait for itself; then nobody waits until so many more objects are made. Where all managers of the program are held, one that isn't busy is taken from its holder, who
  * finds its objects again at its next use.
+ *
+ * <p>Over a server the managers are shared with other processes: so one is closed as soon as it is given back, and where
+ * it was idle for {@link #IDLE} or another thread needs one, and who needs one waits in the server's queue.
  */
 public final class Pool implements AutoCloseable {
     /** How many managers the program opens at a time. */
@@ -33,9 +40,13 @@ public final class Pool implements AutoCloseable {
     private static final int MOST_HIGH = 800_000;
     private static final long PATIENCE = TimeUnit.MILLISECONDS.toNanos(200);
 
+    /** For how long a manager of a server is kept by who has objects and no transaction. */
+    private static final long IDLE = TimeUnit.SECONDS.toNanos(1);
+
     private final Supplier<Engine> starting;
     private final ReentrantLock lock = new ReentrantLock();
     private final Condition changed = lock.newCondition();
+    private final Condition idled = lock.newCondition();
     private final Deque<Session> free = new ArrayDeque<>();
     private final Set<Session> idle = new LinkedHashSet<>();
     private final Numbers numbers = new Numbers();
@@ -44,6 +55,15 @@ public final class Pool implements AutoCloseable {
     private int run = 1;
     private int opened;
     private int busy;
+    /** How many wait in the server's queue, and why it refused a manager. */
+    private int queued;
+    /** How many wait for a manager in any way; and what the programs before the present one were asked. */
+    private int waiting;
+    private long calls;
+    private long refusals;
+    private long trips;
+    private int programs = 1;
+    private String refusal;
     private long high = HIGH;
     private long gate = HIGH;
     private boolean isClosed;
@@ -51,6 +71,12 @@ public final class Pool implements AutoCloseable {
     Pool(Supplier<Engine> starting) {
         this.starting = starting;
         engine = starting.get();
+        if (engine.isShared()) {
+            Thread thread = new Thread(null, this::giveUpIdle, "karzhoul idle managers", 0, false);
+            thread.setContextClassLoader(ClassLoader.getSystemClassLoader());
+            thread.setDaemon(true);
+            thread.start();
+        }
     }
 
     /** The numbers of new objects, of the present run. */
@@ -73,14 +99,22 @@ public final class Pool implements AutoCloseable {
         }
     }
 
-    /** How many managers are in use at this moment. */
-    public int busy() {
+    /** What was asked of all programs of this pool, and how its managers stand. */
+    public Karzhoul.Statistics statistics() {
         lock.lock();
         try {
-            return busy;
+            return new Karzhoul.Statistics(calls + engine.calls(), refusals + engine.refusals(), trips + engine.trips(),
+                engine.made(), busy, idle.size(), waiting, run, programs);
         } finally {
             lock.unlock();
         }
+    }
+
+    private void replaced() {
+        calls += engine.calls();
+        refusals += engine.refusals();
+        trips += engine.trips();
+        programs++;
     }
 
     /** The running program. */
@@ -107,14 +141,23 @@ public final class Pool implements AutoCloseable {
             long start = System.nanoTime();
             for (;;) {
                 long passed = System.nanoTime() - start;
-                Session session = isAdmitted(passed) ? sessionFor(held) : null;
+                Session session = isReached(passed, waitMillis) && isAdmitted(passed) ? sessionFor(held) : null;
                 if (session != null) {
                     session.isBusy = true;
                     idle.remove(session);
                     busy++;
                     return session;
                 }
-                await(passed, TimeUnit.MILLISECONDS.toNanos(waitMillis));
+                waiting++;
+                try {
+                    if (refusal != null) {
+                        queue(TimeUnit.MILLISECONDS.toNanos(waitMillis) - passed);
+                    } else {
+                        await(passed, TimeUnit.MILLISECONDS.toNanos(waitMillis));
+                    }
+                } finally {
+                    waiting--;
+                }
             }
         } finally {
             lock.unlock();
@@ -129,11 +172,16 @@ public final class Pool implements AutoCloseable {
                 session.isBusy = false;
                 busy--;
                 if (isThere(session)) {
+                    session.idleSince = System.nanoTime();
                     idle.add(session);
+                    idled.signal();
+                    if (queued > 0) {
+                        giveUp(session);
+                    }
                 }
             }
             if (busy == 0 && engine.made() >= high && engine.isRunning()) {
-                restart();
+                restartLater();
             }
             changed.signalAll();
         } finally {
@@ -154,7 +202,9 @@ public final class Pool implements AutoCloseable {
                 busy--;
             }
             idle.remove(session);
-            if (isThere(session)) {
+            if (engine.isShared()) {
+                closeManager(session);
+            } else if (isThere(session)) {
                 session.isLost = true;
                 free.push(new Session(session.engine(), session.manager(), session.run(), needsClear));
             }
@@ -216,21 +266,36 @@ public final class Pool implements AutoCloseable {
         try {
             isClosed = true;
             changed.signalAll();
+            idled.signal();
         } finally {
             lock.unlock();
         }
         engine.close();
     }
 
-    private boolean isAdmitted(long passed) {
+    /** Whether the program runs, which is started again where it doesn't; a server may be starting meanwhile. */
+    private boolean isReached(long passed, long waitMillis) {
         if (isClosed) {
             throw new IllegalStateException("the entity manager factory is closed");
         }
         if (!engine.isRunning()) {
             engine.close();
-            engine = starting.get();
+            try {
+                Engine next = starting.get();
+                replaced();
+                engine = next;
+            } catch (NotServed e) {
+                if (passed > TimeUnit.MILLISECONDS.toNanos(waitMillis)) {
+                    throw e;
+                }
+                return false;
+            }
             forgetRun();
         }
+        return true;
+    }
+
+    private boolean isAdmitted(long passed) {
         if (engine.made() >= high && busy == 0) {
             restart();
         }
@@ -241,23 +306,39 @@ public final class Pool implements AutoCloseable {
     }
 
     private Session sessionFor(Session held) {
+        refusal = null;
         if (held != null && isThere(held)) {
-            return held;
+            if (!engine.isRunOver()) {
+                return held;
+            }
+            List.copyOf(idle).forEach(this::giveUp);
+            forgetRun();
         }
         if (!free.isEmpty()) {
             return free.pop();
         }
-        return opened < MANAGERS ? open() : takeIdle();
+        Session made = opened < MANAGERS ? open() : null;
+        return made == null ? takeIdle() : made;
     }
 
     private boolean isThere(Session session) {
         return !session.isLost && session.run() == run;
     }
 
+    /** Null where other processes have the managers of a server. */
     private Session open() {
-        Lines lines = new Lines().createEntityManager();
-        Reply reply = engine.ask(lines)[0];
-        if (reply.isRefused()) {
+        Lines lines = new Lines();
+        long probed = engine.probe(lines);
+        Reply[] replies = engine.ask(lines.createEntityManager());
+        if (probed > 0 && engine.isOver(replies[0], probed)) {
+            List.copyOf(idle).forEach(this::giveUp);
+            forgetRun();
+        }
+        Reply reply = replies[replies.length - 1];
+        if (reply.isRefused() && engine.isShared() && reply.error().equals("Limit")) {
+            refusal = reply.why();
+            return null;
+        } else if (reply.isRefused()) {
             throw Refusals.of(reply);
         }
         long manager = (Long) reply.ok();
@@ -275,7 +356,116 @@ public final class Pool implements AutoCloseable {
         Session taken = idles.next();
         idles.remove();
         taken.isLost = true;
+        refusal = null;
         return new Session(engine, taken.manager(), run, true);
+    }
+
+    // ---- over a server ---------------------------------------------------------------------------------------------
+
+    /**
+     * Begins the transaction of one that is busy, so that the server begins no new run until it ends.
+     *
+     * @return false where a new run came before: then what it holds is lost, and it is to {@link #enter} again
+     */
+    public boolean begin(Session session) {
+        try {
+            if (session.engine().begin(session.manager())) {
+                return true;
+            }
+        } catch (RuntimeException e) {
+            giveBack(session, true);
+            throw e;
+        }
+        endRun(session);
+        return false;
+    }
+
+    /** It isn't busy any more, and its run is over. */
+    private void endRun(Session session) {
+        lock.lock();
+        try {
+            boolean isOver = isThere(session) && session.engine() == engine;
+            giveBack(session, true);
+            if (isOver) {
+                List.copyOf(idle).forEach(this::giveUp);
+                forgetRun();
+            }
+        } finally {
+            lock.unlock();
+        }
+    }
+
+    /** Lets a manager of the server go; also one that was kept over the beginning of a new run. */
+    private void closeManager(Session session) {
+        if (session.isLost || session.engine() != engine) {
+            return;
+        }
+        if (isThere(session)) {
+            opened--;
+        }
+        session.isLost = true;
+        try {
+            engine.send(new Lines().close(session.manager()));
+        } catch (ProgramEnded ended) {
+            System.getLogger("karzhoul").log(System.Logger.Level.DEBUG, "a manager ended with its connection", ended);
+        }
+    }
+
+    private void giveUp(Session session) {
+        idle.remove(session);
+        closeManager(session);
+    }
+
+    /** Waits for a manager in the server's queue, while others go on. */
+    private void queue(long nanos) {
+        String why = refusal;
+        Engine asked = engine;
+        long millis = TimeUnit.NANOSECONDS.toMillis(nanos);
+        queued++;
+        lock.unlock();
+        try {
+            why = millis <= 0 ? why : asked.turn(millis);
+        } catch (InterruptedIOException e) {
+            Thread.currentThread().interrupt();
+            throw new PersistenceException("interrupted while it waited for a manager of the server", e);
+        } catch (IOException | NotServed e) {
+            why = null;                     // the next look at the engine finds that it has ended
+        } finally {
+            lock.lock();
+            queued--;
+        }
+        if (why != null) {
+            throw new PersistenceException("Limit: " + why + " (karzhoul.pool.wait): close or commit sooner, or wait longer");
+        }
+    }
+
+    /** Managers of who has objects and no transaction are others' after a while; the objects are found again. */
+    private void giveUpIdle() {
+        lock.lock();
+        try {
+            while (!isClosed) {
+                long now = System.nanoTime();
+                List.copyOf(idle).stream().filter(it -> now - it.idleSince >= IDLE).forEach(this::giveUp);
+                if (idle.isEmpty()) {
+                    idled.await();
+                } else {
+                    idled.awaitNanos(IDLE);
+                }
+            }
+        } catch (InterruptedException e) {
+            Thread.currentThread().interrupt();
+        } finally {
+            lock.unlock();
+        }
+    }
+
+    /** Ends the run, or leaves that to who enters next: what is left may be a commit, which stands. */
+    private void restartLater() {
+        try {
+            restart();
+        } catch (PersistenceException later) {
+            System.getLogger("karzhoul").log(System.Logger.Level.DEBUG, "the run goes on", later);
+        }
     }
 
     private void restart() {

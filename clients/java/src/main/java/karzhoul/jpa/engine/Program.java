@@ -1,10 +1,7 @@
 package karzhoul.jpa.engine;
 
 import jakarta.persistence.PersistenceException;
-import java.io.IOException;
-import java.nio.file.Files;
 import java.nio.file.Path;
-import java.util.ArrayList;
 import java.util.Collection;
 import java.util.HashMap;
 import java.util.List;
@@ -13,7 +10,6 @@ import java.util.Set;
 import java.util.concurrent.CopyOnWriteArraySet;
 import java.util.function.Consumer;
 import karzhoul.jpa.model.Indexed;
-import karzhoul.jpa.model.Transition;
 import karzhoul.jpa.model.UnitModel;
 
 /**
@@ -24,34 +20,30 @@ public final class Program {
     /** The property by which a store that says nothing of itself is taken for one of the unit's classes. */
     public static final String ADOPT = "karzhoul.adopt";
 
+    /** The property that says where calls go. */
+    public static final String LOG = "karzhoul.log";
+
+    /** The property of so many milliseconds, from which on a trip is told as slow. */
+    public static final String SLOW = "karzhoul.slow";
+
     private static final String SCHEME = "karzhoul:";
-    private static final String MEMORY = "memory";
-    private static final List<String> SUFFIXES = List.of("", "-wal", "-shm", "-journal");
     private static final Map<String, Program> OPEN = new HashMap<>();
 
     private final String store;
     private final String mapping;
     private final String description;
-    private final Path mappingFile;
-    private final Path memory;
+    private final Start start;
     private final Set<Indexed> indexes;
     private final Pool pool;
     private int users;
 
-    private Program(String store, String program, UnitModel unit, Map<String, Object> properties, Consumer<String> log)
-            throws IOException {
+    private Program(String store, UnitModel unit, Start start) {
         this.store = store;
-        this.mapping = unit.mapping();
-        this.description = unit.description();
-        mappingFile = Files.createTempFile("karzhoul", ".json");
-        Files.writeString(mappingFile, mapping);
-        memory = store.equals(MEMORY) ? memoryFile() : null;
-        String file = memory == null ? store : memory.toString();
-        List<String> command = List.of(program, "--language", "wide", "--mapping", mappingFile.toString(), "--db", file);
-        Journal journal = log == null ? null : new Journal(log);
-        StoreDescription described = memory == null ? new StoreDescription(Path.of(store), description) : null;
+        this.start = start;
+        mapping = unit.mapping();
+        description = unit.description();
         indexes = new CopyOnWriteArraySet<>(unit.indexes());
-        pool = new Pool(() -> indexed(started(command, journal, described, unit, properties)));
+        pool = new Pool(() -> indexed(start.start()));
     }
 
     private Engine indexed(Engine engine) {
@@ -86,87 +78,16 @@ public final class Program {
         }
     }
 
-    private static PersistenceException notOpened(List<String> command, ProgramEnded ended) {
-        String program = command.get(0);
-        String store = command.get(command.size() - 1);
-        String words = "The store " + store + " isn't opened" + ended.status();
-        if (ended.status().contains("StoreFault")) {
-            words += ": another process has it open, it or its folder can't be written, the disk is full, or it is no"
-                + " store of this program's";
-        } else if (ended.status().isEmpty()) {
-            words += ", since " + program + " isn't this version's program: " + ended.getCause().getMessage();
-        }
-        return new PersistenceException(words, ended);
-    }
-
-    private static Engine started(List<String> command, Journal journal, StoreDescription described, UnitModel unit,
-            Map<String, Object> properties) {
-        if (described == null) {
-            return new Engine(command, journal);
-        }
-        if (String.valueOf(properties.get(ADOPT)).equals("true")) {
-            described.adopt();
-        }
-        described.prepare();
-        try {
-            return opened(command, journal, described, unit);
-        } catch (PersistenceException refused) {
-            Transition transition = unit.transition(properties);
-            if (!described.isPlanned(transition)) {
-                throw refused;
-            }
-            change(command, journal, described, unit, transition);
-            return opened(command, journal, described, unit);
-        }
-    }
-
-    private static Engine opened(List<String> command, Journal journal, StoreDescription described, UnitModel unit) {
-        Engine engine = new Engine(command, journal);
-        try {
-            engine.check(described);
-            if (described.isToBeWritten()) {
-                new StoreChange(engine, described).make(List.of(), unit.uniques());
-            }
-            described.isWritten();
-        } catch (ProgramEnded ended) {
-            throw described.explained(command.get(0), notOpened(command, ended));
-        } catch (PersistenceException refused) {
-            engine.close();
-            throw refused;
-        }
-        return engine;
-    }
-
-    /** Brings the store over by a mapping that has the columns of before and of now. */
-    private static void change(List<String> command, Journal journal, StoreDescription described, UnitModel unit,
-            Transition transition) {
-        try {
-            Path mapping = Files.createTempFile("karzhoul", ".json");
-            try {
-                Files.writeString(mapping, transition.mapping());
-                List<String> both = new ArrayList<>(command);
-                both.set(both.indexOf("--mapping") + 1, mapping.toString());
-                try (Engine engine = new Engine(both, journal)) {
-                    new StoreChange(engine, described).make(transition.statements(), unit.uniques());
-                }
-            } finally {
-                Files.delete(mapping);
-            }
-        } catch (IOException e) {
-            throw new PersistenceException("no file could be made for the mapping: " + e.getMessage(), e);
-        }
-    }
-
     /**
      * The program of a store, started where it isn't running yet.
      *
-     * @param url {@code karzhoul:FILE} or {@code karzhoul:memory}
-     * @param program the executable
+     * @param url {@code karzhoul:FILE}, {@code karzhoul:memory}, or the address of a server
+     * @param program the executable; not looked at over a server
      * @param unit the mapping, and what the rows of the store mean
      * @param properties those that say how a store gets here from other classes
      * @param log takes each call with its answer, or null
-     * @throws PersistenceException where the url is none, the program can't be started, it refuses the mapping or the
-     *     store, or another unit of this JVM has the store open with another mapping
+     * @throws PersistenceException where the url is none, the program can't be started, or the server reached; where the
+     *     mapping or the store is refused, or another unit of this JVM has the store open with another mapping
      */
     public static Program open(String url, String program, UnitModel unit, Map<String, Object> properties,
             Consumer<String> log) {
@@ -188,44 +109,73 @@ public final class Program {
 
     private static Program start(
             String store, String executable, UnitModel unit, Map<String, Object> properties, Consumer<String> log) {
-        Program program;
+        Journal journal = new Journal(log, isSilent(properties), slow(properties));
+        Start start = ServerAddress.isOne(store) ? new ServerStart(ServerAddress.of(store), journal, unit, properties)
+            : new FileStart(store, executable, journal, unit, properties);
+        Program program = null;
         try {
-            program = new Program(store, executable, unit, properties, log);
-        } catch (IOException e) {
-            throw new PersistenceException("no file could be made for the mapping or the store: " + e.getMessage(), e);
-        }
-        try {
-            program.pool.giveBack(program.pool.enter(null, 0), false);
+            program = new Program(store, unit, start);
+            if (!program.pool.engine().isShared()) {
+                program.pool.giveBack(program.pool.enter(null, 0), false);
+            }
+            return program;
         } catch (RuntimeException e) {
-            program.end();
+            if (program == null) {
+                start.end();
+            } else {
+                program.end();
+            }
             throw e;
         }
-        return program;
     }
 
+    private static boolean isSilent(Map<String, Object> properties) {
+        return String.valueOf(properties.get(LOG)).trim().equals("false");
+    }
+
+    private static long slow(Map<String, Object> properties) {
+        return Long.parseLong(String.valueOf(properties.getOrDefault(SLOW, "0")).trim());
+    }
+
+    /**
+     * What a url names, by one spelling.
+     *
+     * @throws PersistenceException where it names nothing
+     */
     private static String storeOf(String url) {
         if (url == null || !url.startsWith(SCHEME) || url.length() == SCHEME.length()) {
             throw new PersistenceException("jakarta.persistence.jdbc.url is " + url
-                + ": write karzhoul:FILE or karzhoul:memory");
+                + ": write karzhoul:FILE, karzhoul:memory, or the address of a server as karzhoul:unix:/run/app.sock");
         }
         String store = url.substring(SCHEME.length());
-        return store.equals(MEMORY) ? store : Path.of(store).toAbsolutePath().normalize().toString();
+        if (ServerAddress.isOne(store)) {
+            return ServerAddress.of(store).toString();
+        }
+        return store.equals(FileStart.MEMORY) ? store : Path.of(store).toAbsolutePath().normalize().toString();
     }
 
-    private static Path memoryFile() throws IOException {
-        Path shared = Path.of("/dev/shm");
-        Path folder = Files.isWritable(shared)
-            ? Files.createTempDirectory(shared, "karzhoul") : Files.createTempDirectory("karzhoul");
-        Path file = folder.resolve("memory.db");
-        folder.toFile().deleteOnExit();         // where the factory isn't closed; deleted last
-        for (String suffix : SUFFIXES) {
-            file.resolveSibling(file.getFileName() + suffix).toFile().deleteOnExit();
-        }
-        return file;
+    /**
+     * Whether a url names a server, which has a program.
+     *
+     * @throws PersistenceException where it begins as one, and is none
+     */
+    public static boolean isServed(String url) {
+        String store = url.substring(SCHEME.length());
+        return ServerAddress.isOne(store) && ServerAddress.of(store) != null;
     }
 
     public Pool pool() {
         return pool;
+    }
+
+    /**
+     * Copies the store as it stands between two commits, and opens the copy.
+     *
+     * @return how many bytes it has
+     * @throws PersistenceException where it can't be made or opened, or a server has the store
+     */
+    public long backup(Path file) {
+        return start.backup(pool.engine(), file);
     }
 
     /** Lets the program go: it ends with its last factory, and a store in memory with it. */
@@ -241,16 +191,6 @@ public final class Program {
 
     private void end() {
         pool.close();
-        try {
-            Files.deleteIfExists(mappingFile);
-            if (memory != null) {
-                for (String suffix : SUFFIXES) {
-                    Files.deleteIfExists(memory.resolveSibling(memory.getFileName() + suffix));
-                }
-                Files.deleteIfExists(memory.getParent());
-            }
-        } catch (IOException e) {
-            System.getLogger("karzhoul").log(System.Logger.Level.DEBUG, "files in memory stay", e);
-        }
+        start.end();
     }
 }

@@ -16,6 +16,11 @@ public record Reply(Object ok, String error, String why, List<Event> events, Obj
         return error != null;
     }
 
+    /** Whether a server refused it, since its numbers are of before a new run. */
+    boolean isOfBefore() {
+        return ServerConnection.RESTARTED.equals(error);
+    }
+
     /** The number of the object that was answered. */
     public long number() {
         return ((Ref) ok).number();
@@ -25,5 +30,14 @@ public record Reply(Object ok, String error, String why, List<Event> events, Obj
     @SuppressWarnings("unchecked")
     public List<Object> list() {
         return (List<Object>) ok;
+    }
+
+    /** As a person reads it. */
+    @Override
+    public String toString() {
+        if (!isRefused()) {
+            return ok + (events.isEmpty() ? "" : ", with " + events);
+        }
+        return "refused: " + Refusals.words(this) + (about == null ? "" : ", " + about);
     }
 }

@@ -11,6 +11,7 @@ public final class Session {
     private final boolean needsClear;
     boolean isBusy;
     boolean isLost;
+    long idleSince;
 
     Session(Engine engine, long manager, int run, boolean needsClear) {
         this.engine = engine;

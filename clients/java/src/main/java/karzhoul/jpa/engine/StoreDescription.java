@@ -36,18 +36,39 @@ public final class StoreDescription {
             + "@JoinTable and @DiscriminatorValue; say what becomes of columns, by karzhoul.defaults, karzhoul.dropped and "
             + "karzhoul.moved; or take another file for a new store.";
 
+    private static final String EMPTY = "\"ok\":[0]}";
+    private static final String OF_SERVER = "Over a server nothing is brought over: do that with the file, while no server "
+            + "has it. ";
+
     private final Path store;
+    private final String place;
     private final String description;
     private final Path mark;
+    private final List<String> counted;
     private boolean isNew;
     private boolean isAdopting;
     private String before;
 
     /** @param description what the classes say, as {@link karzhoul.jpa.model.UnitModel#description()} */
     public StoreDescription(Path store, String description) {
+        this(store, store.toString(), description, List.of());
+    }
+
+    private StoreDescription(Path store, String place, String description, List<String> counted) {
         this.store = store;
+        this.place = place;
         this.description = description;
-        this.mark = store.resolveSibling(store.getFileName() + MARK);
+        this.counted = counted;
+        mark = store == null ? null : store.resolveSibling(store.getFileName() + MARK);
+    }
+
+    /**
+     * That of a store which a server has: it is new where it has no objects.
+     *
+     * @param counted the names of the entities in the mapping
+     */
+    static StoreDescription ofServer(String address, String description, List<String> counted) {
+        return new StoreDescription(null, address, description, counted);
     }
 
     /** A store that says nothing of itself is taken for one of these classes: the program judges whether its rows can be. */
@@ -88,8 +109,11 @@ public final class StoreDescription {
         Dialogue program = new Dialogue(out, in);
         program.ask("{\"call\":\"createEntityManager\"}");
         String stored = read(program);
+        if (stored == null && mark == null) {
+            isNew = isEmpty(program);
+        }
         if (stored == null && !isNew && !isAdopting) {
-            throw new PersistenceException("The store " + store + " doesn't say with which classes it was written, as "
+            throw new PersistenceException("The store " + place + " doesn't say with which classes it was written, as "
                     + "one of a Java unit does: it is another client's. " + REMEDY);
         }
         if (stored == null) {
@@ -120,7 +144,7 @@ public final class StoreDescription {
 
     /** Why a store isn't brought over. */
     PersistenceException refused(String why) {
-        return new PersistenceException("The store " + store + " was written with other classes, and isn't brought over to "
+        return new PersistenceException("The store " + place + " was written with other classes, and isn't brought over to "
                 + "these:" + new Differences(before, description).words() + "\n" + why);
     }
 
@@ -137,7 +161,9 @@ public final class StoreDescription {
     /** The store says what the classes say. */
     void isWritten() {
         try {
-            Files.deleteIfExists(mark);
+            if (mark != null) {
+                Files.deleteIfExists(mark);
+            }
             isNew = false;
             before = null;
         } catch (IOException fault) {
@@ -166,8 +192,18 @@ public final class StoreDescription {
     }
 
     private PersistenceException otherClasses(String stored) {
-        return new PersistenceException("The store " + store + " was written with other classes, and isn't opened:"
-                + new Differences(stored, description).words() + "\n" + REMEDY);
+        return new PersistenceException("The store " + place + " was written with other classes, and isn't opened:"
+                + new Differences(stored, description).words() + "\n" + (mark == null ? OF_SERVER : "") + REMEDY);
+    }
+
+    private boolean isEmpty(Dialogue program) throws IOException {
+        for (String entity : counted) {
+            String text = "SELECT COUNT(e) FROM " + entity + " e";
+            if (!program.ask("{\"call\":\"query\",\"em\":1,\"text\":\"" + text + "\"}").endsWith(EMPTY)) {
+                return false;
+            }
+        }
+        return true;
     }
 
     private static String read(Dialogue program) throws IOException {

@@ -10,6 +10,7 @@ import java.util.List;
 import java.util.Locale;
 import java.util.Map;
 import java.util.Set;
+import karzhoul.jpa.model.JsonReader;
 
 /**
  * What the program's language has, as {@code jpa --grammar --language wide} tells it: that line is a file beside this
@@ -34,7 +35,7 @@ final class Grammar {
 
     @SuppressWarnings("unchecked")
     Grammar(String line) {
-        Map<String, Object> told = (Map<String, Object>) new GrammarLine(line).value();
+        Map<String, Object> told = (Map<String, Object>) JsonReader.read(line);
         ((List<String>) told.get("keywords")).forEach(word -> keywords.add(word.toLowerCase(Locale.ROOT)));
         aggregates.addAll((List<String>) told.get("aggregates"));
         limits.putAll((Map<String, Long>) told.get("limits"));

@@ -1,5 +1,6 @@
 package karzhoul.jpa.spi;
 
+import jakarta.persistence.PersistenceException;
 import java.time.Duration;
 import java.util.List;
 import java.util.Map;
@@ -13,9 +14,12 @@ final class Settings {
     static final String URL = "jakarta.persistence.jdbc.url";
     static final String PROGRAM = "karzhoul.program";
     static final String POOL_WAIT = "karzhoul.pool.wait";
-    static final String LOG = "karzhoul.log";
+    static final String LOG = Program.LOG;
+    /** The property that has the statistics of a factory among the JVM's beans. */
+    static final String BEANS = "karzhoul.jmx";
     private static final String SCHEMA_ACTION = "jakarta.persistence.schema-generation.database.action";
     private static final String SCHEME = "karzhoul:";
+    private static final String URLS = "Write karzhoul:FILE, as karzhoul:shop.db, karzhoul:memory, or the address of a server";
     private static final Duration USUAL_WAIT = Duration.ofSeconds(10);
 
     private final String place;
@@ -37,14 +41,24 @@ final class Settings {
     String url() {
         Object url = properties.get(URL);
         if (url == null) {
-            tell("it has no " + URL, "Write karzhoul:FILE, as karzhoul:shop.db, or karzhoul:memory");
+            tell("it has no " + URL, URLS);
             return null;
         }
         if (!url.toString().startsWith(SCHEME) || url.toString().length() == SCHEME.length()) {
-            tell(URL + " is " + url, "Write karzhoul:FILE, as karzhoul:shop.db, or karzhoul:memory");
+            tell(URL + " is " + url, URLS);
             return null;
         }
         return url.toString();
+    }
+
+    /** Whether the store is had by a server; an address that is none is told. */
+    boolean isServed(String url) {
+        try {
+            return url != null && Program.isServed(url);
+        } catch (PersistenceException none) {
+            tell(URL + " is " + url, "Write karzhoul:unix:/run/app.sock or karzhoul:tcp:127.0.0.1:7117");
+            return true;
+        }
     }
 
     /** The program that the properties name; those of the JVM count where the unit says nothing. */
@@ -65,6 +79,18 @@ final class Settings {
         }
         tell(POOL_WAIT + " is " + wait, "Write milliseconds, as 10000");
         return USUAL_WAIT;
+    }
+
+    /** From how many milliseconds on a trip is told as slow, and whether the JVM's beans have the statistics. */
+    void checkWatching() {
+        Object slow = properties.getOrDefault(Program.SLOW, "0");
+        if (!slow.toString().trim().matches("[0-9]{1,9}")) {
+            tell(Program.SLOW + " is " + slow, "Write milliseconds, as 200, or 0 for none");
+        }
+        Object beans = properties.getOrDefault(BEANS, "false");
+        if (!beans.toString().trim().matches("true|false")) {
+            tell(BEANS + " is " + beans, "Write true or false");
+        }
     }
 
     /** Where calls and answers go: the logger karzhoul.jpa, or what the property holds. */

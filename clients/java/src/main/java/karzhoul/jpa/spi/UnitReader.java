@@ -50,13 +50,15 @@ final class UnitReader {
         String url = settings.url();
         settings.checkSchema();
         settings.checkAdopt();
+        settings.checkWatching();
         checkDeclared();
         var wait = settings.poolWait();
         var log = settings.log();
         List<Fault> ofProgram = new ArrayList<>();
         Optional<String> named = settings.program();
+        boolean isServed = settings.isServed(url);
         var program = CompletableFuture.supplyAsync(
-                () -> new ProgramFile(place, ofProgram).find(named), UnitReader::beside);
+                () -> isServed ? null : new ProgramFile(place, ofProgram).find(named), UnitReader::beside);
         int told = faults.size();
         UnitModel unit = readClasses();
         String found = program.join();

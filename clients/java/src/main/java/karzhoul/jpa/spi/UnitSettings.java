@@ -11,8 +11,8 @@ import karzhoul.jpa.model.UnitModel;
  *
  * @param name the unit's name
  * @param unit its entities
- * @param url {@code karzhoul:FILE} or {@code karzhoul:memory}
- * @param program the executable that serves the store
+ * @param url {@code karzhoul:FILE}, {@code karzhoul:memory}, or the address of a server
+ * @param program the executable that serves the store; null where a server does
  * @param poolWait how long an entity manager waits for one of the program's sixteen
  * @param log takes each call with its answer, where the unit asks for it
  * @param properties all properties, those of the call over those of the unit (chapter 8.2.1.9)

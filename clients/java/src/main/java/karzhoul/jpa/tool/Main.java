@@ -13,18 +13,26 @@ import karzhoul.jpa.spi.ProgramFile;
 
 /**
  * {@code java -jar karzhoul-jpa.jar mapping STORE}: the mapping that a store was written with, for other tools. It needs
- * no library; {@code mapping --unit NAME} needs those of the unit. The status is 0, 2 where the words are wrong, and 4
- * where the store or the unit can't be read.
+ * no library; what has {@code --unit NAME} needs those of the unit. The status is 0, 2 where the words are wrong, and 4
+ * where the store or the unit can't be read; of {@code migrate} that of {@code karzhoul migrate}.
  */
 public final class Main {
     private static final int MISSAID = 2;
     private static final int FAILED = 4;
     private static final String USAGE = """
             Usage: java -jar karzhoul-jpa.jar mapping STORE [--program FILE]
-                   java -cp .. karzhoul.jpa.tool.Main mapping --unit NAME
+                   java -cp .. karzhoul.jpa.tool.Main mapping --unit NAME [--serve]
+                   java -cp .. karzhoul.jpa.tool.Main migrate STORE --unit NAME [--python PROGRAM] [WORD..]
 
-            Prints the mapping that a store of a Java unit was written with, or that of a unit on the class path,
-            as JSON on standard output. Its names are those of tables and columns.""";
+            mapping prints the mapping that a store of a Java unit was written with, or that of a unit on the class
+            path, as JSON on standard output. Its names are those of tables and columns; with --serve those of
+            entities and attributes, as karzhoul serve --mapping takes it for units in Java.
+
+            migrate brings a store over to the classes of a unit on the class path, where no opening does. It runs
+            karzhoul migrate of the Python client, by python3 or PROGRAM, with other words as these:
+              --with FILE.py  functions that tell what can't be told by names
+              --drop WHAT     what is meant to go
+              --plan          tells what would be done, and does nothing""";
 
     private Main() {}
 
@@ -34,20 +42,41 @@ public final class Main {
             System.out.println(USAGE);
             return;
         }
-        Optional<String> unit = taken(rest, "--unit");
-        Optional<String> program = taken(rest, "--program");
-        boolean isWell = !rest.isEmpty() && rest.remove(0).equals("mapping") && rest.size() == (unit.isPresent() ? 0 : 1)
-                && rest.stream().noneMatch(word -> word.startsWith("-"));
-        if (!isWell) {
-            System.err.println(USAGE);
-            System.exit(MISSAID);
-        }
+        String command = rest.isEmpty() ? "" : rest.remove(0);
         try {
-            System.out.println(unit.isPresent() ? UnitMapping.of(unit.get()) : ofStore(Path.of(rest.get(0)), program));
+            int status = command.equals("migrate") ? migrate(rest) : command.equals("mapping") ? mapping(rest) : MISSAID;
+            if (status == MISSAID) {
+                System.err.println(USAGE);
+            }
+            System.exit(status);
         } catch (IOException | RuntimeException fault) {
             System.err.println("karzhoul: " + fault.getMessage());
             System.exit(FAILED);
+        } catch (NoClassDefFoundError missing) {
+            System.err.println("karzhoul: " + missing.getMessage() + " isn't on the class path: run it by -cp, with the unit and"
+                    + " its libraries");
+            System.exit(FAILED);
         }
+    }
+
+    private static int mapping(List<String> rest) throws IOException, InterruptedException {
+        Optional<String> unit = taken(rest, "--unit");
+        Optional<String> program = taken(rest, "--program");
+        boolean isServed = unit.isPresent() && rest.remove("--serve");
+        if (rest.size() != (unit.isPresent() ? 0 : 1) || rest.stream().anyMatch(word -> word.startsWith("-"))) {
+            return MISSAID;
+        }
+        System.out.println(unit.isPresent() ? UnitMapping.of(unit.get(), isServed) : ofStore(Path.of(rest.get(0)), program));
+        return 0;
+    }
+
+    private static int migrate(List<String> rest) throws IOException, InterruptedException {
+        Optional<String> unit = taken(rest, "--unit");
+        String python = taken(rest, "--python").orElse("python3");
+        if (unit.isEmpty() || rest.isEmpty() || rest.get(0).startsWith("-")) {
+            return MISSAID;
+        }
+        return new Migration(Path.of(rest.get(0)), unit.get()).run(python, rest.subList(1, rest.size()));
     }
 
     /** Takes a word with its value away, where both are there. */

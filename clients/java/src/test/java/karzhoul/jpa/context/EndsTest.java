@@ -2,19 +2,30 @@ package karzhoul.jpa.context;
 
 import static org.junit.jupiter.api.Assertions.assertEquals;
 import static org.junit.jupiter.api.Assertions.assertFalse;
+import static org.junit.jupiter.api.Assertions.assertInstanceOf;
+import static org.junit.jupiter.api.Assertions.assertNotNull;
 import static org.junit.jupiter.api.Assertions.assertThrows;
 import static org.junit.jupiter.api.Assertions.assertTrue;
 
+import jakarta.persistence.CascadeType;
+import jakarta.persistence.Entity;
 import jakarta.persistence.EntityManager;
+import jakarta.persistence.GeneratedValue;
+import jakarta.persistence.Id;
+import jakarta.persistence.OneToMany;
 import jakarta.persistence.PersistenceException;
-import jakarta.persistence.RollbackException;
+import java.io.IOException;
 import java.nio.file.Files;
 import java.nio.file.Path;
 import java.nio.file.attribute.PosixFilePermissions;
 import java.time.Duration;
+import java.util.ArrayList;
+import java.util.List;
 import java.util.Map;
 import java.util.Optional;
 import karzhoul.jpa.model.Reader;
+import karzhoul.jpa.CommitUnknownException;
+import karzhoul.jpa.Karzhoul;
 import karzhoul.jpa.shop.Person;
 import karzhoul.jpa.shop.Shop;
 import karzhoul.jpa.spi.UnitSettings;
@@ -25,7 +36,7 @@ import org.junit.jupiter.api.io.TempDir;
 /** What is said where a commit isn't answered, and where a store can't be opened. */
 @Timeout(120)
 class EndsTest {
-    /** Serves the calls of the program, and ends after the next commit, or before it, or has the disk fail at it. */
+    /** Serves the calls of the program, and ends after the next commit, or before it, or behind its answer, or has the disk fail. */
     private static final String ENDING = """
         #!/usr/bin/env bash
         coproc served { exec '%s' "$@"; }
@@ -39,33 +50,48 @@ class EndsTest {
             IFS= read -r answer <&"${served[0]}"
             case $line in *'"call":"commit"'*) [ ! -e '%s' ] || end ;; esac
             printf '%%s\\n' "$answer"
+            case $line in *'"call":"commit"'*) [ ! -e '%s' ] || end ;; esac
         done
         end
         """;
+
+    @Entity(name = "Page")
+    static class Page {
+        @Id @GeneratedValue Long id;
+        @OneToMany(cascade = CascadeType.ALL) List<Page> more = new ArrayList<>();
+    }
 
     @TempDir
     Path folder;
 
     private Factory over(String program) {
-        return new Factory(new UnitSettings("shop", Reader.read("shop", Shop.CLASSES), "karzhoul:" + folder.resolve("a.db"),
+        return over(program, Shop.CLASSES);
+    }
+
+    private Factory over(String program, List<Class<?>> classes) {
+        return new Factory(new UnitSettings("shop", Reader.read("shop", classes), "karzhoul:" + folder.resolve("a.db"),
             program, Duration.ofSeconds(20), Optional.empty(), Map.of()));
+    }
+
+    /** A program that ends where one of the files before, after and behind is there. */
+    private String ending() throws IOException {
+        Path program = folder.resolve("ending");
+        Files.writeString(program, ENDING.formatted(Path.of(Shop.program()).toAbsolutePath(), folder.resolve("before"),
+            folder.resolve("fault"), folder.resolve("after"), folder.resolve("behind")));
+        Files.setPosixFilePermissions(program, PosixFilePermissions.fromString("rwx------"));
+        return program.toString();
     }
 
     /** How many persons stand after a commit of which it isn't known whether it was done, as these words say. */
     private long standAfter(String armed, String words) throws Exception {
-        Path program = folder.resolve("ending");
-        Files.writeString(program, ENDING.formatted(
-            Path.of(Shop.program()).toAbsolutePath(), folder.resolve("before"),
-            folder.resolve("fault"), folder.resolve("after")));
-        Files.setPosixFilePermissions(program, PosixFilePermissions.fromString("rwx------"));
-        try (Factory factory = over(program.toString()); EntityManager manager = factory.createEntityManager()) {
+        try (Factory factory = over(ending()); EntityManager manager = factory.createEntityManager()) {
             manager.getTransaction().begin();
             Person ada = new Person("Ada");
             manager.persist(ada);
             Files.createFile(folder.resolve(armed));
             PersistenceException unknown =
                 assertThrows(PersistenceException.class, () -> manager.getTransaction().commit());
-            assertFalse(unknown instanceof RollbackException, unknown.getMessage());
+            assertInstanceOf(CommitUnknownException.class, unknown);
             assertTrue(unknown.getMessage().contains(words + ": all of it is stored, or nothing"), unknown.getMessage());
             assertFalse(manager.getTransaction().isActive());
             assertFalse(manager.contains(ada));
@@ -87,6 +113,39 @@ class EndsTest {
     @Test
     void norIsOneAtWhichTheDiskFailed() throws Exception {
         assertEquals(0, standAfter("fault", "as the commit was written"));
+    }
+
+    /** With a key that the program gives, to what the commit comes upon. */
+    @Test
+    void oneThatWasAnsweredIsDoneThoughTheProgramEndsBehindIt() throws Exception {
+        try (Factory factory = over(ending(), List.of(Page.class)); EntityManager manager = factory.createEntityManager()) {
+            manager.getTransaction().begin();
+            Page page = new Page();
+            manager.persist(page);
+            manager.flush();
+            page.more.add(new Page());
+            Files.createFile(folder.resolve("behind"));
+            manager.getTransaction().commit();
+            assertNotNull(page.more.get(0).id);
+            Files.delete(folder.resolve("behind"));
+            assertEquals(2L, factory.unwrap(Karzhoul.class).<Long>retry(em ->
+                em.createQuery("SELECT COUNT(p) FROM Page p", Long.class).getSingleResult()));
+        }
+    }
+
+    @Test
+    void itIsntDoneAgainUnseen() throws Exception {
+        try (Factory factory = over(ending())) {
+            Files.createFile(folder.resolve("after"));
+            assertThrows(CommitUnknownException.class, () -> factory.unwrap(Karzhoul.class).retry(em -> {
+                em.persist(new Person("Ada"));
+                return null;
+            }));
+            Files.delete(folder.resolve("after"));
+            EntityManager em = factory.createEntityManager();
+            assertEquals(1L, em.createQuery("SELECT COUNT(p) FROM Person p", Long.class).getSingleResult());
+            em.close();
+        }
     }
 
     @Test

@@ -79,7 +79,7 @@ class ContainerTest {
                 () -> new KarzhoulProvider().createContainerEntityManagerFactory(info, null)).getMessage();
         assertEquals("The persistence unit contained has 2 faults:"
                 + "\n- the persistence unit contained: it has no jakarta.persistence.jdbc.url. Write karzhoul:FILE, as karzhoul:shop.db, "
-                + "or karzhoul:memory."
+                + "karzhoul:memory, or the address of a server."
                 + "\n- the persistence unit contained: its transactions are JTA's, which isn't there. "
                 + "Write transaction-type=\"RESOURCE_LOCAL\".", words);
     }

@@ -1,0 +1,212 @@
+package karzhoul.jpa.engine;
+
+import jakarta.persistence.PersistenceException;
+import java.io.ByteArrayOutputStream;
+import java.io.EOFException;
+import java.io.IOException;
+import java.io.InputStream;
+import java.io.OutputStream;
+import java.nio.charset.StandardCharsets;
+import java.nio.file.Files;
+import java.nio.file.Path;
+import java.util.Map;
+import java.util.Set;
+import karzhoul.jpa.model.JsonReader;
+
+/**
+ * A connection to a server of a store, which has managers and objects of its own numbers. Not for several threads at a
+ * time, but for {@link #turn}.
+ */
+final class ServerConnection implements Transport {
+    /** The property that names the file with a server's token. */
+    static final String TOKEN_FILE = "karzhoul.token.file";
+
+    /** What the server says of a line whose numbers are of before a new run. */
+    static final String RESTARTED = "Restarted";
+
+    /** What it says of the connection itself, which it ends then. */
+    private static final Set<String> ENDS = Set.of("ProgramEnded", "Closed", "Denied");
+
+    /** How it says that it handed nothing on of what a program had that ended. */
+    private static final String NOT_HANDED_ON = "what was not committed is lost";
+    private static final String ANSWERED = "\"ok\":";
+    private static final long PATIENCE = 30_000;
+
+    private final ServerAddress address;
+    private final Path tokenFile;
+    private final ChannelPipe pipe;
+    private final Map<String, Object> served;
+
+    /**
+     * Connects, and hears what is served.
+     *
+     * @param tokenFile the file with the server's token, or null
+     * @throws NotServed where nobody listens there
+     * @throws PersistenceException where the server doesn't want this one
+     */
+    ServerConnection(ServerAddress address, Path tokenFile) {
+        this.address = address;
+        this.tokenFile = tokenFile;
+        try {
+            pipe = new ChannelPipe(address.connected());
+        } catch (IOException | RuntimeException e) {
+            throw new NotServed("nobody serves at " + address + ": " + e.getMessage(), e);
+        }
+        try {
+            served = said(ask("{\"serve\":\"hello\"" + token() + ",\"mapping\":true}"));
+        } catch (IOException | RuntimeException e) {
+            pipe.close();
+            throw e instanceof PersistenceException refused ? refused : new NotServed(address + " says nothing: " + e.getMessage(), e);
+        }
+    }
+
+    private String token() {
+        if (tokenFile == null) {
+            return "";
+        }
+        try {
+            return ",\"token\":\"" + Files.readString(tokenFile).strip().replaceAll("([\"\\\\])", "\\\\$1") + "\"";
+        } catch (IOException e) {
+            throw new PersistenceException("the token of " + address + " can't be read (" + TOKEN_FILE + "): " + e, e);
+        }
+    }
+
+    /** The reply to a line, while none is under way. */
+    private String ask(String line) throws IOException {
+        pipe.out().write((line + "\n").getBytes(StandardCharsets.UTF_8));
+        return reply(pipe.in());
+    }
+
+    private static String reply(InputStream in) throws IOException {
+        ByteArrayOutputStream reply = new ByteArrayOutputStream();
+        byte[] chunk = new byte[1 << 13];
+        for (int count = in.read(chunk); ; count = in.read(chunk)) {
+            if (count < 0) {
+                throw new EOFException("it ended the connection");
+            }
+            reply.write(chunk, 0, count);
+            if (chunk[count - 1] == '\n') {
+                return reply.toString(StandardCharsets.UTF_8);
+            }
+        }
+    }
+
+    @SuppressWarnings("unchecked")
+    private Map<String, Object> said(String reply) {
+        Map<String, Object> told = (Map<String, Object>) JsonReader.read(reply.split("\n", 2)[0]);
+        if (told.containsKey("ok")) {
+            return (Map<String, Object>) told.get("ok");
+        }
+        Map<String, Object> error = (Map<String, Object>) told.get("error");
+        String words = address + " refuses the connection: " + error.get("name") + "(" + error.get("why") + ")";
+        if (error.get("name").equals("Denied")) {
+            throw new PersistenceException(words + "; the property " + TOKEN_FILE + " names the file with the server's token");
+        }
+        throw new NotServed(words, null);
+    }
+
+    /** What the server tells of itself: its mapping, the language of queries. */
+    Map<String, Object> served() {
+        return served;
+    }
+
+    /** A manager isn't waited for from now on: a call that waited would keep those of other threads waiting. */
+    void waitsNoMore() {
+        try {
+            said(ask("{\"serve\":\"hello\",\"wait\":0}"));
+        } catch (IOException e) {
+            throw ended(e, false);
+        }
+    }
+
+    /**
+     * Waits until one of the server's managers is kept free for this connection; by another one, so that this one's
+     * calls go on.
+     *
+     * @return null, or why none became free
+     * @throws IOException where the server has ended, or the thread was interrupted
+     */
+    String turn(long millis) throws IOException {
+        ServerConnection other = new ServerConnection(address, tokenFile);
+        try {
+            String line = "{\"serve\":\"turn\",\"for\":\"" + served.get("key") + "\",\"wait\":" + millis / 1000.0 + "}\n";
+            other.pipe.out().write(line.getBytes(StandardCharsets.UTF_8));
+            other.pipe.await(millis + PATIENCE);
+            String reply = reply(other.pipe.in());
+            if (reply.contains(ANSWERED)) {
+                return null;
+            }
+            Map<?, ?> error = (Map<?, ?>) ((Map<?, ?>) JsonReader.read(reply)).get("error");
+            return String.valueOf(error.get("why"));
+        } finally {
+            other.destroy();
+        }
+    }
+
+    /**
+     * Throws where a refusal is of the connection itself, which is of no use any more then.
+     *
+     * @param isFirst whether it answers the first line of a trip, before which none was done
+     */
+    static void check(Reply refused, boolean isFirst) throws IOException {
+        if (!ENDS.contains(refused.error())) {
+            return;
+        }
+        String why = String.valueOf(refused.why());
+        if (refused.error().equals("ProgramEnded") && !why.contains(NOT_HANDED_ON)) {
+            throw new IOException("the program ended before it answered");      // other threads hear of it too
+        }
+        throw isFirst ? new NotHandedOn(why) : new IOException(why);
+    }
+
+    /** What is raised where numbers are of before a new run of the server. */
+    ProgramEnded restarted(String why) {
+        return new ProgramEnded("the server at " + address + " has begun a new run", " (" + why + ")",
+            "the next use of the entity manager finds its objects again", false, null);
+    }
+
+    /** The server has said of a line that the program didn't get it. */
+    static final class NotHandedOn extends IOException {
+        private static final long serialVersionUID = 1;
+
+        NotHandedOn(String why) {
+            super(why);
+        }
+    }
+
+    @Override
+    public OutputStream out() {
+        return pipe.out();
+    }
+
+    @Override
+    public InputStream in() {
+        return pipe.in();
+    }
+
+    @Override
+    public boolean isOpen() {
+        return pipe.isQuiet();
+    }
+
+    @Override
+    public long pid() {
+        return 0;
+    }
+
+    @Override
+    public ProgramEnded ended(IOException cause, boolean isAsked) {
+        return new ProgramEnded("the connection to " + address + " has ended", " (" + (cause.getMessage() == null ? cause : cause.getMessage()) + ")",
+            "the next entity manager connects again", isAsked && !(cause instanceof NotHandedOn), cause);
+    }
+
+    @Override
+    public void close() {
+        pipe.close();
+    }
+
+    @Override
+    public void destroy() {
+        pipe.close();
+    }
+}
