@@ -37,8 +37,12 @@ javac -Xlint:all,-classfile,-path,-processing -Werror -d "$folder/serve" -cp "$t
 timeout 600 java -XX:TieredStopAtLevel=1 -XX:+UseSerialGC -Dshop.store="$folder/shop.db" -cp "$folder/serve:$tomcat" \
     serve.Serve "$folder/base" "$folder/shop.war" >"$folder/said" 2>"$folder/log"
 status=$?
-if [ "$status" != 0 ] || ! diff tests/java-tomcat/said "$folder/said"; then
-    echo "failed: it ended with $status, and what it prints is otherwise"
+diff tests/java-tomcat/said "$folder/said" >"$folder/differs"
+differs=$?
+if [ "$status" != 0 ] || [ "$differs" != 0 ]; then
+    # (what differs comes last, since a reader may have the end alone)
     tail -60 "$folder/log"
+    echo "failed: it ended with $status, and this differs in what it prints (< is expected):"
+    cat "$folder/differs"
     exit 1
 fi

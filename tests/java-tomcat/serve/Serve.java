@@ -72,10 +72,15 @@ public final class Serve {
         shop.destroy();
     }
 
-    /** Those whose classes can't be forgotten, as Tomcat sees it; garbage may take some turns to be found. */
-    private List<String> left() throws InterruptedException {
+    /**
+     * Those whose classes can't be forgotten, as Tomcat sees it; garbage may take some turns to be found. The threads
+     * that served requests end before: where code that C1 compiled catches an exception, HotSpot 17 may keep it in the
+     * thread, out of the heap, until the thread ends; and the exception is of the application's classes.
+     */
+    private List<String> left() throws InterruptedException, LifecycleException {
+        tomcat.getConnector().stop();
         List<String> left = List.of("not looked yet");
-        for (int turn = 0; turn < 20 && !left.isEmpty(); turn++) {
+        for (int turn = 0; turn < 50 && !left.isEmpty(); turn++) {
             Thread.sleep(turn * 50L);
             left = List.of(((StandardHost) tomcat.getHost()).findReloadedContextMemoryLeaks());
         }
