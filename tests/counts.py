@@ -78,6 +78,10 @@ def asked(text: str, **params: Any) -> list[str]:
     return [line("query", em=1, text=text, params=params)]
 
 
+def page(text: str, **params: Any) -> list[str]:
+    return [line("query", em=1, text=text, params=params, max=20)]
+
+
 def queries() -> list[Work]:
     """Queries of one variable. A turn's number is that of an order and of a person; the second
     object of the run is a person."""
@@ -168,6 +172,12 @@ def beside_indexed(count: int) -> list[Work]:
              lambda n: asked(asks + "o.amount BETWEEN :l AND :h", **parts)),
         Work("query of three values by their index",
              lambda n: asked(asks + "o.amount IN (5, 7, :n)", n=n + 12)),
+        Work("page of twenty by an index",
+             lambda n: page("SELECT o.number, o.amount FROM Order o ORDER BY o.amount")),
+        Work("page of twenty by an index, falling", lambda n: page(
+            "SELECT o.number, o.amount FROM Order o ORDER BY o.amount DESC, o.number")),
+        Work("page of twenty behind a value",
+             lambda n: page(asks + "o.amount > :n ORDER BY o.amount", n=n + 500)),
         Work("UPDATE by an index", lambda n: [
             line("begin", em=1),
             line("executeUpdate", em=1, params={"n": n},

@@ -1,5 +1,5 @@
 //! The call index: what will be looked up.
-ghost use Rattle.std.specs.Prelude.{◌≡◌, ◌<◌, ◌⊎◌, [], Ok, false, length};
+ghost use Rattle.std.specs.Prelude.{◌≡◌, ◌⊎◌, [], Ok, false};
 ghost use Rattle.jpa_value.specs.declared.refusal.Cause.{Cause};
 ghost use Rattle.jpa_behaviour.specs.Served.{world_of_unit};
 ghost use Rattle.jpa_protocol.specs.declared.call.Call.{Call};
@@ -17,22 +17,6 @@ use jpa_protocol::{Answer, Reply};
 use jpa_value::{Argument, Cause};
 use std::alloc::Global;
 
-/// The topmost class of the chain that has a part of the key or an attribute (chapter 2.11): an
-/// index that begins there serves queries over each class of the chain.
-fn topmost(metamodel: &Metamodel, class: usize, member: Member) -> usize
-    requires { class < length metamodel.now.entities }
-{
-    let Member::Attribute(place) = member else {
-        return metamodel.root_class(class);
-    };
-    for above in metamodel.chain(class) {
-        if place < metamodel.attributes_of(*above).len() {
-            return *above;
-        }
-    }
-    class
-}
-
 /// Makes the index of a part of the key or an attribute, where there is none, and answers: null, or
 /// `OutOfMemory`, which leaves what there was.
 fn keep_index(
@@ -42,12 +26,10 @@ fn keep_index(
     class: usize,
     member: Member,
 ) -> Reply
-    requires { class < length metamodel.now.entities }
     ensures same { view.new ≡ view.old }
     ensures answer { (result ≡ record { events = []; answer = Ok Answer.Null })
         ⊎ (result ≡ gives_up Cause.OutOfMemory) }
 {
-    let class = topmost(metamodel, class, member);
     match view.index_by(metamodel, class, member) {
         Ok(()) => accepted(alloc, Answer::Null),
         Err(_) => because(alloc, Cause::OutOfMemory),

@@ -180,23 +180,6 @@ fn member_in(metamodel: &Metamodel, word: &str) -> Result<(usize, Member), Cause
     }
 }
 
-/// The topmost class of the chain that has a part of the key or an attribute (chapter 2.11), where
-/// a manager's index begins.
-fn topmost(metamodel: &Metamodel, class: usize, member: Member) -> usize {
-    if class >= metamodel.entities().len() {
-        return class;
-    }
-    let Member::Attribute(place) = member else {
-        return metamodel.root_class(class);
-    };
-    for above in metamodel.chain(class) {
-        if place < metamodel.attributes_of(*above).len() {
-            return *above;
-        }
-    }
-    class
-}
-
 /// A set without objects, with these indexes.
 fn set_with(alloc: Global, metamodel: &Metamodel, indexes: &[Text]) -> Result<OpenSet, Cause>
     ensures { IfErr result spec.IsUnplanned }
@@ -204,7 +187,7 @@ fn set_with(alloc: Global, metamodel: &Metamodel, indexes: &[Text]) -> Result<Op
     let mut set = OpenSet::new(alloc, Vec::new(alloc))?;
     for word in indexes {
         let (class, member) = member_in(metamodel, word.as_str())?;
-        set.index_by(metamodel, topmost(metamodel, class, member), member)?;
+        set.index_by(metamodel, class, member)?;
     }
     Ok(set)
 }

@@ -4,3 +4,6 @@ pub mod Firsts
 pub mod Cuts
 pub mod Parts
 pub mod ByFront
+pub mod Enough
+pub mod ByValue
+pub mod Ways

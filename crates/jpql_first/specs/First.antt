@@ -3,20 +3,26 @@ use Rattle.std.specs.Prelude.{◌≡◌, ◌≤◌, ℕ, Bool, true, false, All,
 use Rattle.std.specs.List.Sorted.{IsSortedBy}
 use Rattle.jpa_open.specs.Opened.{now}
 use Rattle.jpql_types.specs.declared.scope.TypedPath.{TypedPath}
+use Rattle.jpql_types.specs.declared.typed.TypedCondition.{TypedCondition}
 use Rattle.jpql_types.specs.declared.typed.TypedKey.{TypedKey}
 use Rattle.jpql_types.specs.declared.typed.TypedSelect.{TypedSelect}
 use Rattle.jpql_types.specs.declared.typed.TypedSorted.{TypedSorted}
+use Rattle.jpql_types.specs.declared.typed.TypedSource.{TypedSource}
 use Rattle.jpql_eval.specs.declared.datum.Datum.{Datum}
 use Rattle.jpql_eval.specs.Answers.{every, under}
 use Rattle.jpql_plan.specs.Meaning.{Case, alone}
-use Rattle.jpql_plan.specs.Paths.{Tuple}
+use Rattle.jpql_plan.specs.Paths.{Entry, Tuple}
 use Rattle.jpql_plan.specs.Selection.{Row, in_order, precedes, is_grouping, selected}
 use Rattle.jpql_run.specs.declared.fronts.Side.{Side}
 use Rattle.jpql_run.specs.declared.run.Run.{Run}
+use Rattle.jpql_run.specs.declared.value_fronts.ValueOrder.{ValueOrder}
 use Rattle.jpql_run.specs.Equations.{IsKeyPart}
+use Rattle.jpql_run.specs.Fronts.{IsFront}
 use Rattle.jpql_run.specs.Keys.{NeverOverflows}
+use Rattle.jpql_run.specs.ValueFronts.{IsFrontBy, LeadsFrom}
 use Rattle.jpql_select.specs.Selects.{key_datum, row_of}
 use Rattle.jpql_select.specs.Tables.{items_in}
+use Rattle.jpql_first.specs.declared.fronts.Way.{Way}
 
 -- the first so many, or all
 abbrev pub first_of : {A : Type 0} → Option ℕ → List A → List A
@@ -57,6 +63,28 @@ GoesBy Side.First [] = Unit {0}
 GoesBy Side.First (key ∷ []) = IsFirstPart false key
 GoesBy Side.Last (key ∷ []) = IsFirstPart true key
 GoesBy _ _ = ⊥
+
+-- A key of ORDER BY is what the first variable has as a member, whose values rise or fall.
+pub record IsByValue (o : ValueOrder) (key : TypedKey) : Type 0 where
+  pub path : TypedPath
+  pub along : key.by ≡ TypedSorted.Path path
+  pub way : key.is_descending ≡ o.is_descending
+  pub leads : LeadsFrom 0 path o.member
+
+-- ORDER BY begins with such a key
+abbrev pub GoesByValue : ValueOrder → List TypedKey → Type 0
+GoesByValue o [] = ⊥
+GoesByValue o (key ∷ keys) = IsByValue o key
+
+-- ORDER BY goes by the way in which objects come
+abbrev pub GoesWay : Way → List TypedKey → Type 0
+GoesWay (Way.Identities side) keys = GoesBy side keys
+GoesWay (Way.Values order) keys = GoesByValue order keys
+
+-- objects of the first element of FROM are those of a front of it
+abbrev pub IsFrontOn : Run → List TypedSource → Option TypedCondition → Way → List Entry → Type 0
+IsFrontOn run sources c (Way.Identities side) es = IsFront run sources c side es
+IsFrontOn run sources c (Way.Values order) es = IsFrontBy run sources c order es
 
 -- of these tuples the first rows are those of all
 abbrev pub AreEnough : Run → TypedSelect → ℕ → List Tuple → Type 0

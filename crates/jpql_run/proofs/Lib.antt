@@ -28,4 +28,6 @@ pub mod Narrowed
 pub mod Past
 pub mod KeySpans
 pub mod Outside
+pub mod Alike
 pub mod InFront
+pub mod ByOrder

@@ -15,6 +15,9 @@ pub mod Indexes
 pub mod Bounds
 pub mod Ends
 pub mod Spans
+pub mod Likes
 pub mod KeySpans
+pub mod Standing
 pub mod ByLink
 pub mod Fronts
+pub mod ValueFronts

@@ -7,3 +7,6 @@ mod Shortness
 pub mod Keys
 pub mod Once
 pub mod Sorted
+pub mod Behind
+pub mod InParts
+pub mod Tallied

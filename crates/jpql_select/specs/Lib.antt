@@ -6,3 +6,4 @@ pub mod Keys
 pub mod Rows
 pub mod Sortings
 pub mod Tables
+pub mod Tallies

@@ -1,5 +1,5 @@
 //! Indexes of values.
-ghost use Rattle.std.specs.Prelude.{◌≡◌, IfErr};
+ghost use Rattle.std.specs.Prelude.{◌≡◌, ◌<◌, length, IfErr};
 ghost use Rattle.jpa_value.specs.declared.refusal.Cause.{Cause};
 
 use crate::index::most_references;
@@ -8,6 +8,21 @@ use crate::values::{add_columns, next_number, values_of};
 use jpa_model::{Member, Metamodel};
 use jpa_ordered::Column;
 use jpa_value::Cause;
+
+/// The topmost class of the chain that has a part of the key or an attribute (chapter 2.11).
+fn topmost(metamodel: &Metamodel, class: usize, member: Member) -> usize
+    requires { class < length metamodel.now.entities }
+{
+    let Member::Attribute(place) = member else {
+        return metamodel.root_class(class);
+    };
+    for above in metamodel.chain(class) {
+        if place < metamodel.attributes_of(*above).len() {
+            return *above;
+        }
+    }
+    class
+}
 
 impl OpenSet {
     /// Whether there is an index of what objects of a class, and of each class below it, have in a
@@ -18,12 +33,29 @@ impl OpenSet {
     }
 
     /// Makes an index of what objects of a class, and of each class below it, have in a member,
-    /// which is a part of the key or an attribute. From then on it goes with each commit. One that
-    /// is there stays, and while there is room to commit, none is made.
+    /// which is a part of the key or an attribute: from the topmost class of the chain that has it,
+    /// so that it serves each class of the chain. From then on it goes with each commit. One that
+    /// is there stays; while there is room to commit, and for no class, none is made.
     ///
     /// It takes O(n log n) steps for n committed objects. What is seen stays as it is, and for want
     /// of memory, which is the only refusal, there is no index.
     pub fn index_by(
+        &mut self,
+        metamodel: &Metamodel,
+        class: usize,
+        member: Member,
+    ) -> Result<(), Cause>
+        ensures same { self.new ≡ self.old }
+        ensures err { IfErr result (λ cause. cause ≡ Cause.OutOfMemory) }
+    {
+        if class >= metamodel.entities().len() {
+            return Ok(());
+        }
+        self.index_from(metamodel, topmost(metamodel, class, member), member)
+    }
+
+    /// The same, from this class.
+    fn index_from(
         &mut self,
         metamodel: &Metamodel,
         class: usize,

@@ -1,5 +1,5 @@
 use Rattle.std.proofs.Common.{sym, subst, ℕ, List, [], ◌∷◌}
-use Rattle.std.specs.Prelude.{All, Option, IfSome}
+use Rattle.std.specs.Prelude.{All, Option, IfOk, IfSome}
 use Rattle.std.specs.Global.{Vec}
 use Rattle.jpa_ordered.specs.declared.cut.Span.{Span}
 use Rattle.jpql_types.specs.declared.typed.TypedCondition.{TypedCondition}
@@ -49,3 +49,10 @@ returns-in_ok-alone-in-IsNull u c =
     let at = c.in-IsNull in
     let own = subst (λ (n : ℕ). IsOwn n member at.value) c.len-in-IsNull.ensures (c.is_own-in-IsNull.ensures c.if-is_own-2.true) in
     of_null c.args.run.now c.args.tuple.now member c.args.condition.now at.value _ _ at.is c.in_ok-alone-in-IsNull.ensures own c.in_ok-span_of-in-IsNull.ensures
+
+pub returns-in-Like : goal.returns-in-Like
+returns-in-Like u c =
+    let run = c.args.run.now in
+    let t = c.args.tuple.now in
+    let member = c.args.member in
+    subst (λ (d : TypedCondition). IfOk c.spans_alike.result (λ (found : Option (Vec Span)). IfSome found (λ all. AsksSpans run (d ∷ []) t member all.items))) (sym c.in-Like.is) c.spans_alike.ensures
