@@ -64,7 +64,7 @@ class Here:
     async def _look_after(self) -> None:
         while True:
             await asyncio.sleep(0.05)
-            self.service.look_after()
+            self.service.watch.look()
 
     def connected(self, is_trusted: bool = True) -> socket.socket:
         """A socket that leads to it."""

@@ -61,8 +61,8 @@ class Ends(ServerTest):
         process = self.stop()
         talk.socket.sendall(f"{NEW}\n".encode())
         self.wait_until(lambda: len(service.engine) == 1)
-        self.server.later(service._renew())
-        self.wait_until(lambda: bool(service._idle))
+        self.server.later(service.renewal.renew())
+        self.wait_until(lambda: service.still.is_awaited)
         os.kill(process, signal.SIGKILL)
         self.assertEqual(json.loads(talk.reply())["error"]["name"], "ProgramEnded")
         self.check_that_it_serves()
@@ -99,7 +99,7 @@ class Held(ServerTest):
 
     def setUp(self) -> None:
         for name, value in (("DUE", 20), ("LATE", 40), ("LAST", 60), ("STEP", 10)):
-            for module in ("gate", "service"):
+            for module in ("gate", "renewing"):
                 if hasattr(sys.modules[f"karzhoul.server.{module}"], name):
                     patch = mock.patch(f"karzhoul.server.{module}.{name}", value)
                     patch.start()

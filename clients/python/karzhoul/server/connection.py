@@ -53,12 +53,14 @@ class Connection(asyncio.BufferedProtocol):
         self.number, self.peer = 0, ""
         # By which another connection of the same client names it.
         self.key = secrets.token_hex(16)
-        self.wait = service.settings.wait
+        self.wait: float = service.settings.wait
         self.translation: Translation = Translation()
         self.managers: Dict[int, Manager] = {}
         # How many managers it may create that were kept free for it, and until when.
-        self.reserved, self.reserved_until = 0, 0.0
-        self.began = self.heard = time.monotonic()
+        self.reserved: int = 0
+        self.reserved_until: float = 0.0
+        self.began: float = time.monotonic()
+        self.heard: float = self.began
         self.half_since: Optional[float] = None
         # The line that is coming, and those that have come.
         self._pieces: List[bytes] = []
@@ -67,13 +69,15 @@ class Connection(asyncio.BufferedProtocol):
         self._waiting = 0
         self._replies: List[bytes] = []
         # How many of its lines are on their way, and whether a long answer is.
-        self.sent, self._is_long = 0, False
+        self.sent: int = 0
+        self._is_long = False
         # Whether it waits for its turn, has its turn, doesn't read, or isn't read.
         self.is_blocked: bool = False
         self.is_ready = False
         self.is_full = self._is_paused = False
         # Whether its end has come: it sends no more, or is closed.
-        self.is_ended = self.is_closed = self.is_gone = False
+        self.is_ended = self.is_closed = False
+        self.is_gone: bool = False
         self._drained: Optional[asyncio.Future[None]] = None
         self._transport: Optional[asyncio.Transport] = None
 

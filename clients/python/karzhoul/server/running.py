@@ -91,7 +91,7 @@ async def _server(
 async def _look_after(service: Service) -> None:
     while True:
         await asyncio.sleep(min(1.0, service.settings.idle / 4, service.settings.half_line / 4))
-        service.look_after()
+        service.watch.look()
 
 
 class _Ending:
