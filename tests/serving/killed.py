@@ -6,15 +6,17 @@ program is killed.
 Eight processes (or P) of four threads each (or T) connect to one `karzhoul serve`, and lend copies
 and take them back (tests/serving/lending.py) for ten minutes (or M), from the first transaction on
 that is confirmed. At 200 moments (or N), at random from a seed, one of the processes, the server
-or the program ends by SIGKILL; processes and the server are started again. After the last one more
-is to be confirmed. Then the store is opened, and what each client noted is compared: each
-confirmed transaction is there, none of those that were told to be lost is, none is half there, and
-no copy was lent twice. It is run by hand; clients/python/tests/test_server_trials.py has it short.
-Exit status 0 where nothing is wrong.
+or the program ends by SIGKILL; processes and the server are started again. A program that isn't
+there at its moment, since it is being started, is waited for. After the last one more is to be
+confirmed. Then the store is opened, and what each client noted is compared: each confirmed
+transaction is there, none of those that were told to be lost is, none is half there, and no copy
+was lent twice. It is run by hand; clients/python/tests/test_server_trials.py has it short. Exit
+status 0 where nothing is wrong.
 """
 from __future__ import annotations
 
 import argparse, json, os, random, signal, subprocess, sys, tempfile, time
+from contextlib import suppress
 from pathlib import Path
 from typing import Any, List, Optional, Sequence, Tuple
 
@@ -95,28 +97,41 @@ class Trial:
                 print(f"nothing is confirmed within {PATIENCE} s")
                 return
             time.sleep(0.2)
+            self._start_again()
 
     def _confirmed(self) -> int:
         return sum(it.read_text().count(lending.STORED) for it in self._folder.glob("notes-*"))
 
     def _kill_one(self) -> None:
         kind = self._chance.choice(sorted(self.kills))
-        if kind == "client":
-            self._chance.choice(self._clients).kill()
-        elif kind == "server":
-            self._server.kill()
-        elif not self._kill_program():
+        if kind == "program":
+            self._kill_program()
             return
+        killed = self._server if kind == "server" else self._chance.choice(self._clients)
+        killed.kill()
+        killed.wait()  # Else it isn't known to have ended, and isn't started again.
         self.kills[kind] += 1
 
-    def _kill_program(self) -> bool:
-        """Whether the server's program was there to be killed."""
+    def _kill_program(self) -> None:
+        """Kills the server's program, which may still have to be started."""
+        until = time.monotonic() + PATIENCE
+        while (process := self._process_of_program()) is None:
+            if time.monotonic() > until:
+                print(f"the server has no program within {PATIENCE} s")
+                return
+            time.sleep(0.05)
+            self._start_again()
+        with suppress(ProcessLookupError):
+            os.kill(process, signal.SIGKILL)
+            self.kills["program"] += 1
+
+    def _process_of_program(self) -> Optional[int]:
         for listed in Path(f"/proc/{self._server.pid}/task").glob("*/children"):
-            for word in listed.read_text().split():
-                if str(self.db) in _command(int(word)):
-                    os.kill(int(word), signal.SIGKILL)
-                    return True
-        return False
+            with suppress(OSError):  # The thread has ended.
+                for word in listed.read_text().split():
+                    if str(self.db) in _command(int(word)):
+                        return int(word)
+        return None
 
     def _start_again(self) -> None:
         if self._server.poll() is not None:
