@@ -10,8 +10,8 @@ or the program ends by SIGKILL; processes and the server are started again. A pr
 there at its moment, since it is being started, is waited for. After the last one more is to be
 confirmed. Then the store is opened, and what each client noted is compared: each confirmed
 transaction is there, none of those that were told to be lost is, none is half there, and no copy
-was lent twice. It is run by hand; clients/python/tests/test_server_trials.py has it short. Exit
-status 0 where nothing is wrong.
+was lent twice. Ctrl-C has it kill no more, and compare. It is run by hand;
+clients/python/tests/test_server_trials.py has it short. Exit status 0 where nothing is wrong.
 """
 from __future__ import annotations
 
@@ -54,7 +54,8 @@ class Trial:
     def _start(self, *words: str) -> subprocess.Popen[bytes]:
         environment = {**os.environ, "PYTHONPATH": str(CLIENT), "PYTHONDONTWRITEBYTECODE": "",
                        "PYTHONPYCACHEPREFIX": str(self._folder / "compiled")}
-        return subprocess.Popen([sys.executable, *words], env=environment, stderr=self._log)
+        return subprocess.Popen([sys.executable, *words], env=environment, stderr=self._log,
+                                start_new_session=True)  # Ctrl-C is not for them.
 
     def _served(self) -> subprocess.Popen[bytes]:
         return self._start(
@@ -71,7 +72,15 @@ class Trial:
     # ---- kills
 
     def run(self) -> None:
-        """Kills, and starts again, until the time is over."""
+        """Kills, and starts again, until the time is over, or Ctrl-C is given."""
+        try:
+            self._kill_at_moments()
+        except KeyboardInterrupt:
+            print("interrupted: nothing more is killed")
+        self._start_again()
+        self._wait_for_more()
+
+    def _kill_at_moments(self) -> None:
         seconds = 60 * self._said.minutes
         self._wait_for_more()
         began = time.monotonic()
@@ -86,8 +95,6 @@ class Trial:
             if vain == _IN_VAIN:
                 self._wait_for_more()
         time.sleep(max(0, began + seconds - time.monotonic()))
-        self._start_again()
-        self._wait_for_more()
 
     def _wait_for_more(self) -> None:
         """Waits until more is confirmed than now."""

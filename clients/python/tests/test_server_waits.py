@@ -62,7 +62,7 @@ class Ends(ServerTest):
         talk.socket.sendall(f"{NEW}\n".encode())
         self.wait_until(lambda: len(service.engine) == 1)
         self.server.later(service.renewal.renew())
-        self.wait_until(lambda: service.still.is_awaited)
+        self.wait_until(lambda: bool(service.still.awaiting))
         os.kill(process, signal.SIGKILL)
         self.assertEqual(json.loads(talk.reply())["error"]["name"], "ProgramEnded")
         self.check_that_it_serves()

@@ -97,11 +97,15 @@ class Connection(asyncio.BufferedProtocol):
         """So many bytes have come."""
         first, *more = bytes(_room[:count]).split(b"\n")
         self.heard = time.monotonic()
-        self._add(first)
-        for piece in more:
-            self._end_line()
-            self._add(piece)
-        self.half_since = None if not self.coming else self.half_since or self.heard
+        if first and more == [b""] and not self.coming:  # As below, of one line that came whole.
+            self._lines.append(first)
+            self._waiting += count
+        else:
+            self._add(first)
+            for piece in more:
+                self._end_line()
+                self._add(piece)
+            self.half_since = None if not self.coming else self.half_since or self.heard
         if self._waiting > _WAITING or (self.coming > _CHUNK and not self._service.has_room()):
             self._pause()
         self.wake()
@@ -168,7 +172,7 @@ class Connection(asyncio.BufferedProtocol):
             self._service.ready.append(self)
 
     def step(self) -> bool:
-        """Hands its next line on; whether it may have another turn."""
+        """Hands its next line on; whether it has another one, and may have another turn."""
         if not self._lines or self.is_blocked or self.is_full or self.is_closed:
             return False
         if self._is_long or self.sent >= _AHEAD:
@@ -179,7 +183,7 @@ class Connection(asyncio.BufferedProtocol):
             if is_settled:
                 self.take_line()
                 self._service.serve(self, line)
-            return is_settled
+            return is_settled and bool(self._lines)
         try:
             call = LONG if line is _TOO_LONG else self.translation.call(line, is_settled)
         except Ahead:
@@ -188,11 +192,11 @@ class Connection(asyncio.BufferedProtocol):
             if is_settled:
                 self.take_line()
                 self._service.refuse(self, refusal("Restarted", str(fault)))
-            return is_settled
+            return is_settled and bool(self._lines)
         is_taken = self._service.hand_on(self, call)
         if is_taken:
             self.take_line()
-        return is_taken
+        return is_taken and bool(self._lines)
 
     def take_line(self) -> None:
         """Takes its next line off, which is answered or handed on."""

@@ -74,7 +74,7 @@ class Renewal:
     def look(self) -> None:
         """Begins a new run, or has those who begin wait for one, where it is time."""
         service = self._service
-        if service.used < DUE or self._is_under_way:
+        if (service.made < DUE and service.created < DUE) or self._is_under_way:
             return
         if not service.gate.taken or (service.used >= LATE and not service.active):
             self._is_under_way = True

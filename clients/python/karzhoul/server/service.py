@@ -16,9 +16,11 @@ from .connection import Connection, Manager
 from .counts import Counts
 from .creating import Creation
 from .engine import Engine
+from .files import Files
 from .gate import Gate
 from .logs import log
 from .own import Own
+from .plain import Plain
 from .refusals import NULL, refusal
 from .renewing import Renewal
 from .settings import Served, Settings
@@ -39,11 +41,13 @@ class Service:
     """A server over a program that was started, which `start` starts again where it has ended."""
 
     def __init__(
-        self, settings: Settings, start: Callable[[], Program], program: Program, served: Served
+        self, settings: Settings, start: Callable[[], Program], program: Program, served: Served,
+        files: Files,
     ) -> None:
+        """With what waits for the program's pipes and the sockets of connections."""
         self.settings, self.served = settings, served
-        self._start = start
-        self.engine = Engine(program, self._answered, self._program_ended)
+        self._start, self._files = start, files
+        self.engine = Engine(program, self._answered, self._program_ended, files)
         self.gate, self.counts, self.own = Gate(), Counts(), Own(self)
         self.connections: Dict[Connection, None] = {}
         # Those who have their turn, who were told something, who don't read and since when, and
@@ -68,6 +72,10 @@ class Service:
         return max(self.made, self.created)
 
     # ---- connections
+
+    def connect(self, made: socket.socket, is_trusted: bool) -> None:
+        """A connection is made of a socket that leads to a client, which isn't ciphered."""
+        Plain(self._files, made, Connection(self, is_trusted))
 
     def add(self, connection: Connection, transport: asyncio.Transport) -> None:
         """A connection is there, or refused where there are too many."""
@@ -135,11 +143,11 @@ class Service:
 
     def dispatch(self) -> None:
         """Hands lines on to the program, of each connection one in turn."""
-        if not self.still:
-            turns = self.ready
-            while turns and len(self.engine) < _WINDOW:
+        if not self.still.count:
+            turns, asked = self.ready, self.engine.asked
+            while turns and len(asked) < _WINDOW:
                 connection = turns.popleft()
-                if connection.step() and connection.has_lines:
+                if connection.step():
                     turns.append(connection)
                 else:
                     connection.is_ready = False
@@ -332,7 +340,7 @@ class Service:
 
     def _answered(self) -> None:
         """Replies have come."""
-        if self.engine.is_idle:
+        if self.still.awaiting and self.engine.is_idle:
             self.still.note_idle()
         self.renewal.look()
         self.dispatch()
@@ -398,7 +406,7 @@ class Service:
                     return
                 await asyncio.sleep(1)
         self.engine.close()
-        self.engine = Engine(program, self._answered, self._program_ended)
+        self.engine = Engine(program, self._answered, self._program_ended, self._files)
         self.counts.programs += 1
         log("program started", process=program.pid)
         self.still.let_go()

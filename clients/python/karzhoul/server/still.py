@@ -15,34 +15,26 @@ class Stillness:
 
     def __init__(self, service: Service) -> None:
         self._service = service
-        # How many keep lines from being handed on; and those who wait for what was sent.
-        self._count = 0
+        # How many keep lines from being handed on; and those who wait for the answers to what was
+        # sent.
+        self.count = 0
+        self.awaiting: List[asyncio.Future[None]] = []
         self._lock = asyncio.Lock()
-        self._waiting: List[asyncio.Future[None]] = []
-
-    def __bool__(self) -> bool:
-        """Whether lines wait."""
-        return self._count > 0
-
-    @property
-    def is_awaited(self) -> bool:
-        """Whether somebody waits for the answers to what was sent."""
-        return bool(self._waiting)
 
     def hold(self) -> None:
         """Has lines wait, until `let_go`."""
-        self._count += 1
+        self.count += 1
 
     def let_go(self) -> None:
         """They go on, unless another one has them wait."""
-        self._count -= 1
+        self.count -= 1
 
     def note_idle(self) -> None:
         """All that was sent is answered, or never will be."""
-        for future in self._waiting:
+        for future in self.awaiting:
             if not future.done():
                 future.set_result(None)
-        self._waiting.clear()
+        self.awaiting.clear()
 
     @asynccontextmanager
     async def __call__(self) -> AsyncIterator[None]:
@@ -52,7 +44,7 @@ class Stillness:
             async with self._lock:
                 while not self._service.engine.is_idle:
                     future = asyncio.get_running_loop().create_future()
-                    self._waiting.append(future)
+                    self.awaiting.append(future)
                     await future
                 yield
         finally:
