@@ -17,6 +17,7 @@ import jakarta.persistence.OneToMany;
 import jakarta.persistence.OneToOne;
 import jakarta.persistence.OrderBy;
 import jakarta.persistence.Table;
+import jakarta.persistence.Transient;
 import jakarta.persistence.Version;
 import java.math.BigDecimal;
 import java.time.LocalDate;
@@ -34,6 +35,7 @@ public class Order {
     @Column(nullable = false) private OrderStatus status;
     @Column(nullable = false) private LocalDate day;
     private int changes;
+    @Transient private int settled;
     @ManyToOne(optional = false, fetch = FetchType.LAZY)
     private Customer customer;
     @OneToMany(mappedBy = "order", cascade = CascadeType.ALL, orphanRemoval = true)
@@ -116,7 +118,11 @@ public class Order {
     }
 
     void count() {
-        changes++;
+        changes = settled + 1;
+    }
+
+    void settle() {
+        settled = changes;
     }
 
     private Optional<OrderLine> lineOf(Product product) {
