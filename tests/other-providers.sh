@@ -60,7 +60,9 @@ by_ours() {
 }
 
 by_theirs() {
-    timeout "$seconds" java "${fast[@]}" -Declipselink.logging.level=SEVERE -cp "$folder/$1-theirs$theirs" "${@:2}"
+    # (it has no words of its own for SQLite, which takes those for PostgreSQL)
+    timeout "$seconds" java "${fast[@]}" -Declipselink.logging.level=SEVERE -Declipselink.target-database=PostgreSQL \
+        -cp "$folder/$1-theirs$theirs" "${@:2}"
 }
 
 # PostgreSQL in a folder of its own, for this machine alone.
@@ -86,7 +88,6 @@ sql() { "$bin/psql" -X -q -h "$place" -p "$port" -U postgres -v ON_ERROR_STOP=1 
 
 # Writes what a store of a unit has as tables: exported NAME UNIT STORE DATABASE. It sets `url`.
 exported() {
-    by_ours "$1" karzhoul.jpa.tool.Main mapping --unit "$2" --tables >"$folder/$2.json" || fail "no tables of $2"
     local way=(--sqlite "$folder/$4.db")
     url="jdbc:sqlite:$folder/$4.db?date_class=TEXT"
     if [ "$database" = postgresql ]; then
@@ -111,16 +112,16 @@ desk() {
         esac
         before=$word
     done
-    by_theirs desk desk.Main --url "$url" "${words[@]}" >"$folder/out" 2>"$folder/err"
+    by_theirs desk desk.Main --url "$url" "${words[@]}" >"$own/out" 2>"$own/err"
     status=$?
-    line=$(sed -n 's/^order \([0-9]*\) is placed.*/\1/p' "$folder/out")
+    line=$(sed -n 's/^order \([0-9]*\) is placed.*/\1/p' "$own/out")
     [ -z "$line" ] || orders+=("$line")
     local told=(-e 's/invoice [0-9]\+/invoice 1/')
     for line in "${!orders[@]}"; do
         told+=(-e "s/order ${orders[line]}\\b/order @$((line + 1))/")
     done
-    sed "${told[@]}" -e 's/@//' "$folder/err" >&2
-    sed "${told[@]}" -e 's/@//' "$folder/out"
+    sed "${told[@]}" -e 's/@//' "$own/err" >&2
+    sed "${told[@]}" -e 's/@//' "$own/out"
     return "$status"
 }
 
@@ -128,9 +129,9 @@ tries_the_page() {
     orders=()
     exported desk desk "$folder/page.db" "page_$database"
     for each in 3 4 5; do
-        . "$folder/page/$each.sh" >"$folder/said" 2>"$folder/error"
-        diff "$folder/page/$each.text" "$folder/said" || fail "block $each of the page of the desk, over $database"
-        [ ! -s "$folder/error" ] || fail "block $each of the page, over $database: $(cat "$folder/error")"
+        . "$folder/page/$each.sh" >"$own/said" 2>"$own/error"
+        diff "$folder/page/$each.text" "$own/said" || fail "block $each of the page of the desk, over $database"
+        [ ! -s "$own/error" ] || fail "block $each of the page, over $database: $(cat "$own/error")"
     done
 }
 
@@ -185,10 +186,24 @@ by_ours wide wide.Main "karzhoul:$folder/wide.db" fill 1 fill 2 fill 3 || fail "
 cp "$folder/wide.db" "$folder/wider.db"
 by_ours wide wide.Main "karzhoul:$folder/wider.db" show fill 4 show >"$folder/wide.ours" || fail "the wide classes by the door"
 
+for each in desk wide; do
+    by_ours $each karzhoul.jpa.tool.Main mapping --unit $each --tables >"$folder/$each.json" || fail "no tables of $each"
+done
+
+# Both databases at once, each in a folder of its own.
+tries=()
 for database in $databases; do
+    own=$folder/$database
+    mkdir "$own"
+    (trap - EXIT
     tries_the_page
     tries_work
     tries_wide_classes
+    exit "$failed") &
+    tries+=($!)
+done
+for each in "${tries[@]}"; do
+    wait "$each" || failed=1
 done
 compares wide wide.Main "$folder/wide_sqlite.db"
 [ "$failed" -ne 0 ] || echo "the same classes go on with the same objects on EclipseLink, over $databases"

@@ -1,6 +1,7 @@
 package wide;
 
 import jakarta.persistence.AttributeOverride;
+import jakarta.persistence.AttributeOverrides;
 import jakarta.persistence.CascadeType;
 import jakarta.persistence.CollectionTable;
 import jakarta.persistence.Column;
@@ -55,8 +56,10 @@ public class Person {
     @Convert(converter = Stars.class) Integer stars;
     @Embedded Address home;
     @Embedded
-    @AttributeOverride(name = "street", column = @Column(name = "work_street"))
-    @AttributeOverride(name = "city", column = @Column(name = "work_city"))
+    @AttributeOverrides({
+        @AttributeOverride(name = "street", column = @Column(name = "work_street")),
+        @AttributeOverride(name = "city", column = @Column(name = "work_city"))
+    })
     Address work;
     @OneToOne Seat seat;
     @ElementCollection @OrderColumn List<String> nicknames = new ArrayList<>();

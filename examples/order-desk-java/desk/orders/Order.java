@@ -17,7 +17,6 @@ import jakarta.persistence.OneToMany;
 import jakarta.persistence.OneToOne;
 import jakarta.persistence.OrderBy;
 import jakarta.persistence.Table;
-import jakarta.persistence.Transient;
 import jakarta.persistence.Version;
 import java.math.BigDecimal;
 import java.time.LocalDate;
@@ -35,7 +34,6 @@ public class Order {
     @Column(nullable = false) private OrderStatus status;
     @Column(nullable = false) private LocalDate day;
     private int changes;
-    @Transient private int settled;
     @ManyToOne(optional = false, fetch = FetchType.LAZY)
     private Customer customer;
     @OneToMany(mappedBy = "order", cascade = CascadeType.ALL, orphanRemoval = true)
@@ -118,11 +116,7 @@ public class Order {
     }
 
     void count() {
-        changes = settled + 1;
-    }
-
-    void settle() {
-        settled = changes;
+        changes++;
     }
 
     private Optional<OrderLine> lineOf(Product product) {

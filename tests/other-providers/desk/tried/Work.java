@@ -19,6 +19,8 @@ import java.util.regex.Pattern;
  * end: {@code Work URL SEED STEPS}. Generated keys are told by their place among all, since providers leave gaps.
  */
 public final class Work {
+    /** How often PreUpdate is called for a flush the standard leaves to providers, and the desk counts by it. */
+    private static final Pattern COUNT = Pattern.compile(", changed [0-9]+ times");
     private static final Pattern NUMBER = Pattern.compile("(order|invoice) ([0-9]+)");
 
     private final EntityManager manager;
@@ -95,7 +97,7 @@ public final class Work {
             };
             keys(text).forEach(key -> words.append(shown.of(manager, key.toString())).append('\n'));
         }
-        return words.toString();
+        return COUNT.matcher(words).replaceAll("");
     }
 
     private List<Object> keys(String text) {
