@@ -50,7 +50,9 @@ compiled() {
     # Debian's EclipseLink is of a standard that was called otherwise.
     find "$sources" -name '*.java' -exec sed -i 's/jakarta\.persistence/javax.persistence/g' {} +
     javac "${fast[@]/#/-J}" -d "$folder/$name-theirs" -cp "${theirs#:}" "@$folder/files" || exit 1
-    sed -e 's,karzhoul\.jpa\.KarzhoulProvider,org.eclipse.persistence.jpa.PersistenceProvider,' \
+    # (it has no words of its own for SQLite, which takes those for PostgreSQL)
+    local words='<properties><property name="eclipselink.target-database" value="PostgreSQL"/></properties>'
+    sed -e "s,</persistence-unit>,$words&," -e 's,karzhoul\.jpa\.KarzhoulProvider,org.eclipse.persistence.jpa.PersistenceProvider,' \
         -e 's,https://jakarta\.ee/xml/ns/persistence" version="3\.0",http://xmlns.jcp.org/xml/ns/persistence" version="2.1",' \
         "$meta/persistence.xml" >"$folder/$name-theirs/META-INF/persistence.xml"
 }
@@ -60,9 +62,7 @@ by_ours() {
 }
 
 by_theirs() {
-    # (it has no words of its own for SQLite, which takes those for PostgreSQL)
-    timeout "$seconds" java "${fast[@]}" -Declipselink.logging.level=SEVERE -Declipselink.target-database=PostgreSQL \
-        -cp "$folder/$1-theirs$theirs" "${@:2}"
+    timeout "$seconds" java "${fast[@]}" -Declipselink.logging.level=SEVERE -cp "$folder/$1-theirs$theirs" "${@:2}"
 }
 
 # PostgreSQL in a folder of its own, for this machine alone.

@@ -123,6 +123,25 @@ class OfAnnotations(Exporting):
                      'REFERENCES "people" ("id")'):
             self.assertIn(each, text)
 
+    def test_keys_go_on(self) -> None:
+        cases: List[Tuple[Dict[str, Any], str]] = [
+            ({"is": "sequence", "name": "Numbers", "size": 50, "of": [{"entity": "Person"}]},
+             'CREATE SEQUENCE "numbers" START WITH 51 INCREMENT BY 50;'),
+            ({"is": "identity", "entity": "Person", "of": [{"entity": "Person"}]},
+             'ALTER TABLE "people" ALTER COLUMN "id" RESTART WITH 2;'),
+            ({**TABLES["generators"][0], "of": [{"entity": "Animal", "blocks": {
+                "entity": "Person_words", "first": 101, "size": 10}}]}, "\nSEQ_GEN\t120\n"),
+        ]
+        for said, wanted in cases:
+            self.tables.write_text(json.dumps({**TABLES, "generators": [said]}))
+            self.done("export", self.db, "--tables", self.tables, "--sql", self.sql,
+                      "--dialect", "postgresql")
+            self.assertIn(wanted, self.sql.read_text())
+            self.sql.unlink()
+            words = ("export", self.db, "--tables", self.tables, "--sqlite", self.out)
+            if said["is"] == "sequence":
+                self.assertIn("Numbers is a sequence, and SQLite has none", self.stopped(*words))
+
     def test_another_store_and_other_words_are_refused(self) -> None:
         out = ("--sqlite", self.out)
         other = {**TABLES, "description": "the table persons\tnumber 1\n"}

@@ -2,6 +2,8 @@ package wide;
 
 import jakarta.persistence.Column;
 import jakarta.persistence.Entity;
+import jakarta.persistence.JoinColumn;
+import jakarta.persistence.JoinColumns;
 import jakarta.persistence.ManyToOne;
 import jakarta.persistence.Table;
 
@@ -10,7 +12,12 @@ import jakarta.persistence.Table;
 @Table(name = "cars")
 public class Car extends Vehicle {
     @Column(nullable = false) int doors;
-    @ManyToOne Seat best;
+    @ManyToOne
+    @JoinColumns({
+        @JoinColumn(name = "best_line", referencedColumnName = "line"),
+        @JoinColumn(name = "best_side", referencedColumnName = "at_side")
+    })
+    Seat best;
 
     protected Car() {}
 

@@ -14,6 +14,7 @@ import jakarta.persistence.Enumerated;
 import jakarta.persistence.GeneratedValue;
 import jakarta.persistence.Id;
 import jakarta.persistence.JoinColumn;
+import jakarta.persistence.JoinColumns;
 import jakarta.persistence.JoinTable;
 import jakarta.persistence.ManyToMany;
 import jakarta.persistence.OneToMany;
@@ -61,7 +62,12 @@ public class Person {
         @AttributeOverride(name = "city", column = @Column(name = "work_city"))
     })
     Address work;
-    @OneToOne Seat seat;
+    @OneToOne
+    @JoinColumns({
+        @JoinColumn(name = "seat_side", referencedColumnName = "at_side"),
+        @JoinColumn(name = "seat_line", referencedColumnName = "line")
+    })
+    Seat seat;
     @ElementCollection @OrderColumn List<String> nicknames = new ArrayList<>();
     @ElementCollection @CollectionTable(name = "places") Set<Address> places = new HashSet<>();
     @ElementCollection Map<String, Integer> marks = new HashMap<>();
