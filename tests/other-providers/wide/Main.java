@@ -41,7 +41,7 @@ public final class Main {
         for (var text : List.of("SELECT p FROM Person p ORDER BY p.name", "SELECT v FROM Vehicle v ORDER BY v.plate",
                 "SELECT a FROM Animal a ORDER BY a.name", "SELECT c FROM Club c ORDER BY c.name",
                 "SELECT s FROM Seat s ORDER BY s.at.line, s.at.side",
-                "SELECT p.name FROM Person p WHERE p.born >= {d '1990-01-03'} AND p.lost = TRUE ORDER BY p.name",
+                "SELECT p.name FROM Person p WHERE p.lost = TRUE ORDER BY p.name",
                 "SELECT c.name, COUNT(p) FROM Club c JOIN c.members p GROUP BY c.name ORDER BY c.name",
                 "SELECT MAX(c.id) - 100 FROM Club c")) {
             System.out.println(text);

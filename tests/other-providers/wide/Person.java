@@ -87,9 +87,9 @@ public class Person {
         var joinedAt = joined == null ? null : joined.toInstant();
         return String.join("; ", name, born + "", seen + "", wakes + "", joinedAt + "", weight + "", share + "", lost + "",
                 level + "", (debt == null ? null : debt.setScale(3)) + "", photo == null ? "none" : photo.length + " bytes " + photo[0],
-                mood + "", other + "", stars + "", home + "", work + "", seat + "", nicknames.toString(),
+                mood + "", other + "", stars + "", home + "", work + "", seat + "", new ArrayList<>(nicknames).toString(),
                 places.stream().map(Address::toString).sorted().toList().toString(),
-                marks.entrySet().stream().map(Object::toString).sorted().toList().toString(), pets.toString(),
-                clubs.stream().map(Club::toString).sorted().toList().toString(), vehicles.toString());
+                marks.entrySet().stream().map(Object::toString).sorted().toList().toString(), new ArrayList<>(pets).toString(),
+                clubs.stream().map(Club::toString).sorted().toList().toString(), new ArrayList<>(vehicles).toString());
     }
 }
