@@ -21,7 +21,7 @@ public final class Main {
     private static final int FAILED = 4;
     private static final String USAGE = """
             Usage: java -jar karzhoul-jpa.jar mapping STORE [--program FILE]
-                   java -jar karzhoul-jpa.jar mapping --unit NAME --classes PATH[:PATH] [--serve]
+                   java -jar karzhoul-jpa.jar mapping --unit NAME --classes PATH[:PATH] [--serve | --tables]
                    java -jar karzhoul-jpa.jar migrate STORE --unit NAME --classes PATH[:PATH] [--python PROGRAM] [WORD..]
 
             PATH is a JAR, a folder of classes, or FOLDER/* for the JARs in one: the unit, and the libraries that it
@@ -29,7 +29,8 @@ public final class Main {
 
             mapping prints the mapping that a store of a Java unit was written with, or that of a unit, as JSON on
             standard output. Its names are those of tables and columns; with --serve those of entities and
-            attributes, as karzhoul serve --mapping takes it for units in Java.
+            attributes, as karzhoul serve --mapping takes it for units in Java; with --tables the tables too that
+            another provider of the standard looks for, as karzhoul export --tables takes them.
 
             migrate brings a store over to the classes of a unit, where no opening does. It runs karzhoul migrate of
             the Python client, by python3 or PROGRAM, with other words as these:
@@ -70,11 +71,13 @@ public final class Main {
     private static int mapping(List<String> rest) throws IOException, InterruptedException {
         Optional<String> unit = taken(rest, "--unit");
         Optional<String> program = taken(rest, "--program");
-        boolean isServed = unit.isPresent() && rest.remove("--serve");
+        boolean isOfTables = unit.isPresent() && rest.remove("--tables");
+        boolean isServed = unit.isPresent() && !isOfTables && rest.remove("--serve");
         if (rest.size() != (unit.isPresent() ? 0 : 1) || rest.stream().anyMatch(word -> word.startsWith("-"))) {
             return MISSAID;
         }
-        System.out.println(unit.isPresent() ? UnitMapping.of(unit.get(), isServed) : ofStore(Path.of(rest.get(0)), program));
+        System.out.println(isOfTables ? UnitMapping.tables(unit.get())
+                : unit.isPresent() ? UnitMapping.of(unit.get(), isServed) : ofStore(Path.of(rest.get(0)), program));
         return 0;
     }
 
