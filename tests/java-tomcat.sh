@@ -40,7 +40,7 @@ cp -r tests/java-tomcat/META-INF "$web/classes"
 cp "$jar" "${path%%:*}" "${path##*:}" "$web/lib"
 jar --create --file "$folder/shop.war" -C "$folder/web" . || exit 1
 javac -Xlint:all,-classfile,-path,-processing -Werror -d "$folder/serve" -cp "$tomcat" tests/java-tomcat/serve/*.java || exit 1
-timeout 3600 java -XX:TieredStopAtLevel=1 -XX:+UseSerialGC -Dshop.store="$store/shop.db" -cp "$folder/serve:$tomcat" \
+timeout 1200 java -XX:TieredStopAtLevel=1 -XX:+UseSerialGC -Dshop.store="$store/shop.db" -cp "$folder/serve:$tomcat" \
     serve.Serve "$folder/base" "$folder/shop.war" >"$folder/said" 2>"$folder/log"
 status=$?
 diff tests/java-tomcat/said "$folder/said" >"$folder/differs"
