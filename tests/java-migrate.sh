@@ -68,7 +68,7 @@ done
 other=$folder/other.db
 prints "stored 1 and 2" java -cp "$folder/before:$jar:$path" shop.Main "$other"
 cp "$other" "$folder/copy.db"
-brought=(java -cp "$folder/after:$jar:$path" karzhoul.jpa.tool.Main migrate "$other" --unit shop)
+brought=(java -jar "$jar" migrate "$other" --unit shop --classes "$folder/after:$path")
 for more in "" "--plan --with tests/java-migrate/days.py"; do
     # shellcheck disable=SC2086
     "${brought[@]}" $more >"$folder/said" 2>&1
@@ -82,4 +82,14 @@ Bob 0 1999-12-31 Ada[word of Bob]
 Persistence(unique), Person Cy: it would have the born 1999-12-31 of Person Bob, and that is unique" \
     now shop.Main "$other" false
 prints "karzhoul: there is no file $folder/none.db" now karzhoul.jpa.tool.Main migrate "$folder/none.db" --unit shop
+
+# What isn't there is told in words, and changes nothing.
+cp "$other" "$folder/copy.db"
+prints "karzhoul: --classes: there is no $folder/none.jar" java -jar "$jar" migrate "$other" --unit shop --classes "$folder/none.jar"
+java -jar "$jar" migrate "$other" --unit shop >"$folder/said" 2>&1
+grep -q "isn't on the class path: name the unit and its libraries by --classes" "$folder/said" ||
+    fail "without --classes: $(cat "$folder/said")"
+prints "karzhoul: $folder/none isn't there, or doesn't find the module karzhoul, which brings stores over: install the Python client \
+(clients/python) or set PYTHONPATH to it, or name a Python that has it by --python" "${brought[@]}" --python "$folder/none"
+cmp "$other" "$folder/copy.db" || fail "what isn't there changed the store"
 exit "$failed"

@@ -7,6 +7,12 @@ cd "$(dirname "$0")/.." || exit 1
 . tests/shared.bash
 needs javac "the Java door in Tomcat isn't tried"
 make_folder
+# (480 commits at once with what else keeps a disk busy may take minutes, and they aren't what is tried here)
+store=$folder
+if [ -w /dev/shm ]; then
+    store=$(mktemp -d /dev/shm/karzhoul.XXXXXX) || exit 1
+    trap 'rm -rf "$folder" "$store"' EXIT
+fi
 libraries=${KARZHOUL_JAVA_LIBRARIES-/usr/share/java}
 tomcat=
 for each in catalina coyote api juli util util-scan servlet-api annotations-api jaspic-api jni el-api jsp-api; do
@@ -34,7 +40,7 @@ cp -r tests/java-tomcat/META-INF "$web/classes"
 cp "$jar" "${path%%:*}" "${path##*:}" "$web/lib"
 jar --create --file "$folder/shop.war" -C "$folder/web" . || exit 1
 javac -Xlint:all,-classfile,-path,-processing -Werror -d "$folder/serve" -cp "$tomcat" tests/java-tomcat/serve/*.java || exit 1
-timeout 600 java -XX:TieredStopAtLevel=1 -XX:+UseSerialGC -Dshop.store="$folder/shop.db" -cp "$folder/serve:$tomcat" \
+timeout 1200 java -XX:TieredStopAtLevel=1 -XX:+UseSerialGC -Dshop.store="$store/shop.db" -cp "$folder/serve:$tomcat" \
     serve.Serve "$folder/base" "$folder/shop.war" >"$folder/said" 2>"$folder/log"
 status=$?
 diff tests/java-tomcat/said "$folder/said" >"$folder/differs"

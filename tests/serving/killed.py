@@ -6,15 +6,17 @@ program is killed.
 Eight processes (or P) of four threads each (or T) connect to one `karzhoul serve`, and lend copies
 and take them back (tests/serving/lending.py) for ten minutes (or M), from the first transaction on
 that is confirmed. At 200 moments (or N), at random from a seed, one of the processes, the server
-or the program ends by SIGKILL; processes and the server are started again. After the last one more
-is to be confirmed. Then the store is opened, and what each client noted is compared: each
-confirmed transaction is there, none of those that were told to be lost is, none is half there, and
-no copy was lent twice. It is run by hand; clients/python/tests/test_server_trials.py has it short.
-Exit status 0 where nothing is wrong.
+or the program ends by SIGKILL; processes and the server are started again. A program that isn't
+there at its moment, since it is being started, is waited for. After the last one more is to be
+confirmed. Then the store is opened, and what each client noted is compared: each confirmed
+transaction is there, none of those that were told to be lost is, none is half there, and no copy
+was lent twice. Ctrl-C has it kill no more, and compare. It is run by hand;
+clients/python/tests/test_server_trials.py has it short. Exit status 0 where nothing is wrong.
 """
 from __future__ import annotations
 
 import argparse, json, os, random, signal, subprocess, sys, tempfile, time
+from contextlib import suppress
 from pathlib import Path
 from typing import Any, List, Optional, Sequence, Tuple
 
@@ -52,7 +54,8 @@ class Trial:
     def _start(self, *words: str) -> subprocess.Popen[bytes]:
         environment = {**os.environ, "PYTHONPATH": str(CLIENT), "PYTHONDONTWRITEBYTECODE": "",
                        "PYTHONPYCACHEPREFIX": str(self._folder / "compiled")}
-        return subprocess.Popen([sys.executable, *words], env=environment, stderr=self._log)
+        return subprocess.Popen([sys.executable, *words], env=environment, stderr=self._log,
+                                start_new_session=True)  # Ctrl-C is not for them.
 
     def _served(self) -> subprocess.Popen[bytes]:
         return self._start(
@@ -69,7 +72,15 @@ class Trial:
     # ---- kills
 
     def run(self) -> None:
-        """Kills, and starts again, until the time is over."""
+        """Kills, and starts again, until the time is over, or Ctrl-C is given."""
+        try:
+            self._kill_at_moments()
+        except KeyboardInterrupt:
+            print("interrupted: nothing more is killed")
+        self._start_again()
+        self._wait_for_more()
+
+    def _kill_at_moments(self) -> None:
         seconds = 60 * self._said.minutes
         self._wait_for_more()
         began = time.monotonic()
@@ -84,8 +95,6 @@ class Trial:
             if vain == _IN_VAIN:
                 self._wait_for_more()
         time.sleep(max(0, began + seconds - time.monotonic()))
-        self._start_again()
-        self._wait_for_more()
 
     def _wait_for_more(self) -> None:
         """Waits until more is confirmed than now."""
@@ -95,28 +104,41 @@ class Trial:
                 print(f"nothing is confirmed within {PATIENCE} s")
                 return
             time.sleep(0.2)
+            self._start_again()
 
     def _confirmed(self) -> int:
         return sum(it.read_text().count(lending.STORED) for it in self._folder.glob("notes-*"))
 
     def _kill_one(self) -> None:
         kind = self._chance.choice(sorted(self.kills))
-        if kind == "client":
-            self._chance.choice(self._clients).kill()
-        elif kind == "server":
-            self._server.kill()
-        elif not self._kill_program():
+        if kind == "program":
+            self._kill_program()
             return
+        killed = self._server if kind == "server" else self._chance.choice(self._clients)
+        killed.kill()
+        killed.wait()  # Else it isn't known to have ended, and isn't started again.
         self.kills[kind] += 1
 
-    def _kill_program(self) -> bool:
-        """Whether the server's program was there to be killed."""
+    def _kill_program(self) -> None:
+        """Kills the server's program, which may still have to be started."""
+        until = time.monotonic() + PATIENCE
+        while (process := self._process_of_program()) is None:
+            if time.monotonic() > until:
+                print(f"the server has no program within {PATIENCE} s")
+                return
+            time.sleep(0.05)
+            self._start_again()
+        with suppress(ProcessLookupError):
+            os.kill(process, signal.SIGKILL)
+            self.kills["program"] += 1
+
+    def _process_of_program(self) -> Optional[int]:
         for listed in Path(f"/proc/{self._server.pid}/task").glob("*/children"):
-            for word in listed.read_text().split():
-                if str(self.db) in _command(int(word)):
-                    os.kill(int(word), signal.SIGKILL)
-                    return True
-        return False
+            with suppress(OSError):  # The thread has ended.
+                for word in listed.read_text().split():
+                    if str(self.db) in _command(int(word)):
+                        return int(word)
+        return None
 
     def _start_again(self) -> None:
         if self._server.poll() is not None:

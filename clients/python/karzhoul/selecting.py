@@ -63,12 +63,22 @@ def add_command(commands: Any, takes: List[argparse.ArgumentParser]) -> None:
         "--explain", action="store_true",
         help="tell how it is found, and no row; older programs don't",
     )
+    asked.add_argument(
+        "--manager", action="store_true",
+        help="with --explain: how an entity manager finds it, and not a question of the file",
+    )
+    asked.add_argument(
+        "--index", action="append", default=[], metavar="ENTITY.NAME",
+        help="with --manager: it was told this index; may stand several times",
+    )
     asked.set_defaults(run=run_query)
 
 
 def run_query(said: argparse.Namespace) -> int:
     """Prints the rows that a SELECT finds; a query that is refused is told with its mistakes."""
     _take_words(said)
+    if said.manager and not said.explain or said.index and not said.manager:
+        raise Misused("--manager stands beside --explain, and --index beside --manager")
     given = given_of(said.mapping)
     said.language = said.language or ("profile" if isinstance(given, str) else "wide")
     data = mapping_data(said.mapping)
@@ -108,7 +118,7 @@ def _take_words(said: argparse.Namespace) -> None:
 
 def _write(said: argparse.Namespace, query: _Query) -> None:
     if said.explain:
-        for line in query.lines("--explain"):
+        for line in query.plan(said.manager, said.index):
             print(line)
     elif said.json:
         for row in query.rows():
@@ -182,8 +192,18 @@ class _Query:
         for line in self.lines():
             yield json.loads(line)
 
+    def plan(self, by_manager: bool, indexes: Sequence[str]) -> Iterator[str]:
+        """How it is found in the file, or by a manager that has these indexes."""
+        if not by_manager:
+            return self.lines("--explain")
+        told = (word for index in indexes for word in ("--index", index))
+        return self._printed(False, "--explain", *told)
+
     def lines(self, *more: str) -> Iterator[str]:
-        """What the program prints, line by line."""
+        """What the program prints of the file, line by line."""
+        return self._printed(True, *more)
+
+    def _printed(self, of_file: bool, *more: str) -> Iterator[str]:
         if self._is_wide and not self._takes("--language"):
             raise KarzhoulError(
                 f"{self._program} is an older program, which has the language of the profile alone"
@@ -191,7 +211,8 @@ class _Query:
         if not self._takes("--query"):
             raise KarzhoulError(f"{self._program} is an older program, which tells no plans")
         with _as_file(self._mapping, self._data) as mapping:
-            words = [self._program, "--mapping", mapping, "--db", os.path.abspath(self._db)]
+            words = [self._program, "--mapping", mapping]
+            words += ["--db", os.path.abspath(self._db)] if of_file else []
             words += ["--query", self._text]
             for name, value in self._params.items():
                 words += ["--param", f"{name}={_json(value)}"]

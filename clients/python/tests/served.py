@@ -11,7 +11,8 @@ from typing import Any, Coroutine, List, Mapping, Optional, Union
 
 from karzhoul.factory import started
 from karzhoul.program import Program
-from karzhoul.server.connection import Connection
+from karzhoul.server.files import files_beside
+from karzhoul.server.plain import Listener
 from karzhoul.server.service import Service
 from karzhoul.server.settings import Served, Settings
 
@@ -47,11 +48,15 @@ class Here:
 
     async def _run(self) -> None:
         self._loop = asyncio.get_running_loop()
-        self.service = Service(self._settings, self._start, self._start(), self._served)
-        server: Optional[asyncio.AbstractServer] = None
+        files = files_beside(self._loop)
+        self.service = Service(self._settings, self._start, self._start(), self._served, files)
+        server: Optional[Listener] = None
         if self._path is not None:
-            server = await self._loop.create_unix_server(
-                lambda: Connection(self.service, self._is_trusted), str(self._path)
+            listening = socket.socket(socket.AF_UNIX)
+            listening.bind(str(self._path))
+            listening.listen()
+            server = Listener(
+                listening, lambda made: self.service.connect(made, self._is_trusted)
             )
         self._ready.set()
         looking = self._loop.create_task(self._look_after())
@@ -64,16 +69,13 @@ class Here:
     async def _look_after(self) -> None:
         while True:
             await asyncio.sleep(0.05)
-            self.service.look_after()
+            self.service.watch.look()
 
     def connected(self, is_trusted: bool = True) -> socket.socket:
         """A socket that leads to it."""
         mine, its = socket.socketpair()
         mine.settimeout(SECONDS)
-        made = self._loop.connect_accepted_socket(
-            lambda: Connection(self.service, is_trusted), its
-        )
-        asyncio.run_coroutine_threadsafe(made, self._loop).result(SECONDS)
+        self._loop.call_soon_threadsafe(self.service.connect, its, is_trusted)
         return mine
 
     def later(self, work: Coroutine[Any, Any, None]) -> None:

@@ -126,8 +126,8 @@ class WhoIsAnswered(ConsoleTest):
         self.assertEqual(self.ask("overview")["entities"][1]["count"], "7")
 
 
-_NAMES = ("overview", "query", "object", "check", "csv", "set", "create", "remove", "add",
-          "takeOut", "execute", "rollback", "none", "")
+_NAMES = ("overview", "query", "object", "check", "csv", "explain", "set", "create", "remove",
+          "add", "takeOut", "execute", "rollback", "none", "")
 _WORDS = ("SELECT e FROM Person e", "SELECT o FROM Order o WHERE o.amount = :n", "Order", "Person",
           "name", "amount", "orders", "person", "", "\ud800", "\x00", "1", "-9", "9" * 20,
           "(" * 3_000, "SELECT", NASTY)
@@ -220,6 +220,16 @@ class Reading(ConsoleTest):
         self.assertEqual([(it["column"], it["word"]) for it in refused["mistakes"]], [(10, "FORM")])
         self.assertEqual(self.ask("check", text="SELECT o FROM Order o WHERE o.amount IN (:n, :m)")
                          ["parameters"], ["n", "m"])
+
+    def test_a_query_says_how_its_objects_are_found(self) -> None:
+        told = self.ask("explain", text="SELECT p FROM Person p JOIN p.orders o WHERE p.id = :n",
+                        params={"n": ["int", "1"]})
+        self.assertEqual(told["lookups"], ["looks up Person by its key", "goes along Person.orders"])
+        refused = self.refused("explain", text="SELECT o FORM Order o")
+        self.assertEqual(refused["word"], "IllegalArgument(syntax)")
+        self.assertEqual([(it["column"], it["word"]) for it in refused["mistakes"]], [(10, "FORM")])
+        refused = self.refused("explain", text="DELETE FROM Order o")
+        self.assertIn("no SELECT", refused["told"][0])
 
     def test_csv_is_the_table(self) -> None:
         told = self.ask("csv", text="SELECT o FROM Order o WHERE o.number < 3 ORDER BY o.number")

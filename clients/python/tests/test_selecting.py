@@ -161,6 +161,19 @@ class Ways(unittest.TestCase):
         found = self.played(cases, PLACES, "--explain")
         self.assertEqual(found, (0, "walks over Place\n", ""))
 
+    @unittest.skipUnless(PROGRAM, "no program is built here")
+    def test_a_plan_of_a_manager(self) -> None:
+        self.fill(PROGRAM)
+        text = "SELECT p FROM Person p WHERE p.name = 'Ada'"
+        found = self.ran(PROGRAM, text, "--explain", "--manager", "--index", "Person.name")
+        self.assertEqual(found, (0, "looks up Person by the index of name\n", ""))
+        found = self.ran(PROGRAM, text, "--explain", "--manager")
+        self.assertEqual(found, (0, "looks at all of Person\n", ""))
+        status, _, told = self.ran(PROGRAM, text, "--explain", "--manager", "--index", "Person.nome")
+        self.assertEqual((status, "nome" in told or "name" in told), (3, True), told)
+        status, _, told = self.ran(PROGRAM, text, "--manager")
+        self.assertIn("--manager stands beside --explain", told)
+
     def test_the_wider_language(self) -> None:
         text, words = "SELECT UPPER(p.name), p.id FROM Person p", ["--language", "wide"]
         cases = [{"words": ["--query", text, *words], "lines": ['["ADA",1]', "[null,2]"]}]

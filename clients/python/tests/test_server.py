@@ -345,7 +345,7 @@ class Idle(ServerTest):
 class Restarts(ServerTest):
     def setUp(self) -> None:
         for name, value in (("DUE", 20), ("LATE", 40), ("LAST", 60), ("STEP", 10)):
-            for module in ("gate", "service"):
+            for module in ("gate", "renewing"):
                 if hasattr(sys.modules[f"karzhoul.server.{module}"], name):
                     patch = mock.patch(f"karzhoul.server.{module}.{name}", value)
                     patch.start()

@@ -2,17 +2,21 @@
 
 from __future__ import annotations
 
+import asyncio
+import errno
 import json
 import os
 import signal
+import socket
 import sys
 import threading
 import time
 import unittest
-from typing import Any
+from typing import Any, Tuple
 from unittest import mock
 
 import karzhoul
+from karzhoul.server.plain import Listener
 from karzhoul.server.settings import Settings
 
 from .served import SECONDS, Here
@@ -61,8 +65,8 @@ class Ends(ServerTest):
         process = self.stop()
         talk.socket.sendall(f"{NEW}\n".encode())
         self.wait_until(lambda: len(service.engine) == 1)
-        self.server.later(service._renew())
-        self.wait_until(lambda: bool(service._idle))
+        self.server.later(service.renewal.renew())
+        self.wait_until(lambda: bool(service.still.awaiting))
         os.kill(process, signal.SIGKILL)
         self.assertEqual(json.loads(talk.reply())["error"]["name"], "ProgramEnded")
         self.check_that_it_serves()
@@ -99,7 +103,7 @@ class Held(ServerTest):
 
     def setUp(self) -> None:
         for name, value in (("DUE", 20), ("LATE", 40), ("LAST", 60), ("STEP", 10)):
-            for module in ("gate", "service"):
+            for module in ("gate", "renewing"):
                 if hasattr(sys.modules[f"karzhoul.server.{module}"], name):
                     patch = mock.patch(f"karzhoul.server.{module}.{name}", value)
                     patch.start()
@@ -180,6 +184,39 @@ class LetGo(FolderTest):
         app.program.stop()
         thread.join(SECONDS)
         self.assertEqual(len(raised), 1)
+
+
+class Scarce(socket.socket):
+    """One that listens, and finds once that the process has no file left for a connection."""
+
+    was_refused = False
+
+    def accept(self) -> Tuple[socket.socket, Any]:
+        if not self.was_refused:
+            self.was_refused = True
+            raise OSError(errno.EMFILE, os.strerror(errno.EMFILE))
+        return super().accept()
+
+
+class Listening(FolderTest):
+    def test_a_connection_for_which_no_file_is_left_is_taken_later(self) -> None:
+        path = str(self.place / "s")
+
+        async def taken() -> socket.socket:
+            listening = Scarce(socket.AF_UNIX)
+            listening.bind(path)
+            listening.listen()
+            made: asyncio.Future[socket.socket] = asyncio.get_running_loop().create_future()
+            listener = Listener(listening, made.set_result)
+            with socket.socket(socket.AF_UNIX) as client:
+                client.connect(path)
+                try:
+                    return await asyncio.wait_for(made, SECONDS)
+                finally:
+                    listener.close()
+
+        with mock.patch("karzhoul.server.plain._PAUSE", 0.05):
+            asyncio.run(taken()).close()
 
 
 if __name__ == "__main__":

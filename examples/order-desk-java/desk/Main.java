@@ -21,7 +21,7 @@ import java.util.Map;
 /** The command line of the desk. It ends with 1 where a command is refused, and with 2 where it is none. */
 public final class Main {
     private static final String HELP = """
-            desk [--db FILE] [--events] COMMAND
+            desk [--db FILE | --url URL] [--events] COMMAND
               samples FOLDER [--products N] [--customers N]   write products.csv and customers.csv
               import products|customers FILE [--size N]       import a CSV file, N rows a transaction (500)
               place CUSTOMER SKU=QUANTITY.. [--day DAY]       place an order
@@ -66,10 +66,14 @@ public final class Main {
         if (words.has("--events")) {
             Journal.readBy(System.err::println);
         }
-        var url = Map.of("jakarta.persistence.jdbc.url", "karzhoul:" + words.path("--db", "desk.db"));
-        try (var factory = Persistence.createEntityManagerFactory("desk", url);
-                var manager = factory.createEntityManager()) {
+        var url = words.url().orElseGet(() -> "karzhoul:" + words.path("--db", "desk.db"));
+        var factory = Persistence.createEntityManagerFactory("desk", Map.of("jakarta.persistence.jdbc.url", url));
+        try { // Neither can be a resource before version 3.1 of the standard.
+            var manager = factory.createEntityManager();
             System.out.println(answer(command, words, manager));
+            manager.close();
+        } finally {
+            factory.close();
         }
     }
 

@@ -14,7 +14,7 @@ import java.util.Set;
 
 /** The words of a command line: options anywhere, the others in their order. */
 final class Words {
-    private static final Set<String> OPTIONS = Set.of("--db", "--day", "--size", "--products", "--customers");
+    private static final Set<String> OPTIONS = Set.of("--db", "--url", "--day", "--size", "--products", "--customers");
     private static final Set<String> FLAGS = Set.of("--events", "--help");
 
     /** Words that are no command. */
@@ -64,6 +64,11 @@ final class Words {
 
     Path path(String option, String otherwise) {
         return Path.of(options.getOrDefault(option, otherwise));
+    }
+
+    /** Where another provider's database is. */
+    Optional<String> url() {
+        return Optional.ofNullable(options.get("--url"));
     }
 
     int count(String option, int otherwise) {

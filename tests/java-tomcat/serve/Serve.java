@@ -23,6 +23,9 @@ public final class Serve {
     private static final int THREADS = 8;
     private static final int REQUESTS = 20;
 
+    /** As many seconds end what hangs; nothing that goes on takes as long, also on a machine that has other work. */
+    private static final int PATIENCE = 1800;
+
     private final Tomcat tomcat = new Tomcat();
     private final HttpClient client = HttpClient.newHttpClient();
     private final String war;
@@ -91,7 +94,7 @@ public final class Serve {
     private void killProgram() throws Exception {
         ProcessHandle killed = program();
         killed.destroyForcibly();
-        killed.onExit().get(60, TimeUnit.SECONDS);
+        killed.onExit().get(PATIENCE, TimeUnit.SECONDS);
         int refused = 0;
         while (client.send(request("").GET().build(), HttpResponse.BodyHandlers.ofString()).statusCode() != 200) {
             refused++;
@@ -113,7 +116,7 @@ public final class Serve {
             }));
         }
         for (Future<?> one : all) {
-            one.get(300, TimeUnit.SECONDS);
+            one.get(PATIENCE, TimeUnit.SECONDS);
         }
         threads.shutdown();
         System.out.println("added: " + get());
@@ -126,7 +129,7 @@ public final class Serve {
     private HttpRequest.Builder request(String query) {
         int port = tomcat.getConnector().getLocalPort();
         return HttpRequest.newBuilder(URI.create("http://localhost:" + port + "/shop/goods" + query))
-                .timeout(Duration.ofSeconds(120));
+                .timeout(Duration.ofSeconds(PATIENCE));
     }
 
     private String send(HttpRequest.Builder request) throws IOException, InterruptedException {
@@ -146,7 +149,7 @@ public final class Serve {
     /** How many programs there are, once those that end have ended. */
     private static long programs() throws Exception {
         for (ProcessHandle one : ProcessHandle.current().children().toList()) {
-            one.onExit().get(60, TimeUnit.SECONDS);
+            one.onExit().get(PATIENCE, TimeUnit.SECONDS);
         }
         return ProcessHandle.current().children().count();
     }

@@ -9,11 +9,16 @@ import jakarta.servlet.http.HttpServlet;
 import jakarta.servlet.http.HttpServletRequest;
 import jakarta.servlet.http.HttpServletResponse;
 import java.io.IOException;
+import java.util.concurrent.ThreadLocalRandom;
+import java.util.concurrent.locks.LockSupport;
 
 /** {@code POST ?name=..} adds a good, {@code GET} tells how many there are. */
 @WebServlet("/goods")
 public class Goods extends HttpServlet {
     private static final long serialVersionUID = 1;
+
+    /** Who met others pauses for as many attempts at most, so that they don't meet again on a machine of any speed. */
+    private static final int ATTEMPTS = 8;
 
     private EntityManager manager() {
         return ((EntityManagerFactory) getServletContext().getAttribute(Unit.NAME)).createEntityManager();
@@ -21,8 +26,11 @@ public class Goods extends HttpServlet {
 
     @Override
     protected void doPost(HttpServletRequest request, HttpServletResponse response) throws IOException {
+        long begun = System.nanoTime();
         while (!isAdded(request.getParameter("name"))) {
-            Thread.onSpinWait();
+            long took = System.nanoTime() - begun;
+            LockSupport.parkNanos(ThreadLocalRandom.current().nextLong(Math.max(1, ATTEMPTS * took)));
+            begun = System.nanoTime();
         }
         response.getWriter().print("added");
     }

@@ -21,6 +21,7 @@ class Actions:
             "object": lambda said: store.object(reference_of(said.get("object"))),
             "check": lambda said: store.check(_text(said), _params(said)),
             "query": self._query,
+            "explain": lambda said: store.explain(_text(said), _params(said)),
             "csv": lambda said: {"csv": store.csv(_text(said), _params(said))},
             "commit": lambda said: store.end(True),
             "rollback": lambda said: store.end(False),

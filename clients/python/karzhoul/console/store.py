@@ -10,6 +10,7 @@ from typing import Any, Dict, Iterator, List, Mapping, Optional, Sequence
 from ..factory import EntityManagerFactory
 from ..jpql import Unreadable, parameters_of, statement_of
 from ..lines import line_of, spelled, text_spelled
+from ..lookups import lookups_of
 from ..managers import EntityManager
 from ..refusals import Misused, ProgramEnded, Restarted
 from ..rows import Names
@@ -159,6 +160,15 @@ class Store:
             except Exception as fault:
                 raise self._declined(fault, mistakes) from fault
         return {**table, "first": first, "more": len(rows) > most}
+
+    def explain(self, text: str, params: Params) -> Answer:
+        """By what the program finds the objects for a SELECT, a line for each of its variables."""
+        self._require_select(text)
+        mistakes = self._mistakes(text, params)
+        if mistakes:
+            raise Declined(declined(mistakes[0].refusal, [mistakes[0].message], mistakes))
+        with self._turn():
+            return {"lookups": lookups_of(self._app, text, params)}
 
     def csv(self, text: str, params: Params) -> str:
         """All rows of a SELECT as CSV: their table, an object by its name."""

@@ -32,6 +32,12 @@ def add_commands(
     way.add_argument("--sqlite", metavar="FILE", help="the new file of SQLite")
     way.add_argument("--sql", metavar="FILE", help="the new text of SQL; - is standard output")
     out.add_argument("--dialect", choices=("sqlite", "postgresql"), help="what --sql is for")
+    out.add_argument("--tables", metavar="FILE", help="the tables of annotated classes of Java, in the "
+                     "place of --mapping, as 'karzhoul.jpa.tool.Main mapping --tables' writes them")
+    out.add_argument("--round", action="store_true", help="leave out what of times is finer than the "
+                     "database has it, with --tables")
+    out.add_argument("--zone", help="the time zone of the application, with --tables (else the one that "
+                     "stands there)")
     _add_names(out)
     out.set_defaults(run=run_export)
 

@@ -2,11 +2,12 @@
 
 from __future__ import annotations
 
-from typing import Any, Callable, Dict, List, Optional
+from typing import Any, Callable, Dict, List, Optional, Sequence
 
 from ..classes.types import Iso, Json, Money, Plainly, StoredType, Truth, Unfit, Unique
 from ..records import Value
-from .tables import Table, Tables
+from .javaforms import JavaForm
+from .tables import Table
 
 Make = Callable[[Any], Any]
 _LONGEST_NAME = 63
@@ -39,7 +40,7 @@ class Dialect:
         the same. Its `Unfit` says why a value doesn't go."""
         raise NotImplementedError
 
-    def faults(self, tables: Tables) -> List[str]:
+    def faults(self, tables: Sequence[Table]) -> List[str]:
         """The names that the database doesn't take, a line each."""
         raise NotImplementedError
 
@@ -52,6 +53,8 @@ class SQLite(Dialect):
     _PLAIN = {"int": "INTEGER", "text": "TEXT", "bytes": "BLOB"}
 
     def type_of(self, kind: StoredType) -> str:
+        if isinstance(kind, JavaForm):
+            return kind.sql
         if isinstance(kind, Truth):
             return "BOOLEAN"
         if isinstance(kind, Iso):
@@ -68,6 +71,8 @@ class SQLite(Dialect):
     def maker(self, kind: StoredType) -> Optional[Make]:
         if isinstance(kind, Plainly):
             return None
+        if isinstance(kind, JavaForm):
+            return kind.made
 
         def checked(value: Value) -> Value:
             kind.from_stored(value)
@@ -75,11 +80,11 @@ class SQLite(Dialect):
 
         return checked
 
-    def faults(self, tables: Tables) -> List[str]:
+    def faults(self, tables: Sequence[Table]) -> List[str]:
         return [
             f"{it.entity} would be the table {it.name}, a name that SQLite keeps for itself: give "
             f"it another one by --name"
-            for it in tables.all if it.name.lower().startswith("sqlite_")
+            for it in tables if it.name.lower().startswith("sqlite_")
         ]
 
 
@@ -94,6 +99,8 @@ class PostgreSQL(Dialect):
     }
 
     def type_of(self, kind: StoredType) -> str:
+        if isinstance(kind, JavaForm):
+            return kind.sql
         if isinstance(kind, Truth):
             return "boolean"
         if isinstance(kind, Iso):
@@ -105,6 +112,8 @@ class PostgreSQL(Dialect):
         return "json" if isinstance(kind, Json) else self._PLAIN[kind.stored]
 
     def maker(self, kind: StoredType) -> Optional[Make]:
+        if isinstance(kind, JavaForm):
+            return _then_copied(kind)
         if isinstance(kind, Truth):
             return lambda value: "t" if kind.from_stored(value) else "f"
         if isinstance(kind, Money):
@@ -115,10 +124,10 @@ class PostgreSQL(Dialect):
             return None if isinstance(kind, Plainly) else _checking(kind, str)
         return _copied if isinstance(kind, Plainly) else _checking(kind, _copied)
 
-    def faults(self, tables: Tables) -> List[str]:
+    def faults(self, tables: Sequence[Table]) -> List[str]:
         return [
             f"{place} would be {what} {name}, {why}: give it another one by --name {place}=NAME"
-            for table in tables.all for place, what, name in _named(table)
+            for table in tables for place, what, name in _named(table)
             for why in _why_not(what, name)
         ]
 
@@ -129,6 +138,10 @@ def _checking(kind: StoredType, then: Make) -> Make:
         return then(value)
 
     return checked
+
+
+def _then_copied(kind: JavaForm) -> Make:
+    return lambda value: _copied(str(kind.made(value)))
 
 
 _ESCAPES = str.maketrans({"\\": "\\\\", "\t": "\\t", "\n": "\\n", "\r": "\\r"})

@@ -9,7 +9,7 @@ import sys
 from contextlib import contextmanager
 from dataclasses import replace
 from pathlib import Path
-from typing import Any, Dict, Iterator, List, Mapping, Optional, Sequence, Tuple, Union
+from typing import Any, Dict, Iterator, List, Mapping, Optional, Sequence, Tuple
 
 from .. import factory
 from ..classes.mapping import FORMS
@@ -20,17 +20,20 @@ from ..migration import outlook
 from ..progress import Progress
 from ..records import bare
 from ..refusals import KarzhoulError, Misused
+from . import annotated_rows
+from .annotated import Annotated, annotated
+from .annotated_rows import refuse_others
 from .dialects import DIALECTS, Dialect
-from .naming import Names, given_names
+from .naming import AS_MAPPED, Names, given_names
 from .rows import NoRow, Rows
 from .script import Script
 from .sqlite import File, refuse_logs
-from .tables import Tables
+from .tables import Table, Tables
+from .targets import Target, counts_of
 
 WRONG = 1
 _FORMS_OF = f"SELECT f.at, f.form FROM {FORMS} f"
 _KINDS = {int: "int", str: "text", bytes: "bytes"}
-Target = Union[File, Script]
 
 
 class NoTables(KarzhoulError):
@@ -50,23 +53,46 @@ def run(said: argparse.Namespace) -> int:
         check_new(Path(name))
     if said.sqlite is not None:
         refuse_logs(Path(name))
-    side = side_of(mapped(said.mapping), said.what)
+    given = _given(said, dialect)
+    side = given.side if given is not None else side_of(mapped(said.mapping), said.what)
     _refuse_older(side, Path(said.db))
     with opened(side, Path(said.db), said.program) as app:
         try:
-            tables = tables_of(side, app, said, dialect)
-            target: Target = (
-                File(Path(name), tables.all) if said.sql is None
-                else Script(name, tables.all, dialect)
-            )
-            count = write(app, tables, dialect, target)
+            if given is not None:
+                refuse_others(app, given, said.tables)
+                tables = given.all
+                count = annotated_rows.write(app, given, dialect, _target(said, name, tables, dialect))
+            else:
+                made = tables_of(side, app, said, dialect)
+                tables = made.all
+                count = write(app, made, dialect, _target(said, name, tables, dialect))
         except (NoTables, NoRow) as why:
             return stopped(why.faults, f"{name} was not written")
         except (sqlite3.Error, OSError) as fault:
             raise KarzhoulError(f"{name} can't be written, and was not: {fault}") from fault
     if name != "-":
-        print(f"{name}: {count:,} objects in {len(tables.all)} tables")
+        print(f"{name}: {count:,} objects in {len(tables)} tables")
     return 0
+
+
+def _given(said: argparse.Namespace, dialect: Dialect) -> Optional[Annotated]:
+    """The tables that a file names, where it is one of these that are wanted."""
+    if said.tables is None:
+        if said.round or said.zone is not None:
+            raise Misused("--round and --zone go with --tables alone")
+        return None
+    if said.name or said.names != AS_MAPPED or said.what != "attribute":
+        raise Misused("--names, --name and --as don't go with --tables, which says all of it")
+    given = annotated(said, dialect)
+    if given.faults:
+        raise KarzhoulError("\n".join(given.faults))
+    return given
+
+
+def _target(
+    said: argparse.Namespace, name: str, tables: Sequence[Table], dialect: Dialect
+) -> Target:
+    return File(Path(name), tables) if said.sql is None else Script(name, tables, dialect)
 
 
 def _wanted(said: argparse.Namespace) -> Tuple[Dialect, str]:
@@ -165,8 +191,8 @@ def tables_of(
         side.take_forms({at: form for at, form in rows})
     tables = Tables(side, Names(said.names, given_names(said.name)), said.what == "column")
     tables.names.check()
-    if tables.faults + dialect.faults(tables):
-        raise NoTables(tables.faults + dialect.faults(tables))
+    if tables.faults + dialect.faults(tables.all):
+        raise NoTables(tables.faults + dialect.faults(tables.all))
     return tables
 
 
@@ -177,7 +203,7 @@ def write(
     app: factory.EntityManagerFactory, tables: Tables, dialect: Dialect, target: Target
 ) -> int:
     """Writes a store as tables; how many objects it has."""
-    stored, rows, counts = Stored(app), Rows(tables, dialect), _counts(app, tables)
+    stored, rows, counts = Stored(app), Rows(tables, dialect), counts_of(app, tables.side.shapes)
     with Progress(sum(counts.values())) as told, target:
         done = 0
         for table in (it for it in tables.all if it.pair is None):
@@ -195,11 +221,3 @@ def write(
             if it.entity in tables.side.shapes
         })
     return sum(counts.values())
-
-
-def _counts(app: factory.EntityManagerFactory, tables: Tables) -> Dict[str, int]:
-    manager = app.create_entity_manager()
-    return {
-        name: int(manager.one(f"SELECT COUNT(e) FROM {name} e WHERE TYPE(e) = {name}"))
-        for name in tables.side.shapes
-    }

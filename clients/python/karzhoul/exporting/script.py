@@ -28,6 +28,7 @@ class Script:
         self._path = None if name == "-" else Path(name)
         self._tables, self._words = tables, _words_of(dialect)
         self._later: Dict[str, IO[str]] = {}
+        self._sequences: List[str] = []
         self._begun: Optional[Table] = None
 
     def __enter__(self) -> Script:
@@ -78,6 +79,10 @@ class Script:
             )
         self._later[table.name].write(line)
 
+    def count(self, name: str, first: int, step: int) -> None:
+        """Takes a sequence, and the number that it gives first."""
+        self._sequences += self._words.counted(name, first, step)
+
     def finish(self, nexts: Dict[str, int]) -> None:
         """Writes what is left, and puts the file in its place."""
         self._end()
@@ -94,6 +99,7 @@ class Script:
             self._say(self._words.led(table))
             if table.name in nexts:
                 self._say(self._words.following(table, nexts[table.name]))
+        self._say(iter(self._sequences))
         self._out.write("COMMIT;\n")
         if self._path is not None:
             self._out.close()
@@ -134,6 +140,10 @@ class _Words:
     def following(self, table: Table, number: int) -> Iterator[str]:
         """What has its keys go on with a number."""
         raise NotImplementedError
+
+    def counted(self, name: str, first: int, step: int) -> Iterator[str]:
+        """What makes a sequence."""
+        return iter(())
 
 
 class _ForSQLite(_Words):
@@ -184,7 +194,8 @@ class _ForPostgreSQL(_Words):
 
     def made(self, table: Table) -> Iterator[str]:
         lines = [self._column(it) for it in table.columns]
-        lines.append(f"PRIMARY KEY ({columns_of(table.key)})")
+        if table.key:
+            lines.append(f"PRIMARY KEY ({columns_of(table.key)})")
         said = ",\n  ".join(lines)
         yield f"CREATE TABLE {quoted(table.name)} (\n  {said}\n);"
         for column in table.columns:
@@ -231,6 +242,9 @@ class _ForPostgreSQL(_Words):
         key = next(it for it in table.columns if it.is_generated)
         yield (f"ALTER TABLE {quoted(table.name)} ALTER COLUMN {quoted(key.name)} "
                f"RESTART WITH {number};")
+
+    def counted(self, name: str, first: int, step: int) -> Iterator[str]:
+        yield f"CREATE SEQUENCE {quoted(name)} START WITH {first} INCREMENT BY {step};"
 
 
 def _words_of(dialect: Dialect) -> _Words:

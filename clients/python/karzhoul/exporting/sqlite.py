@@ -33,7 +33,7 @@ def table_made(table: Table) -> str:
     """The statement that makes a table, with all that it is held to."""
     is_generated = any(it.is_generated for it in table.columns)
     lines = [_column(it) for it in table.columns]
-    if not is_generated:
+    if table.key and not is_generated:
         lines.append((f"PRIMARY KEY ({columns_of(table.key)})", ""))
     lines += [(f"CONSTRAINT {quoted(it.name)} UNIQUE ({columns_of(it.columns)})", "")
               for it in table.uniques if not it.marks]

@@ -72,11 +72,12 @@ class Table:
     columns: List[Column] = field(default_factory=list)
     foreign: List[Foreign] = field(default_factory=list)
     uniques: List[Unique] = field(default_factory=list)
+    has_key: bool = True
 
     @property
     def key(self) -> Tuple[str, ...]:
-        """The names of the columns of its primary key."""
-        kept = (KEY, OWNER, TARGET)
+        """The names of the columns of its primary key; none where it has none."""
+        kept = (KEY, OWNER, TARGET) if self.has_key else ()
         return tuple(it.name for it in self.columns if it.sort in kept)
 
     @property

@@ -53,12 +53,14 @@ class Connection(asyncio.BufferedProtocol):
         self.number, self.peer = 0, ""
         # By which another connection of the same client names it.
         self.key = secrets.token_hex(16)
-        self.wait = service.settings.wait
+        self.wait: float = service.settings.wait
         self.translation: Translation = Translation()
         self.managers: Dict[int, Manager] = {}
         # How many managers it may create that were kept free for it, and until when.
-        self.reserved, self.reserved_until = 0, 0.0
-        self.began = self.heard = time.monotonic()
+        self.reserved: int = 0
+        self.reserved_until: float = 0.0
+        self.began: float = time.monotonic()
+        self.heard: float = self.began
         self.half_since: Optional[float] = None
         # The line that is coming, and those that have come.
         self._pieces: List[bytes] = []
@@ -67,13 +69,15 @@ class Connection(asyncio.BufferedProtocol):
         self._waiting = 0
         self._replies: List[bytes] = []
         # How many of its lines are on their way, and whether a long answer is.
-        self.sent, self._is_long = 0, False
+        self.sent: int = 0
+        self._is_long = False
         # Whether it waits for its turn, has its turn, doesn't read, or isn't read.
         self.is_blocked: bool = False
         self.is_ready = False
         self.is_full = self._is_paused = False
         # Whether its end has come: it sends no more, or is closed.
-        self.is_ended = self.is_closed = self.is_gone = False
+        self.is_ended = self.is_closed = False
+        self.is_gone: bool = False
         self._drained: Optional[asyncio.Future[None]] = None
         self._transport: Optional[asyncio.Transport] = None
 
@@ -93,11 +97,15 @@ class Connection(asyncio.BufferedProtocol):
         """So many bytes have come."""
         first, *more = bytes(_room[:count]).split(b"\n")
         self.heard = time.monotonic()
-        self._add(first)
-        for piece in more:
-            self._end_line()
-            self._add(piece)
-        self.half_since = None if not self.coming else self.half_since or self.heard
+        if first and more == [b""] and not self.coming:  # As below, of one line that came whole.
+            self._lines.append(first)
+            self._waiting += count
+        else:
+            self._add(first)
+            for piece in more:
+                self._end_line()
+                self._add(piece)
+            self.half_since = None if not self.coming else self.half_since or self.heard
         if self._waiting > _WAITING or (self.coming > _CHUNK and not self._service.has_room()):
             self._pause()
         self.wake()
@@ -164,7 +172,7 @@ class Connection(asyncio.BufferedProtocol):
             self._service.ready.append(self)
 
     def step(self) -> bool:
-        """Hands its next line on; whether it may have another turn."""
+        """Hands its next line on; whether it has another one, and may have another turn."""
         if not self._lines or self.is_blocked or self.is_full or self.is_closed:
             return False
         if self._is_long or self.sent >= _AHEAD:
@@ -175,7 +183,7 @@ class Connection(asyncio.BufferedProtocol):
             if is_settled:
                 self.take_line()
                 self._service.serve(self, line)
-            return is_settled
+            return is_settled and bool(self._lines)
         try:
             call = LONG if line is _TOO_LONG else self.translation.call(line, is_settled)
         except Ahead:
@@ -184,11 +192,11 @@ class Connection(asyncio.BufferedProtocol):
             if is_settled:
                 self.take_line()
                 self._service.refuse(self, refusal("Restarted", str(fault)))
-            return is_settled
+            return is_settled and bool(self._lines)
         is_taken = self._service.hand_on(self, call)
         if is_taken:
             self.take_line()
-        return is_taken
+        return is_taken and bool(self._lines)
 
     def take_line(self) -> None:
         """Takes its next line off, which is answered or handed on."""

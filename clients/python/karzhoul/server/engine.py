@@ -8,35 +8,31 @@ import os
 import time
 from collections import deque
 from contextlib import suppress
-from typing import Callable, Deque, List, NamedTuple, Optional
+from typing import Callable, Deque, List, Optional, Tuple
 
 from ..program import Program
+from .files import Files
 
 Take = Callable[[Optional[bytes]], None]
 _CHUNK = 1 << 16  # As much as a pipe holds, and little enough to be kept at hand.
-
-
-class Asked(NamedTuple):
-    """What the reply to a line is handed to that was sent; None in its place where the program has
-    ended. And since when that is waited for."""
-
-    take: Take
-    since: float
 
 
 class Engine:
     """A program that runs, and what it was sent and hasn't answered."""
 
     def __init__(
-        self, program: Program, answered: Callable[[], None], ended: Callable[[], None]
+        self, program: Program, answered: Callable[[], None], ended: Callable[[], None],
+        files: Files,
     ) -> None:
         """`answered` is called once the replies that came are taken, `ended` where the program
         has ended by itself."""
         self.program = program
         self._answered, self._ended = answered, ended
-        self._loop = asyncio.get_running_loop()
+        self._loop, self._files = asyncio.get_running_loop(), files
         self._in, self._out = program.pipes()
-        self._asked: Deque[Asked] = deque()
+        # What the reply to a line is handed to that was sent; None in its place where the program
+        # has ended. And since when that is waited for.
+        self.asked: Deque[Tuple[Take, float]] = deque()
         self._lines: List[bytes] = []
         self._unwritten = b""
         # Whether nothing is read of it any more.
@@ -45,20 +41,20 @@ class Engine:
         self._pieces: List[bytes] = []
         for pipe in (self._in, self._out):
             os.set_blocking(pipe, False)
-        self._loop.add_reader(self._out, self._read)
+        self._files.add_reader(self._out, self._read)
 
     def __len__(self) -> int:
         """How many lines it hasn't answered."""
-        return len(self._asked)
+        return len(self.asked)
 
     @property
     def is_idle(self) -> bool:
         """Whether it has answered all that it was sent."""
-        return not self._asked
+        return not self.asked
 
     def waits_since(self) -> Optional[float]:
         """Since when the line is under way that it works at; None where there is none."""
-        return self._asked[0].since if self._asked else None
+        return self.asked[0][1] if self.asked else None
 
     def send(self, line: bytes, take: Take) -> None:
         """Sends a line, at the next `flush`. Of a program that has ended it is told so, since
@@ -67,7 +63,7 @@ class Engine:
             self._loop.call_soon(take, None)
             return
         self._lines.append(line)
-        self._asked.append(Asked(take, time.monotonic()))
+        self.asked.append((take, time.monotonic()))
 
     def flush(self) -> None:
         """Writes what was sent, as far as the pipe takes it."""
@@ -81,7 +77,7 @@ class Engine:
         self._unwritten = text
         self._write()
         if self._unwritten:
-            self._loop.add_writer(self._in, self._written)
+            self._files.add_writer(self._in, self._written)
 
     def _write(self) -> None:
         try:
@@ -96,7 +92,7 @@ class Engine:
         """Goes on to write."""
         self._write()
         if not self._unwritten:
-            self._loop.remove_writer(self._in)
+            self._files.remove_writer(self._in)
 
     def _read(self) -> None:
         """Takes the replies that have come."""
@@ -108,30 +104,32 @@ class Engine:
             self._stop_pipes()
             self._ended()
             return
-        first, *more = chunk.split(b"\n")
-        self._pieces.append(first)
-        for piece in more:
-            reply = b"".join(self._pieces)
-            self._pieces = [piece]
-            if not self._asked:  # It told more than it was asked.
+        *replies, rest = chunk.split(b"\n")
+        if replies and self._pieces:
+            replies[0] = b"".join((*self._pieces, replies[0]))
+            self._pieces.clear()
+        if rest:
+            self._pieces.append(rest)
+        for reply in replies:
+            if not self.asked:  # It told more than it was asked.
                 self.program.kill()
                 return
-            self._asked.popleft().take(reply)
-        if more:
+            self.asked.popleft()[0](reply)
+        if replies:
             self._answered()
 
     def left(self) -> None:
         """Tells those whose lines weren't answered that the program has ended."""
-        while self._asked:
-            self._asked.popleft().take(None)
+        while self.asked:
+            self.asked.popleft()[0](None)
 
     def _stop_pipes(self) -> None:
         if self._is_over:
             return
         self._is_over = True
-        self._loop.remove_reader(self._out)
+        self._files.remove_reader(self._out)
         with suppress(ValueError, OSError):
-            self._loop.remove_writer(self._in)
+            self._files.remove_writer(self._in)
 
     def close(self) -> None:
         """Ends the program's input, and waits for its end."""

@@ -10,15 +10,17 @@ import socket
 import stat
 from contextlib import suppress
 from pathlib import Path
-from typing import Callable, List, Optional
+from typing import Callable, List, Optional, Union
 
 from ..program import Program
 from ..refusals import Misused
 from .address import Address
 from .connection import Connection
+from .files import files_beside
 from .logs import log
 from .metrics import Metrics
 from .notify import notify
+from .plain import Listener
 from .service import Service
 from .settings import Listening, Served, Settings
 
@@ -56,9 +58,10 @@ async def _serve(
     start: Callable[[], Program], program: Program, served: Served,
 ) -> int:
     loop = asyncio.get_running_loop()
-    service = Service(settings, start, program, served)
+    files = files_beside(loop) if listening.tls is None else loop
+    service = Service(settings, start, program, served, files)
     is_trusted = bool(listening.address.path) or settings.token is None
-    server = await _server(listening, sockets[0], lambda: Connection(service, is_trusted))
+    server = await _server(listening, sockets[0], service, is_trusted)
     metrics = Metrics(service)
     if listening.metrics is not None:
         await metrics.listen(listening.metrics)
@@ -80,24 +83,28 @@ async def _serve(
 
 
 async def _server(
-    listening: Listening, listener: socket.socket, made: Callable[[], Connection]
-) -> asyncio.AbstractServer:
-    loop = asyncio.get_running_loop()
-    if listening.address.path:
-        return await loop.create_unix_server(made, sock=listener, backlog=_BACKLOG)
-    return await loop.create_server(made, sock=listener, ssl=listening.tls, backlog=_BACKLOG)
+    listening: Listening, listener: socket.socket, service: Service, is_trusted: bool
+) -> Union[Listener, asyncio.AbstractServer]:
+    if listening.tls is None:
+        return Listener(listener, lambda made: service.connect(made, is_trusted))
+    return await asyncio.get_running_loop().create_server(
+        lambda: Connection(service, is_trusted), sock=listener, ssl=listening.tls,
+        backlog=_BACKLOG,
+    )
 
 
 async def _look_after(service: Service) -> None:
     while True:
         await asyncio.sleep(min(1.0, service.settings.idle / 4, service.settings.half_line / 4))
-        service.look_after()
+        service.watch.look()
 
 
 class _Ending:
     """The end of a server that is told to end: nothing is begun, and what is open may end."""
 
-    def __init__(self, service: Service, server: asyncio.AbstractServer) -> None:
+    def __init__(
+        self, service: Service, server: Union[Listener, asyncio.AbstractServer]
+    ) -> None:
         self._service, self._server = service, server
 
     def begin(self) -> None:

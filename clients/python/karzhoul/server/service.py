@@ -3,15 +3,11 @@
 from __future__ import annotations
 
 import asyncio
-import math
 import socket
 import struct
 import time
 from collections import deque
-from contextlib import asynccontextmanager
-from typing import (
-    Any, AsyncIterator, Callable, Coroutine, Deque, Dict, List, Optional, Set, Tuple,
-)
+from typing import Any, Callable, Coroutine, Deque, Dict, List, Optional, Set, Tuple
 
 from ..places import MOST
 from ..program import Program
@@ -20,58 +16,38 @@ from .connection import Connection, Manager
 from .counts import Counts
 from .creating import Creation
 from .engine import Engine
-from .gate import DUE, LAST, LATE, Gate
+from .files import Files
+from .gate import Gate
 from .logs import log
 from .own import Own
+from .plain import Plain
 from .refusals import NULL, refusal
+from .renewing import Renewal
 from .settings import Served, Settings
-from .translation import BEGUN, CREATE, Call, Translation
+from .still import Stillness
+from .translation import BEGUN, Call, Translation
+from .turns import Turn
+from .watching import Watch
 
 _WINDOW = 64
 _LARGE = 1 << 16
-_RESTART = b'{"call":"restart"}'
 _ENDING = "the server is ending"
 _ACTIVE = b'{"error":{"name":"IllegalState","no":7,"why":"active"},"events":[]}'
 # How many times in a row a program that ended is started again, with a second between them.
 _MOST_STARTS = 5
 
 
-class Turn:
-    """A connection that waits within a `createEntityManager`."""
-
-    def __init__(self, service: Service, connection: Connection) -> None:
-        self._service, self.connection = service, connection
-        self.until = time.monotonic() + connection.wait
-        connection.is_blocked = True
-
-    def let_in(self) -> None:
-        """It creates its manager, in its next turn."""
-        connection = self.connection
-        connection.reserved += 1
-        connection.reserved_until = math.inf
-        self._go_on()
-
-    def refuse(self) -> None:
-        """None became free in time."""
-        why = f"none became free within {self.connection.wait:g} seconds"
-        self._service.refuse(self.connection, self._service.no_manager(why))
-        self.connection.take_line()
-        self._go_on()
-
-    def _go_on(self) -> None:
-        self.connection.is_blocked = False
-        self.connection.wake()
-
-
 class Service:
     """A server over a program that was started, which `start` starts again where it has ended."""
 
     def __init__(
-        self, settings: Settings, start: Callable[[], Program], program: Program, served: Served
+        self, settings: Settings, start: Callable[[], Program], program: Program, served: Served,
+        files: Files,
     ) -> None:
+        """With what waits for the program's pipes and the sockets of connections."""
         self.settings, self.served = settings, served
-        self._start = start
-        self.engine = Engine(program, self._answered, self._program_ended)
+        self._start, self._files = start, files
+        self.engine = Engine(program, self._answered, self._program_ended, files)
         self.gate, self.counts, self.own = Gate(), Counts(), Own(self)
         self.connections: Dict[Connection, None] = {}
         # Those who have their turn, who were told something, who don't read and since when, and
@@ -79,17 +55,11 @@ class Service:
         self.ready: Deque[Connection] = deque()
         self.told: List[Connection] = []
         self.full: Dict[Connection, float] = {}
-        self._closing: Dict[Connection, float] = {}
-        # Those who wait to begin a transaction, and until when.
-        self._held: Dict[Connection, float] = {}
+        self.closing: Dict[Connection, float] = {}
         self._coming = self.active = self._last = 0
         # How many objects the run has made, and managers, with those that are on their way.
         self.made = self.created = 0
-        # How many keep all lines from being handed on, and those who wait for a still program.
-        self._stills = 0
-        self._still = asyncio.Lock()
-        self._idle: List[asyncio.Future[None]] = []
-        self._is_renewing = False
+        self.still, self.renewal, self.watch = Stillness(self), Renewal(self), Watch(self)
         self.is_ending = False
         # Its status, once it has ended.
         self.ended: asyncio.Future[int] = asyncio.get_running_loop().create_future()
@@ -102,6 +72,10 @@ class Service:
         return max(self.made, self.created)
 
     # ---- connections
+
+    def connect(self, made: socket.socket, is_trusted: bool) -> None:
+        """A connection is made of a socket that leads to a client, which isn't ciphered."""
+        Plain(self._files, made, Connection(self, is_trusted))
 
     def add(self, connection: Connection, transport: asyncio.Transport) -> None:
         """A connection is there, or refused where there are too many."""
@@ -136,7 +110,7 @@ class Service:
         """Rolls back its transactions, and closes its managers."""
         del self.connections[connection]
         self.full.pop(connection, None)
-        self._held.pop(connection, None)
+        self.renewal.leave(connection)
         self.gate.leave_all(connection)
         for _ in range(connection.reserved):
             self.gate.give_back()
@@ -146,7 +120,7 @@ class Service:
         connection.managers = {}
         if not connection.is_closed:
             connection.close()
-        self._closing[connection] = time.monotonic()
+        self.closing[connection] = time.monotonic()
         self.engine.flush()
 
     def close_manager(
@@ -169,11 +143,11 @@ class Service:
 
     def dispatch(self) -> None:
         """Hands lines on to the program, of each connection one in turn."""
-        if not self._stills:
-            turns = self.ready
-            while turns and len(self.engine) < _WINDOW:
+        if not self.still.count:
+            turns, asked = self.ready, self.engine.asked
+            while turns and len(asked) < _WINDOW:
                 connection = turns.popleft()
-                if connection.step() and connection.has_lines:
+                if connection.step():
                     turns.append(connection)
                 else:
                     connection.is_ready = False
@@ -264,25 +238,13 @@ class Service:
         if self.is_ending:
             self.refuse(connection, refusal("Closed", f"{_ENDING}, and begins no transaction"))
             return True
-        if is_within and self.used < LAST:
+        if is_within and not self.renewal.is_last():
             self.send(connection, call)
             return True
-        if is_within or self._held.get(connection, time.monotonic() + 1) < time.monotonic():
-            # It waits no more, and may wait for something else next.
-            self._held.pop(connection, None)
-            why = "few objects of the run are left, and a new one waits for transactions to end"
-            self.refuse(connection, refusal("Limit", why))
-            return True
-        self._held.setdefault(connection, time.monotonic() + self.settings.wait)
-        connection.is_blocked = True
-        return False
-
-    def _release(self) -> None:
-        """Those who waited to begin go on."""
-        for connection in list(self._held):
-            connection.is_blocked = False
-            connection.wake()
-        self._held.clear()
+        refused = self.renewal.refused_now(connection, is_within)
+        if refused is not None:
+            self.refuse(connection, refused)
+        return refused is not None
 
     def _restart_own(self, connection: Connection) -> bool:
         """A connection begins again: its managers are closed, and its numbers begin at 1."""
@@ -378,34 +340,12 @@ class Service:
 
     def _answered(self) -> None:
         """Replies have come."""
-        if self.engine.is_idle:
-            self._wake_idle()
-        if self.used >= DUE and not self._is_renewing:
-            self._look_at_run()
+        if self.still.awaiting and self.engine.is_idle:
+            self.still.note_idle()
+        self.renewal.look()
         self.dispatch()
 
-    # ---- a still program
-
-    def _wake_idle(self) -> None:
-        for future in self._idle:
-            if not future.done():
-                future.set_result(None)
-        self._idle.clear()
-
-    @asynccontextmanager
-    async def still(self) -> AsyncIterator[None]:
-        """Lines wait, and all that were sent are answered: nothing is under way in the block."""
-        self._stills += 1
-        try:
-            async with self._still:
-                while not self.engine.is_idle:
-                    future = asyncio.get_running_loop().create_future()
-                    self._idle.append(future)
-                    await future
-                yield
-        finally:
-            self._stills -= 1
-            self.dispatch()
+    # ---- work beside lines
 
     def later(self, work: Coroutine[Any, Any, None]) -> None:
         """Does work beside all else."""
@@ -428,66 +368,15 @@ class Service:
         self.engine.flush()
         return await future
 
-    # ---- a new run
-
-    def _look_at_run(self) -> None:
-        """Begins a new run, or has those who begin wait for one, where it is time."""
-        if not self.gate.taken or (self.used >= LATE and not self.active):
-            self._is_renewing = True
-            self.later(self._renew())
-        else:
-            self.gate.hold(self.used, time.monotonic())
-
-    async def _renew(self) -> None:
-        """Begins a new run, where still no transaction is open."""
-        try:
-            async with self.still():
-                late = self.used >= LATE
-                if self.active or (self.gate.taken and not late):
-                    return
-                if await self.ask(_RESTART) != NULL:
-                    return
-                self.counts.restarts += 1
-                log("restart", objects=self.made, managers=self.created)
-                self.made = self.created = 0
-                await self._keep()
-        finally:
-            self._is_renewing = False
-            self.gate.go_on()
-            self._release()
-
-    async def _keep(self) -> None:
-        """Creates the managers again that hold nothing; all else is of before the restart."""
-        count = 0
-        for connection in self.connections:
-            kept: Dict[int, int] = {}
-            for number, manager in list(connection.managers.items()):
-                if manager.is_touched:
-                    del connection.managers[number]
-                    continue
-                told = await self.ask(CREATE)
-                if told is None:
-                    return
-                self.created += 1
-                kept[number] = int(told[told.rindex(b":") + 1 : -1])
-                if manager.mode:
-                    mode = manager.mode[manager.mode.index(b',"mode"') :]
-                    front = b'{"call":"setFlushMode","em":%d' % kept[number]
-                    await self.ask(front + mode)
-            count += len(kept) + connection.reserved
-            connection.translation.objects.restarted()
-            connection.translation.managers.restarted(kept)
-        self.gate.begun(count)
-
     # ---- the end of the program
 
     def _program_ended(self) -> None:
         """The program has ended, and is started again; who had something of it is told so."""
         status = self.engine.program.status()
         log("program ended", status=status, objects=self.made, transactions=self.active)
-        self._stills += 1
+        self.still.hold()
         self.engine.left()
-        self._wake_idle()
+        self.still.note_idle()
         self.active = self.made = self.created = 0
         for connection in list(self.connections):
             is_lost = not connection.translation.is_empty
@@ -517,11 +406,11 @@ class Service:
                     return
                 await asyncio.sleep(1)
         self.engine.close()
-        self.engine = Engine(program, self._answered, self._program_ended)
+        self.engine = Engine(program, self._answered, self._program_ended, self._files)
         self.counts.programs += 1
         log("program started", process=program.pid)
-        self._stills -= 1
-        self._release()
+        self.still.let_go()
+        self.renewal.release()
         self.dispatch()
 
     def end(self, status: int) -> None:
@@ -536,61 +425,13 @@ class Service:
             connection.close("Closed" if connection.has_lines else "", "the server has ended")
         self.tell()
         until = time.monotonic() + 1
-        while self._closing and time.monotonic() < until:
+        while self.closing and time.monotonic() < until:
             await asyncio.sleep(0.01)
-            self._closing = {it: at for it, at in self._closing.items() if not it.is_gone}
-        for connection in [*self._closing, *self.connections]:
+            self.closing = {it: at for it, at in self.closing.items() if not it.is_gone}
+        for connection in [*self.closing, *self.connections]:
             connection.drop()
         await asyncio.sleep(0)
         self.engine.close()
-
-    # ---- each second
-
-    def look_after(self) -> None:
-        """Ends who is silent too long, doesn't read, or sends no whole line; and those who waited
-        long enough go on."""
-        now, settings = time.monotonic(), self.settings
-        self.gate.refuse_late(now)
-        if self.gate.is_over(now) and self.used < LAST:
-            self.gate.go_on()
-            self._release()
-        for connection, until in list(self._held.items()):
-            if until < now:
-                connection.is_blocked = False
-                connection.wake()
-        for connection in list(self.connections):
-            self._look_at(connection, now)
-        for connection, since in list(self._closing.items()):
-            if connection.is_gone or now - since > settings.half_line:
-                connection.drop()
-                del self._closing[connection]
-        if sum(it.unread for it in self.full) > settings.unread_room:
-            max(self.full, key=lambda it: it.unread).drop()
-        since_call = self.engine.waits_since()
-        if settings.most_call and since_call and now - since_call > settings.most_call:
-            log("call took too long", seconds=settings.most_call)
-            self.engine.program.stop()
-        self.dispatch()
-
-    def _look_at(self, connection: Connection, now: float) -> None:
-        settings = self.settings
-        connection.read_on()
-        if connection.reserved and connection.reserved_until < now:
-            connection.reserved -= 1
-            self.gate.give_back()
-        half, full = connection.half_since, self.full.get(connection)
-        if half is not None and now - half > settings.half_line:
-            connection.close("Closed", f"no whole line came for {settings.half_line:g} seconds")
-        elif not connection.is_trusted and now - connection.began > settings.half_line:
-            connection.close("Denied", "no token came")
-        elif full is not None and now - full > settings.half_line:
-            log("connection reads nothing", connection=connection.number, unread=connection.unread)
-            connection.drop()
-        elif connection.managers and not connection.sent and not connection.has_lines:
-            if now - connection.heard > settings.idle:
-                why = f"it was silent for {settings.idle:g} seconds with a manager open"
-                log("connection silent", connection=connection.number, peer=connection.peer)
-                connection.close("Closed", f"{why}: what was not committed is rolled back")
 
 
 def _nothing(_: Optional[bytes]) -> None:

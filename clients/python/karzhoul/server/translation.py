@@ -271,13 +271,15 @@ class Translation:
         front, between, ended = reply.partition(_OK)
         if word == "createEntityManager":
             return front + between + b"%d}" % self.managers.give(int(ended[:-1])), made
-        told = [found[1] for pattern, text in ((_EVENT, front), (_OBJECT, ended))
-                for found in pattern.findall(text)]
+        has_events = len(front) > len(b'{"events":[')
+        told = [it for _, it in _OBJECT.findall(ended)]
+        if has_events:
+            told += [it for _, it in _EVENT.findall(front)]
         for number in sorted({real for it in told if (real := int(it)) > made}):
             self.objects.give(number)
             made = number
         own = self._own
-        if len(front) > len(b'{"events":['):
+        if has_events:
             front = _EVENT.sub(own, front)
         pattern = _EVENT if word == "pending" else _OBJECT
         return front + between + pattern.sub(own, ended), made

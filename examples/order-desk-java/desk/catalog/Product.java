@@ -10,10 +10,9 @@ import jakarta.persistence.Entity;
 import jakarta.persistence.EntityListeners;
 import jakarta.persistence.Id;
 import jakarta.persistence.ManyToMany;
-import jakarta.persistence.OrderBy;
 import java.math.BigDecimal;
 import java.util.Collection;
-import java.util.LinkedHashSet;
+import java.util.HashSet;
 import java.util.Set;
 
 /** What is sold. */
@@ -25,8 +24,7 @@ public class Product extends Named {
     private BigDecimal price;
     private long stock;
     @ManyToMany(cascade = CascadeType.PERSIST)
-    @OrderBy("title")
-    private Set<Category> categories = new LinkedHashSet<>();
+    private Set<Category> categories = new HashSet<>();
 
     protected Product() {}
 

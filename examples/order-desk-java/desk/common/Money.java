@@ -1,6 +1,7 @@
 package desk.common;
 
 import java.math.BigDecimal;
+import java.math.RoundingMode;
 
 /** Sums of money: decimals of two places. */
 public final class Money {
@@ -9,8 +10,8 @@ public final class Money {
 
     private Money() {}
 
-    /** A sum as a clerk reads it, as {@code 12.50}. */
+    /** A sum as a clerk reads it, as {@code 12.50}. Databases without decimals, as SQLite, sum up near to it. */
     public static String words(BigDecimal sum) {
-        return sum.setScale(SCALE).toPlainString();
+        return sum.setScale(SCALE, RoundingMode.HALF_EVEN).toPlainString();
     }
 }

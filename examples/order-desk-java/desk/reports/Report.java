@@ -6,7 +6,7 @@ import java.math.BigDecimal;
 import java.util.ArrayList;
 import java.util.List;
 import java.util.Locale;
-import java.util.stream.Stream;
+import java.util.stream.IntStream;
 
 /** A query with the headings of its columns. */
 public enum Report {
@@ -30,6 +30,8 @@ public enum Report {
             SELECT c.number, c.name, c.vat FROM Company c
             WHERE EXISTS (SELECT o FROM c.orders o) ORDER BY c.number""");
 
+    private static final String MONEY = "turnover";
+
     private final List<String> headings;
     private final String text;
 
@@ -43,7 +45,7 @@ public enum Report {
         var rows = new ArrayList<List<String>>();
         rows.add(headings);
         for (var row : manager.createQuery(text, Object[].class).getResultList()) {
-            rows.add(Stream.of(row).map(Report::words).toList());
+            rows.add(IntStream.range(0, row.length).mapToObj(at -> words(headings.get(at), row[at])).toList());
         }
         return columns(rows);
     }
@@ -53,8 +55,12 @@ public enum Report {
         return name().toLowerCase(Locale.ROOT);
     }
 
-    private static String words(Object value) {
-        return value instanceof BigDecimal sum ? Money.words(sum) : String.valueOf(value);
+    /** Of which class a number is that was summed up hangs on the database. */
+    private static String words(String heading, Object value) {
+        if (heading.equals(MONEY)) {
+            return Money.words(new BigDecimal(value.toString()));
+        }
+        return value instanceof BigDecimal number ? number.toBigInteger().toString() : String.valueOf(value);
     }
 
     private static String columns(List<List<String>> rows) {

@@ -48,7 +48,7 @@ public enum Shown {
         @Override
         public String of(EntityManager manager, String key) {
             var product = found(manager, Product.class, key);
-            var categories = product.categories().stream().map(Category::title).collect(Collectors.joining(", "));
+            var categories = product.categories().stream().map(Category::title).sorted().collect(Collectors.joining(", "));
             return "product " + product.sku() + ": " + product.name() + " at " + Money.words(product.price())
                     + ", " + product.stock() + " in stock\n  in "
                     + (categories.isEmpty() ? "no category" : categories);

@@ -43,11 +43,13 @@ final class Merge {
     /** The instances that are told to their images themselves, by these. */
     private final Map<Entry, Object> direct = new LinkedHashMap<>();
     private final List<Entry> prepared = new ArrayList<>();
+    private final MergedKeys mergedKeys;
     private final JoinedOrphans orphans;
 
     Merge(Context context) {
         this.context = context;
         queue = context.queue();
+        mergedKeys = new MergedKeys(context, sources, images, imagesByInstance);
         orphans = new JoinedOrphans(context);
     }
 
@@ -67,10 +69,10 @@ final class Merge {
             findImages(reached);
             return (T) merged(root).instance();
         } catch (OptimisticLockException e) {
-            compareAgain();
+            giveUp();
             throw context.marked(new OptimisticLockException(e.getMessage(), e, stale(root)));
         } catch (RuntimeException e) {
-            compareAgain();
+            giveUp();
             throw context.marked(e);
         } finally {
             sources.forEach((source, instance) -> {
@@ -81,7 +83,8 @@ final class Merge {
     }
 
     /** What was told to images, of a merge that was refused, isn't theirs: the next flush tells what they have. */
-    private void compareAgain() {
+    private void giveUp() {
+        mergedKeys.giveUp();
         for (Entry image : direct.keySet()) {
             for (Relation relation : image.model().relations()) {
                 if (relation.get(image.instance()) instanceof Lazy lazy) {
@@ -164,7 +167,7 @@ final class Merge {
         List<List<Object>> keys = new ArrayList<>();
         for (Object instance : reached) {
             EntityModel model = context.modelOf(instance);
-            List<Object> key = keyOf(model, instance);
+            List<Object> key = mergedKeys.of(model, instance);
             Entry known = key == null ? null : context.identities().of(model, key);
             if (known != null && known.isHollow()) {
                 new Fill(context).proxy(known);
@@ -189,12 +192,7 @@ final class Merge {
                 }
             }
         }
-    }
-
-    /** Its key as it is kept; null where the program gives one, since that of before was rolled back. */
-    private List<Object> keyOf(EntityModel model, Object instance) {
-        boolean isGivenAgain = model.key().generation() == KeyModel.Generation.COUNTER && context.isNeverStored(instance);
-        return isGivenAgain ? null : Targets.keyOf(model, instance);
+        mergedKeys.give();
     }
 
     private void makeSource(Object instance) {
@@ -205,7 +203,7 @@ final class Merge {
         EntityModel model = context.modelOf(instance);
         Entry source = new Entry(model, context, Entry.State.NEW);
         source.instance(instance);
-        source.key(keyOf(model, instance));
+        source.key(mergedKeys.of(model, instance));
         sources.put(source, instance);
         Entry image = source.key() == null ? null : context.identities().of(model, source.key());
         if (image != null) {
@@ -269,7 +267,8 @@ final class Merge {
         prepared.add(image);
     }
 
-    private static Object copy(EntityModel model, Object instance) {
+    /** An instance of the same values, with collections of its own. */
+    static Object copy(EntityModel model, Object instance) {
         Object copy = model.newInstance();
         for (Attribute attribute : model.attributes()) {
             attribute.set(copy, attribute.get(instance));
@@ -288,7 +287,7 @@ final class Merge {
         Push push = context.push();
         push.merging(imagesByInstance, direct);
         List<Entry> there = new ArrayList<>(managed);
-        images.values().stream().filter(Entry::isManaged).forEach(there::add);
+        images.values().stream().filter(it -> it.isManaged() && !mergedKeys.ahead().contains(it)).forEach(there::add);
         push.these(there);
         sources.keySet().stream().filter(this::isDirect).forEach(this::checkVersion);
         push.copies();
@@ -338,13 +337,11 @@ final class Merge {
             queue.set(source.number(), model.version().get().member(), versionOf(source)).about(source);
         }
         Attribute part = model.key().parts().get(0);
-        if (Keys.isGiven(model) && Targets.keyOf(model, source.instance()) == null) {
+        if (Keys.isGiven(model) && !mergedKeys.hasGiven(source) && Targets.keyOf(model, source.instance()) == null) {
             Object key = new Keys(context).next(model);
             queue.set(source.number(), part.member(), key).about(source);
         }
-        for (KeyModel.Derived derived : model.key().derived()) {
-            derive(source, derived);
-        }
+        mergedKeys.tell(source);
     }
 
     /**
@@ -365,17 +362,6 @@ final class Merge {
 
     private static Object versionAtFirst(EntityModel model) {
         return Values.column(model.version().get(), model.version().get().get(model.newInstance()));
-    }
-
-    /** A derived key of a new instance is that of its target, where that is known. */
-    private void derive(Entry source, KeyModel.Derived derived) {
-        Object from = derived.from().get(source.instance());
-        List<Object> key = from == null ? null : Targets.keyOf(context.modelOf(from), from);
-        if (key != null && derived.parts().get(0).get(source.instance()) == null) {
-            for (int i = 0; i < key.size(); i++) {
-                queue.set(source.number(), derived.parts().get(i).member(), key.get(i)).about(source);
-            }
-        }
     }
 
     /** Collections that such a source hasn't read, and that would be empty, have the members that the image has. */
@@ -419,7 +405,9 @@ final class Merge {
         }
         numbers.addAll(persisted);
         prepared.forEach(context.identities()::put);
-        new Fill(context).merged(numbers, persisted);
+        Set<Long> unstored = new LinkedHashSet<>(persisted);
+        mergedKeys.ahead().forEach(image -> unstored.add(image.number()));
+        new Fill(context).merged(numbers, unstored);
         for (long number : persisted) {
             Entry entry = context.identities().of(number);
             if (!context.wasRunAhead(Callbacks.Event.PrePersist, entry)) {

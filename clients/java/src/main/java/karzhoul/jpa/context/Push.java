@@ -331,9 +331,14 @@ class Push {
             keys.prepare(entry);
             return;
         }
+        alone(entry);
+    }
+
+    /** Has the program persist a new one with its values, before what it leads to is told: others are to have its key. */
+    final void alone(Entry entry) {
         context.runAhead(Callbacks.Event.PrePersist, entry);
         tellValues(entry, entry.instance());
-        keys.persistAlone(entry);
+        new Keys(context).persistAlone(entry);
         Persist.manage(context, List.of(entry));
     }
 }

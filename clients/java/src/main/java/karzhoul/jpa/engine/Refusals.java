@@ -30,6 +30,7 @@ public final class Refusals {
         Map.entry("StoreFault", "the store's file could not be written; has its disk room?"),
         Map.entry("Limit", "a text or bytes over 65,535 bytes, a line over 1,048,576, a query over 16,384, lists of"
             + " more than 65,536 values together in a query, or more objects than the program makes in a run"),
+        Map.entry("Closed", "what has begun may end within its time; begin again at the server that comes next"),
         Map.entry("Rollback", "the transaction was rolled back"),
         Map.entry("Rollback(marked)", "the transaction could only roll back, since a call was refused or"
             + " setRollbackOnly asked for it"),

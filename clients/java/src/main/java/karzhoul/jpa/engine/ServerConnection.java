@@ -9,6 +9,7 @@ import java.io.OutputStream;
 import java.nio.charset.StandardCharsets;
 import java.nio.file.Files;
 import java.nio.file.Path;
+import java.util.List;
 import java.util.Map;
 import java.util.Set;
 import karzhoul.jpa.model.JsonReader;
@@ -26,6 +27,9 @@ final class ServerConnection implements Transport {
 
     /** What it says of the connection itself, which it ends then. */
     private static final Set<String> ENDS = Set.of("ProgramEnded", "Closed", "Denied");
+
+    /** How it says, as it ends itself, that it begins nothing: it keeps the connection for what that has open. */
+    private static final List<String> BEGINS_NOTHING = List.of("creates no manager", "begins no transaction");
 
     /** How it says that it handed nothing on of what a program had that ended. */
     private static final String NOT_HANDED_ON = "what was not committed is lost";
@@ -149,10 +153,10 @@ final class ServerConnection implements Transport {
      * @param isFirst whether it answers the first line of a trip, before which none was done
      */
     static void check(Reply refused, boolean isFirst) throws IOException {
-        if (!ENDS.contains(refused.error())) {
+        String why = String.valueOf(refused.why());
+        if (!ENDS.contains(refused.error()) || BEGINS_NOTHING.stream().anyMatch(why::endsWith)) {
             return;
         }
-        String why = String.valueOf(refused.why());
         if (refused.error().equals("ProgramEnded") && !why.contains(NOT_HANDED_ON)) {
             throw new IOException("the program ended before it answered");      // other threads hear of it too
         }

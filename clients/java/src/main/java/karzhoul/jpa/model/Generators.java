@@ -1,5 +1,6 @@
 package karzhoul.jpa.model;
 
+import jakarta.persistence.GeneratedValue;
 import jakarta.persistence.SequenceGenerator;
 import jakarta.persistence.TableGenerator;
 import java.lang.reflect.AnnotatedElement;
@@ -27,6 +28,8 @@ final class Generators {
     private final Faults faults;
     private final Names entityNames;
     private final Map<String, Said> defined = new HashMap<>();
+    private final Map<String, SequenceGenerator> sequences = new HashMap<>();
+    private final Map<String, TableGenerator> tables = new HashMap<>();
     private final Map<String, List<Use>> uses = new LinkedHashMap<>();
 
     /** @param entityNames the names that entities of the mapping have already */
@@ -38,11 +41,13 @@ final class Generators {
     /** Takes what a class, a member or a package defines. */
     void define(AnnotatedElement element) {
         for (SequenceGenerator it : Repeated.of(element, SequenceGenerator.class)) {
+            sequences.put(it.name(), it);
             String sequence = it.sequenceName().isEmpty() ? it.name() : it.sequenceName();
             defined.put(it.name(), new Said("sequence " + RelationReader.qualified(it.catalog(), it.schema(), sequence),
                     it.initialValue(), it.allocationSize()));
         }
         for (TableGenerator it : Repeated.of(element, TableGenerator.class)) {
+            tables.put(it.name(), it);
             String row = it.pkColumnValue().isEmpty() ? it.name() : it.pkColumnValue();
             String table = RelationReader.qualified(it.catalog(), it.schema(), it.table());
             // a table has the number that was given last
@@ -51,9 +56,11 @@ final class Generators {
         }
     }
 
-    /** Takes what the key of an entity names; the empty name is no one's. */
-    void use(Member member, PlainEntity entity, String name) {
+    /** Takes what the key of an entity says; the empty name is no one's. */
+    void use(Member member, PlainEntity entity, GeneratedValue generated) {
+        String name = generated.generator();
         define(member.annotated());
+        entity.isGeneratedBy(new KeyGenerator(generated.strategy(), name, sequences.get(name), tables.get(name)));
         Said said = defined.getOrDefault(name, new Said("sequence " + name, 1, 1));
         if (name.isEmpty()) {
             return;

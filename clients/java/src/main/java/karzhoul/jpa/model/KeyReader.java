@@ -267,7 +267,7 @@ final class KeyReader {
             faults.add(only, "a generated number is no " + type.getName(),
                     "Declare it as Long, or use GenerationType.UUID");
         } else if (!isUuid) {
-            generators.use(only, draft.entity(), generated.get().generator());
+            generators.use(only, draft.entity(), generated.get());
         }
         return isUuid ? Generation.UUID : Generation.COUNTER;
     }

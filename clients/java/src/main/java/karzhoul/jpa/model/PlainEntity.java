@@ -35,6 +35,7 @@ final class PlainEntity implements EntityModel {
     private Elements elements;
     private String declaredAt;
     private Sequence sequence;
+    private KeyGenerator generator;
 
     PlainEntity(Class<?> javaClass, String name, String mappedName, PlainEntity above, String table,
             String discriminator) {
@@ -174,6 +175,20 @@ final class PlainEntity implements EntityModel {
 
     List<KeyCopy> ownCopies() {
         return ownCopies;
+    }
+
+    List<Unique> ownUniques() {
+        return ownUniques;
+    }
+
+    /** Takes what its key says of how it is generated. */
+    void isGeneratedBy(KeyGenerator generator) {
+        this.generator = generator;
+    }
+
+    /** How its key is generated; null of one that the application gives. */
+    KeyGenerator generator() {
+        return generator;
     }
 
     /** The name of a column that a class of the hierarchy declares: below the root columns are a class's own. */

@@ -78,6 +78,11 @@ final class PlainUnit implements UnitModel {
     }
 
     @Override
+    public String tables() {
+        return TablesWriter.write(entities.stream().map(PlainEntity.class::cast).toList(), stored, description);
+    }
+
+    @Override
     public String description() {
         return description;
     }

@@ -33,6 +33,13 @@ public interface UnitModel {
     String mapping();
 
     /**
+     * The tables of SQL that the annotations say, with this mapping, as JSON: those that another provider looks for.
+     *
+     * @throws IllegalArgumentException with a line for each that can't be written
+     */
+    String tables();
+
+    /**
      * What the rows of a store mean, by the names of tables and columns: a line for each, its name before a tab. Two
      * units may share a store where this is the same.
      */

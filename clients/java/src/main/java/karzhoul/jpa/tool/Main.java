@@ -13,7 +13,7 @@ import karzhoul.jpa.spi.ProgramFile;
 
 /**
  * {@code java -jar karzhoul-jpa.jar mapping STORE}: the mapping that a store was written with, for other tools. It needs
- * no library; what has {@code --unit NAME} needs those of the unit. The status is 0, 2 where the words are wrong, and 4
+ * no library; what has {@code --unit NAME} needs those of the unit, by {@code --classes} or {@code -cp}. The status is 0, 2 where the words are wrong, and 4
  * where the store or the unit can't be read; of {@code migrate} that of {@code karzhoul migrate}.
  */
 public final class Main {
@@ -21,15 +21,19 @@ public final class Main {
     private static final int FAILED = 4;
     private static final String USAGE = """
             Usage: java -jar karzhoul-jpa.jar mapping STORE [--program FILE]
-                   java -cp .. karzhoul.jpa.tool.Main mapping --unit NAME [--serve]
-                   java -cp .. karzhoul.jpa.tool.Main migrate STORE --unit NAME [--python PROGRAM] [WORD..]
+                   java -jar karzhoul-jpa.jar mapping --unit NAME --classes PATH[:PATH] [--serve | --tables]
+                   java -jar karzhoul-jpa.jar migrate STORE --unit NAME --classes PATH[:PATH] [--python PROGRAM] [WORD..]
 
-            mapping prints the mapping that a store of a Java unit was written with, or that of a unit on the class
-            path, as JSON on standard output. Its names are those of tables and columns; with --serve those of
-            entities and attributes, as karzhoul serve --mapping takes it for units in Java.
+            PATH is a JAR, a folder of classes, or FOLDER/* for the JARs in one: the unit, and the libraries that it
+            and Karzhoul need. Where java -cp .. karzhoul.jpa.tool.Main has them all, --classes isn't needed.
 
-            migrate brings a store over to the classes of a unit on the class path, where no opening does. It runs
-            karzhoul migrate of the Python client, by python3 or PROGRAM, with other words as these:
+            mapping prints the mapping that a store of a Java unit was written with, or that of a unit, as JSON on
+            standard output. Its names are those of tables and columns; with --serve those of entities and
+            attributes, as karzhoul serve --mapping takes it for units in Java; with --tables the tables too that
+            another provider of the standard looks for, as karzhoul export --tables takes them.
+
+            migrate brings a store over to the classes of a unit, where no opening does. It runs karzhoul migrate of
+            the Python client, by python3 or PROGRAM, with other words as these:
               --with FILE.py  functions that tell what can't be told by names
               --drop WHAT     what is meant to go
               --plan          tells what would be done, and does nothing""";
@@ -42,8 +46,13 @@ public final class Main {
             System.out.println(USAGE);
             return;
         }
-        String command = rest.isEmpty() ? "" : rest.remove(0);
         try {
+            Optional<String> classes = taken(rest, "--classes");
+            if (classes.isPresent()) {
+                ClassPath.of(classes.get()).run(Main.class.getName(), rest);
+                return;
+            }
+            String command = rest.isEmpty() ? "" : rest.remove(0);
             int status = command.equals("migrate") ? migrate(rest) : command.equals("mapping") ? mapping(rest) : MISSAID;
             if (status == MISSAID) {
                 System.err.println(USAGE);
@@ -53,8 +62,8 @@ public final class Main {
             System.err.println("karzhoul: " + fault.getMessage());
             System.exit(FAILED);
         } catch (NoClassDefFoundError missing) {
-            System.err.println("karzhoul: " + missing.getMessage() + " isn't on the class path: run it by -cp, with the unit and"
-                    + " its libraries");
+            System.err.println("karzhoul: " + missing.getMessage() + " isn't on the class path: name the unit and its libraries by"
+                    + " --classes PATH[:PATH], or run it by -cp with them");
             System.exit(FAILED);
         }
     }
@@ -62,11 +71,13 @@ public final class Main {
     private static int mapping(List<String> rest) throws IOException, InterruptedException {
         Optional<String> unit = taken(rest, "--unit");
         Optional<String> program = taken(rest, "--program");
-        boolean isServed = unit.isPresent() && rest.remove("--serve");
+        boolean isOfTables = unit.isPresent() && rest.remove("--tables");
+        boolean isServed = unit.isPresent() && !isOfTables && rest.remove("--serve");
         if (rest.size() != (unit.isPresent() ? 0 : 1) || rest.stream().anyMatch(word -> word.startsWith("-"))) {
             return MISSAID;
         }
-        System.out.println(unit.isPresent() ? UnitMapping.of(unit.get(), isServed) : ofStore(Path.of(rest.get(0)), program));
+        System.out.println(isOfTables ? UnitMapping.tables(unit.get())
+                : unit.isPresent() ? UnitMapping.of(unit.get(), isServed) : ofStore(Path.of(rest.get(0)), program));
         return 0;
     }
 

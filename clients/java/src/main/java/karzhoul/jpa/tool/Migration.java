@@ -58,6 +58,7 @@ final class Migration {
             List<String> command = new ArrayList<>(List.of(python, "-m", "karzhoul", "migrate", store.toString(), "--program",
                     unit.program(), "--from", before.toString(), "--mapping", now.toString(), "--drop", StoredDescription.ENTITY));
             command.addAll(more);
+            needClient(python);
             int status = new ProcessBuilder(command).inheritIO().start().waitFor();
             if (status == 0 && !more.contains("--plan")) {
                 new Factory(unit).close();
@@ -67,6 +68,23 @@ final class Migration {
             Files.deleteIfExists(before);
             Files.deleteIfExists(now);
             Files.delete(folder);
+        }
+    }
+
+    /** @throws IOException where that program hasn't the Python client, in words */
+    private static void needClient(String python) throws IOException, InterruptedException {
+        if (!hasClient(python)) {
+            throw new IOException(python + " isn't there, or doesn't find the module karzhoul, which brings stores over: install"
+                    + " the Python client (clients/python) or set PYTHONPATH to it, or name a Python that has it by --python");
+        }
+    }
+
+    private static boolean hasClient(String python) throws InterruptedException {
+        try {
+            return new ProcessBuilder(python, "-c", "import karzhoul").redirectErrorStream(true)
+                    .redirectOutput(ProcessBuilder.Redirect.DISCARD).start().waitFor() == 0;
+        } catch (IOException e) {
+            return false;
         }
     }
 }

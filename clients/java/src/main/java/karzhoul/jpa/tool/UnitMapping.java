@@ -3,6 +3,7 @@ package karzhoul.jpa.tool;
 import java.io.IOException;
 import java.util.Map;
 import karzhoul.jpa.model.StoredMapping;
+import karzhoul.jpa.model.UnitModel;
 import karzhoul.jpa.spi.Units;
 
 /** The mapping of a unit on the class path; it needs the libraries of the door. */
@@ -16,7 +17,26 @@ final class UnitMapping {
      * @throws IOException where there is no such unit
      */
     static String of(String unit, boolean isServed) throws IOException {
-        return Units.find(unit, Map.of()).map(found -> isServed ? found.unit().mapping()
-                : StoredMapping.ofClasses(found.unit().description())).orElseThrow(() -> new IOException("there is no unit " + unit + " of karzhoul.jpa.KarzhoulProvider on the class path"));
+        UnitModel found = find(unit);
+        return isServed ? found.mapping() : StoredMapping.ofClasses(found.description());
+    }
+
+    /**
+     * That of a unit, with the tables that another provider looks for.
+     *
+     * @throws IOException where there is no such unit, or what of it can't be tables
+     */
+    static String tables(String unit) throws IOException {
+        try {
+            return find(unit).tables();
+        } catch (IllegalArgumentException refused) {
+            throw new IOException(refused.getMessage(), refused);
+        }
+    }
+
+    /** The unit may say where its store is, or leave that to the application: no store is opened. */
+    private static UnitModel find(String unit) throws IOException {
+        return Units.find(unit, Map.of("jakarta.persistence.jdbc.url", "karzhoul:memory")).orElseThrow(() -> new IOException(
+                "there is no unit " + unit + " of karzhoul.jpa.KarzhoulProvider on the class path")).unit();
     }
 }

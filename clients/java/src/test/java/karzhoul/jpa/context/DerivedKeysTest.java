@@ -298,4 +298,79 @@ class DerivedKeysTest {
         }
         assertEquals(List.of(2, "line 1 of 0 notes"), stored("refused"));
     }
+
+    @Test
+    void mergeOfANewOrderGivesItsLinesTheirKeys() {
+        Order order = new Order("merged", 2);
+        new Parcel(order, "small");
+        new Note(order.parcel, order.lines.get(1), 7);
+        committed(manager -> {
+            Order merged = manager.merge(order);
+            assertEquals(3, merged.id);
+            assertEquals(3, merged.parcel.id);
+            assertEquals(3, merged.lines.get(1).notes.get(0).id.parcel);
+            assertEquals(7, merged.lines.get(1).notes.get(0).id.place);
+            assertEquals(merged, merged.lines.get(0).order);
+            assertEquals(List.of(false, true), List.of(manager.contains(order.lines.get(0)), manager.contains(merged.lines.get(0))));
+            return null;
+        });
+        assertEquals(0, order.id);          // what was merged is as it was
+        assertEquals(List.of(1, "line 1 of 0 notes", "line 2 of 1 notes", "small"), stored("merged"));
+    }
+
+    @Test
+    void mergeOfAnOrderThatWasRolledBackGivesItsLinesItsNewKey() {
+        Order order = new Order("again", 2);
+        new Parcel(order, "old");
+        try (EntityManager manager = factory.createEntityManager()) {
+            manager.getTransaction().begin();
+            manager.persist(order);
+            manager.flush();
+            manager.getTransaction().rollback();
+        }
+        assertEquals(List.of(3L, 3L), List.of(order.id, order.parcel.id));
+        Order between = new Order("between", 0);
+        new Parcel(between, "of another");
+        committed(manager -> {
+            manager.persist(between);
+            manager.persist(new Order("after", 0));
+            return null;
+        });
+        committed(manager -> manager.merge(order));
+        assertEquals(List.of(1, "of another"), stored("between"));
+        assertEquals(List.of(2, "line 1 of 0 notes", "line 2 of 0 notes", "old"), stored("again"));
+    }
+
+    @Test
+    void mergeOfAChildWhosePartIsAPrimitiveGivesItTheKeyOfItsParent() {
+        Order order = new Order("noted", 1);
+        new Parcel(order, "small");
+        committed(manager -> {
+            manager.persist(order);
+            return null;
+        });
+        Note note = new Note();
+        note.id.place = 5;
+        note.parcel = order.parcel;
+        note.line = order.lines.get(0);
+        committed(manager -> {
+            Note merged = manager.merge(note);
+            assertEquals(List.of(order.id, 5), List.of(merged.id.parcel, merged.id.place));
+            return null;
+        });
+        assertEquals(List.of(1, "line 1 of 1 notes", "small"), stored("noted"));
+    }
+
+    @Test
+    void aMergeThatIsRefusedLeavesNothing() {
+        Order order = new Order("refused", 1);
+        order.lines.add(new Line(null, 2));
+        try (EntityManager manager = factory.createEntityManager()) {
+            assertThrows(RuntimeException.class, () -> manager.merge(order));
+            manager.getTransaction().begin();
+            manager.getTransaction().commit();
+        }
+        Object orders = committed(manager -> manager.createQuery("SELECT COUNT(o) FROM Order o").getSingleResult());
+        assertEquals(2L, orders);
+    }
 }

@@ -205,6 +205,34 @@ class ServerSharingTest {
     }
 
     @Test
+    void whoWouldBeginWhileTheServerEndsIsRefusedAndOthersGoOn() throws Exception {
+        try (Serving server = new Serving(folder, Note.class, Counter.class);
+                Factory factory = server.factory(Note.class, Counter.class)) {
+            begin(factory);
+            EntityManager open = factory.createEntityManager();
+            open.getTransaction().begin();
+            Counter counter = open.find(Counter.class, 1);
+            EntityManager idle = factory.createEntityManager();
+            idle.find(Counter.class, 1);
+            server.beginEnd();
+            for (EntityManager other : List.of(factory.createEntityManager(), idle)) {
+                PersistenceException refused = assertThrows(PersistenceException.class, () -> {
+                    other.getTransaction().begin();
+                    other.find(Counter.class, 2);
+                });
+                assertTrue(refused.getMessage().matches("Closed\\(the server is ending, and "
+                        + "(creates no manager|begins no transaction)\\): what has begun may end.*"), refused.getMessage());
+                other.getTransaction().rollback();
+            }
+            counter.count = 5;
+            open.getTransaction().commit();
+            server.awaitEnd();
+            server.start();
+            assertEquals(5, factory.createEntityManager().find(Counter.class, 1).count);
+        }
+    }
+
+    @Test
     void aServerThatEndsAndComesAgainIsWaitedFor() throws Exception {
         try (Serving server = new Serving(folder, Note.class, Counter.class);
                 Factory factory = server.factory(Note.class, Counter.class)) {

@@ -26,7 +26,7 @@ import karzhoul.jpa.spi.UnitSettings;
 /** A server of a store in a folder, as {@code karzhoul serve} of the Python client is one, and who connects to it. */
 final class Serving implements AutoCloseable {
     /** Has a server begin a new run after a few objects, where one has 1,000,000. */
-    static final String FEW_OBJECTS = "import karzhoul.server.service as s; s.DUE, s.LATE, s.LAST = 60, 120, 900000\n";
+    static final String FEW_OBJECTS = "import karzhoul.server.renewing as s; s.DUE, s.LATE, s.LAST = 60, 120, 900000\n";
 
     private final Path folder;
     private final Path mapping;
@@ -102,9 +102,20 @@ final class Serving implements AutoCloseable {
         }
     }
 
+    /** Has it end by SIGTERM, once the transactions that are open have ended. */
+    void beginEnd() throws IOException {
+        server.toHandle().destroy();        // unlike that of the process itself it leaves its log open
+        awaitLog("ending");
+    }
+
     /** Ends it by SIGTERM. */
     void end() throws InterruptedException {
         server.destroy();
+        awaitEnd();
+    }
+
+    /** Waits for its end. */
+    void awaitEnd() throws InterruptedException {
         if (!server.waitFor(30, TimeUnit.SECONDS)) {
             throw new IllegalStateException("the server doesn't end");
         }

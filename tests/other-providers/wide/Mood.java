@@ -1,0 +1,7 @@
+package wide;
+
+/** An enum. */
+public enum Mood {
+    GLAD,
+    SAD
+}
