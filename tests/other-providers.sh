@@ -144,6 +144,8 @@ tries_work() {
 tries_wide_classes() {
     exported wide wide "$folder/wide.db" "wide_$database"
     by_theirs wide wide.Main "$url" show fill 4 show >"$folder/wide.$database" || fail "the wide classes over $database"
+    # (the standard leaves at which version an object begins: EclipseLink has 1, and the door 0)
+    sed -i 's/\(vehicle [CV]4 version\) [01]/\1 N/g' "$folder/wide.$database"
     diff "$folder/wide.ours" "$folder/wide.$database" || fail "other objects come of $database"
 }
 
@@ -185,6 +187,7 @@ by_ours desk desk.tried.Work "karzhoul:$folder/further.db" 2 80 >"$folder/work.o
 by_ours wide wide.Main "karzhoul:$folder/wide.db" fill 1 fill 2 fill 3 || fail "the wide classes by the door"
 cp "$folder/wide.db" "$folder/wider.db"
 by_ours wide wide.Main "karzhoul:$folder/wider.db" show fill 4 show >"$folder/wide.ours" || fail "the wide classes by the door"
+sed -i 's/\(vehicle [CV]4 version\) [01]/\1 N/g' "$folder/wide.ours"
 
 for each in desk wide; do
     by_ours $each karzhoul.jpa.tool.Main mapping --unit $each --tables >"$folder/$each.json" || fail "no tables of $each"
