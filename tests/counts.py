@@ -6,8 +6,7 @@ No contract speaks of speed, so marks, look-ups and indexes could be lost with e
 Counted is one commit of one object, a find, and queries that look up what they ask: beside 2,000
 and 20,000 stored objects, of which few are managed, without and with an index of a value, and
 beside 100 and 1,600 that a manager holds.
-Each may take at most 1.5 times as much beside the many, but that a range of keys copies a pointer
-to each object that is stored, for which it may take some instructions more. Of queries that go through all of a class
+Each may take at most 1.5 times as much beside the many. Of queries that go through all of a class
 what each of its objects takes is counted, over 200 and 1,000: a nested block, or the other side of
 a join, that is walked for each takes five times as much there, and all of it some seconds.
 
@@ -35,19 +34,16 @@ MAPPING = os.path.join(TOP, "tests/mappings/persons.json")
 WARM = 2
 STORED, JOINED, MANAGED = (2000, 20000), (200, 1000), (100, 1600)
 EACH = 9  # orders of a person
-POINTER = 40  # instructions; a look at an object takes 170 and more
 
 
 class Work(NamedTuple):
     """What is counted: the lines of one turn of it, for the number of a turn; how many objects it
-    goes through, where it goes through all of a class; whether it looks at everything; and how many
-    instructions more it may take for each object beside it, to which it copies a pointer."""
+    goes through, where it goes through all of a class; and whether it looks at everything."""
 
     name: str
     lines: Callable[[int], list[str]]
     parts: int = 1
     is_linear: bool = False
-    pointer: int = 0
 
 
 def line(call: str, **members: Any) -> str:
@@ -99,7 +95,10 @@ def queries() -> list[Work]:
         Work("query of a collection",
              lambda n: asked("SELECT COUNT(o) FROM Person p JOIN p.orders o WHERE p.id = :n", n=n)),
         Work("query of a range of twenty keys",
-             lambda n: asked(all_ + "o.number BETWEEN :l AND :h", l=100, h=121), pointer=POINTER),
+             lambda n: asked(all_ + "o.number BETWEEN :l AND :h", l=100, h=121)),
+        Work("first twenty objects", lambda n: page("SELECT o.amount FROM Order o")),
+        Work("first twenty behind a key",
+             lambda n: page("SELECT o.amount FROM Order o WHERE o.number > :n", n=n + 100)),
         # (these look at everything)
         Work("a query of a bound", lambda n: asked(all_ + "o.amount > 0"), is_linear=True),
         Work("a query of an equal value, once", lambda n: asked(all_ + "o.amount = 7"),
@@ -219,12 +218,9 @@ def beside_managed(count: int) -> list[Work]:
     ]
 
 
-def grown(few: dict[str, float], many: dict[str, float], most: float,
-          pointers: dict[str, float] | None = None) -> list[str]:
-    """Those that take more than so many times as much beside many objects, but for what their
-    pointers may take: each name is in both."""
-    spare = pointers or {}
-    return [name for name, count in few.items() if many[name] > most * count + spare.get(name, 0)]
+def grown(few: dict[str, float], many: dict[str, float], most: float) -> list[str]:
+    """Those that take more than so many times as much beside many objects: each name is in both."""
+    return [name for name, count in few.items() if many[name] > most * count]
 
 
 class Run:
@@ -330,10 +326,9 @@ def filled(program: str, place: str, count: int) -> str:
     return store
 
 
-def see(few: dict[str, float], many: dict[str, float], linear: set[str], most: float,
-        pointers: dict[str, float] | None = None) -> list[str]:
+def see(few: dict[str, float], many: dict[str, float], linear: set[str], most: float) -> list[str]:
     """What has grown and may not, and what has not though it looks at everything."""
-    told = grown(few, many, most, pointers)
+    told = grown(few, many, most)
     wrong = [f"{name} grows with what is beside it" for name in told if name not in linear]
     wrong += [f"{name} looks at everything, and was not told as grown"
               for name in sorted(linear.difference(told))]
@@ -373,13 +368,12 @@ def main(words: list[str]) -> int:
         all_ = list(all_counts(kind, programs[0], place))
     for (what, little, works, few), (_, much, _, many) in zip(all_[::2], all_[1::2]):
         linear = {work.name for work in works if work.is_linear}
-        pointers = {work.name: float(work.pointer * (much - little)) for work in works}
         figures = {name: f"{few[name]:,.0f} and {many[name]:,.0f} beside {little:,} and {much:,}"
                    f" {what} objects" for name in few}
         kinds += len(few)
         if "--table" in options:
             print(*(f"{name}: {told}" for name, told in figures.items()), sep="\n")
-        for told in see(few, many, linear, kind.most, pointers):
+        for told in see(few, many, linear, kind.most):
             name = next(name for name in few if told.startswith(f"{name} "))
             wrong.append(f"{told}: {figures[name]}")
     print(*wrong, f"{kinds} kinds of calls counted, {len(wrong)} not as they must be", sep="\n")

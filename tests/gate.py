@@ -269,10 +269,6 @@ class Counts(unittest.TestCase):
         few, many = {"a": 100.0, "b": 100.0}, {"a": 150.0, "b": 151.0}
         self.assertEqual(counts.grown(few, many, 1.5), ["b"])
 
-    def test_pointers_may_grow_as_far_as_they_take(self) -> None:
-        few, many = {"a": 100.0, "b": 100.0}, {"a": 550.0, "b": 551.0}
-        self.assertEqual(counts.grown(few, many, 1.5, {"a": 400.0, "b": 400.0}), ["b"])
-
     def test_what_goes_through_all_is_told(self) -> None:
         wrong = counts.see({"a": 10.0, "b": 10.0}, {"a": 160.0, "b": 160.0}, {"b"}, 1.5)
         self.assertEqual(wrong, ["a grows with what is beside it"])
