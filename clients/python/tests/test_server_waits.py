@@ -125,7 +125,7 @@ class Held(ServerTest):
 
     def test_a_run_that_has_no_managers_left(self) -> None:
         talk = self.talk()
-        for number in range(1, 60):
+        for number in range(1, 130):
             self.assertEqual(talk.ask(CREATE, of_manager("close", number))[0]["ok"], number)
         self.assertGreater(self.server.service.counts.restarts, 0)
 
