@@ -167,7 +167,7 @@ class Entity:
         return object_html(self)
 
 
-def _new_declared(kind: Type[Entity], *given: Any, **values: Any) -> Any:
+def _new_declared(kind: Type[Entity], /, *given: Any, **values: Any) -> Any:
     from .classes.binding import new_of
 
     return new_of(kind, *given, **values)

@@ -579,3 +579,17 @@ class Pass(Entity):
             codes = manager.scalars("SELECT t.code FROM Ticket t")
             self.assertEqual(len(set(codes)), 3)
             self.assertEqual(manager.query("SELECT t.state FROM Ticket t"), ["open"] * 3)
+
+
+@needs_program
+class Named(ClassesTest):
+    def test_an_attribute_may_be_called_as_a_parameter_is(self) -> None:
+        it = self.module(
+            "class Thing(Entity):\n    id: int = generated()\n    kind: str\n    given: str = ''\n"
+        )
+        app = self.open(it)
+        made = [it.Thing(kind="a", given="b"), app.new(it.Thing, kind="a"),
+                app.entity("Thing")(kind="a")]
+        self.assertEqual(
+            [(each.kind, each.given) for each in made], [("a", "b"), ("a", ""), ("a", "")]
+        )

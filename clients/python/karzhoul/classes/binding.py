@@ -309,7 +309,7 @@ def _teller(heard: Mapping[str, str]) -> Callable[[Event], None]:
     return tell
 
 
-def new_of(kind: type, *_: Any, **__: Any) -> Any:
+def new_of(kind: type, /, *_: Any, **__: Any) -> Any:
     """A new object of the class that a user wrote, of the one store that it is open in."""
     found = list(_OPEN.get(kind, ()))
     if len(found) == 1:
@@ -327,7 +327,7 @@ def new_of(kind: type, *_: Any, **__: Any) -> Any:
     )
 
 
-def _new(kind: Type[Any], *_: Any, **__: Any) -> Any:
+def _new(kind: Type[Any], /, *_: Any, **__: Any) -> Any:
     return kind._karzhoul_factory.ask_object(None, kind._karzhoul_line, kind)
 
 

@@ -216,7 +216,16 @@ final class Context {
         }
     }
 
+    /** Takes a manager of the program; where none is to be had, the transaction can only roll back. */
     private void enter() {
+        try {
+            take();
+        } catch (RuntimeException e) {
+            throw marked(e);
+        }
+    }
+
+    private void take() {
         Session now = factory.pool().enter(session, waitMillis);
         boolean isBegun = isActive && now.engine().isShared();
         while (isBegun && !factory.pool().begin(now)) {

@@ -36,19 +36,47 @@ public final class Proxies {
     private static final String SUFFIX = "$Karzhoul";
     private static final String ENTRY = "karzhoul$entry";
 
-    /** Makes instances of an entity's proxy class; empty where it can't have one. One for each class and its loader. */
-    private static final ClassValue<Optional<MethodHandle>> MAKERS = new ClassValue<>() {
+    /** One for each class and its loader. */
+    private static final ClassValue<Maker> MAKERS = new ClassValue<>() {
         @Override
-        protected Optional<MethodHandle> computeValue(Class<?> entity) {
-            return maker(entity);
+        protected Maker computeValue(Class<?> entity) {
+            return new Maker(entity);
         }
     };
 
     private Proxies() {}
 
+    /** Makes instances of an entity's proxy class, which the first thread that asks makes, and once. */
+    private static final class Maker {
+        private final Class<?> entity;
+        private volatile Optional<MethodHandle> made;
+
+        Maker(Class<?> entity) {
+            this.entity = entity;
+        }
+
+        /** Empty where the entity can't have such a class. */
+        Optional<MethodHandle> made() {
+            Optional<MethodHandle> known = made;
+            return known != null ? known : madeNow();
+        }
+
+        private synchronized Optional<MethodHandle> madeNow() {
+            if (made == null) {
+                made = maker(entity);
+            }
+            return made;
+        }
+    }
+
     /** Whether this entity is one whose instances may be proxies: its class can be known by its key alone. */
     static boolean isPossible(EntityModel model) {
-        return model.subEntities().isEmpty() && !model.isAbstract() && MAKERS.get(model.javaClass()).isPresent();
+        return model.subEntities().isEmpty() && !model.isAbstract() && canHave(model.javaClass());
+    }
+
+    /** Whether a class can have a class of proxies below it. */
+    static boolean canHave(Class<?> entity) {
+        return MAKERS.get(entity).made().isPresent();
     }
 
     /** A proxy of this entry, whose key is set: an {@code equals} that reads the other one's field finds it there. */
@@ -75,7 +103,7 @@ public final class Proxies {
     }
 
     private static Object make(Class<?> entity) {
-        MethodHandle maker = MAKERS.get(entity).orElseThrow();
+        MethodHandle maker = MAKERS.get(entity).made().orElseThrow();
         try {
             return maker.invoke();
         } catch (RuntimeException | Error e) {

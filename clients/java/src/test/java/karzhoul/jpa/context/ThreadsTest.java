@@ -12,10 +12,13 @@ import jakarta.persistence.OptimisticLockException;
 import jakarta.persistence.PersistenceException;
 import jakarta.persistence.RollbackException;
 import java.nio.file.Path;
+import java.time.Duration;
 import java.util.ArrayList;
 import java.util.List;
 import java.util.Queue;
+import java.util.concurrent.BrokenBarrierException;
 import java.util.concurrent.ConcurrentLinkedQueue;
+import java.util.concurrent.CyclicBarrier;
 import java.util.concurrent.TimeUnit;
 import java.util.concurrent.atomic.AtomicInteger;
 import karzhoul.jpa.shop.Depot;
@@ -53,6 +56,50 @@ class ThreadsTest extends Tried {
         }
         faults.forEach(Throwable::printStackTrace);
         assertEquals(0, faults.size());
+    }
+
+    static class A {}
+    static class B {}
+    static class C {}
+    static class D {}
+    static class E {}
+    static class F {}
+    static class G {}
+    static class H {}
+
+    @Test
+    void aClassOfProxiesIsMadeOnceByManyThreads() {
+        for (Class<?> entity : List.of(A.class, B.class, C.class, D.class, E.class, F.class, G.class, H.class)) {
+            CyclicBarrier together = new CyclicBarrier(6);
+            inThreads(6, () -> {
+                try {
+                    together.await();
+                } catch (InterruptedException | BrokenBarrierException e) {
+                    throw new IllegalStateException(e);
+                }
+                assertTrue(Proxies.canHave(entity), entity.getName());
+            });
+        }
+    }
+
+    @Test
+    void whoGetsNoManagerCanOnlyRollBack() {
+        List<EntityManager> all = new ArrayList<>();
+        try (Factory few = Units.over("karzhoul:memory", Duration.ofMillis(200), Depot.class)) {
+            for (int i = 0; i < 16; i++) {
+                EntityManager holds = few.createEntityManager();
+                holds.getTransaction().begin();
+                assertNull(holds.find(Depot.class, "none"));
+                all.add(holds);
+            }
+            EntityManager late = few.createEntityManager();
+            late.getTransaction().begin();
+            assertThrows(PersistenceException.class, () -> late.find(Depot.class, "none"));
+            assertTrue(late.getTransaction().getRollbackOnly());
+            all.forEach(holds -> holds.getTransaction().rollback());
+            assertThrows(RollbackException.class, () -> late.getTransaction().commit());
+            assertFalse(late.getTransaction().isActive());
+        }
     }
 
     @Test

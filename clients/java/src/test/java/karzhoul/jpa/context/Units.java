@@ -14,8 +14,12 @@ final class Units {
     private Units() {}
 
     static Factory over(String url, Class<?>... classes) {
+        return over(url, Duration.ofSeconds(20), classes);
+    }
+
+    static Factory over(String url, Duration wait, Class<?>... classes) {
         return new Factory(new UnitSettings("tried", Reader.read("tried", List.of(classes)), url, Shop.program(),
-            Duration.ofSeconds(20), Optional.empty(), Map.of()));
+            wait, Optional.empty(), Map.of()));
     }
 
     /** How many rows of collections of values the store has, which no query of an application finds. */
