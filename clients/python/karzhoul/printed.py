@@ -8,7 +8,7 @@ from contextlib import contextmanager
 from pathlib import Path
 from typing import Iterator, Sequence
 
-from .refusals import ProgramEnded, refusal_of
+from .refusals import Limit, ProgramEnded, QueryLimit, refusal_of
 
 
 def printed(words: Sequence[str]) -> Iterator[str]:
@@ -32,7 +32,9 @@ def printed(words: Sequence[str]) -> Iterator[str]:
             last = told.rstrip().rpartition("\n")[2]
             if not last.startswith("jpa: "):
                 raise ProgramEnded(status, told)
-            raise refusal_of(last[len("jpa: ") :])
+            refused = refusal_of(last[len("jpa: ") :])
+            # (what is asked by words is a query, and meets no other limit)
+            raise QueryLimit() if type(refused) is Limit else refused
 
 
 @contextmanager
