@@ -7,7 +7,9 @@ import static org.junit.jupiter.api.Assertions.assertNull;
 import static org.junit.jupiter.api.Assertions.assertThrows;
 import static org.junit.jupiter.api.Assertions.assertTrue;
 
+import jakarta.persistence.Entity;
 import jakarta.persistence.EntityManager;
+import jakarta.persistence.Id;
 import jakarta.persistence.OptimisticLockException;
 import jakarta.persistence.PersistenceException;
 import jakarta.persistence.RollbackException;
@@ -82,19 +84,24 @@ class ThreadsTest extends Tried {
         }
     }
 
+    @Entity
+    static class Lone {
+        @Id int id;
+    }
+
     @Test
     void whoGetsNoManagerCanOnlyRollBack() {
         List<EntityManager> all = new ArrayList<>();
-        try (Factory few = Units.over("karzhoul:memory", Duration.ofMillis(200), Depot.class)) {
+        try (Factory few = Units.over("karzhoul:memory", Duration.ofMillis(200), Lone.class)) {
             for (int i = 0; i < 16; i++) {
                 EntityManager holds = few.createEntityManager();
                 holds.getTransaction().begin();
-                assertNull(holds.find(Depot.class, "none"));
+                assertNull(holds.find(Lone.class, 1));
                 all.add(holds);
             }
             EntityManager late = few.createEntityManager();
             late.getTransaction().begin();
-            assertThrows(PersistenceException.class, () -> late.find(Depot.class, "none"));
+            assertThrows(PersistenceException.class, () -> late.find(Lone.class, 1));
             assertTrue(late.getTransaction().getRollbackOnly());
             all.forEach(holds -> holds.getTransaction().rollback());
             assertThrows(RollbackException.class, () -> late.getTransaction().commit());
