@@ -31,6 +31,7 @@ import karzhoul.jpa.shop.Tag;
 import net.bytebuddy.ByteBuddy;
 import org.junit.jupiter.api.Test;
 import org.junit.jupiter.api.Timeout;
+import org.junit.jupiter.api.io.TempDir;
 
 /** Many threads over one factory, many managers of one thread, ends of runs, and programs that are killed. */
 @Timeout(180)
@@ -90,9 +91,9 @@ class ThreadsTest extends Tried {
     }
 
     @Test
-    void whoGetsNoManagerCanOnlyRollBack() {
+    void whoGetsNoManagerCanOnlyRollBack(@TempDir Path folder) {
         List<EntityManager> all = new ArrayList<>();
-        try (Factory few = Units.over("karzhoul:memory", Duration.ofMillis(200), Lone.class)) {
+        try (Factory few = Units.over("karzhoul:" + folder.resolve("few.db"), Duration.ofMillis(200), Lone.class)) {
             for (int i = 0; i < 16; i++) {
                 EntityManager holds = few.createEntityManager();
                 holds.getTransaction().begin();
