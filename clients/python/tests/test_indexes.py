@@ -256,6 +256,38 @@ class SameRows(FolderTest):
             self.assertEqual(sorted(found), wanted, condition)
 
 
+def _held_at_most(app: karzhoul.EntityManagerFactory) -> int:
+    """The kilobytes that the program has held at most."""
+    program = app.program
+    assert isinstance(program, Program)
+    with open(f"/proc/{program._process.pid}/status", encoding="ascii") as told:
+        [line] = [line for line in told if line.startswith("VmHWM")]
+    return int(line.split()[1])
+
+
+@needs_program
+class Combinations(FolderTest):
+    """Of objects that nothing equates no more are held together than WHERE leaves."""
+
+    def test_four_million_of_them(self) -> None:
+        with karzhoul.open(BOOKS, self.place / "app.db", program=PROGRAM) as app:
+            with app.begin() as manager:
+                rows = [{"name": "a", "year": n} for n in range(2000)]
+                manager.persist_all(app.new_many("Title", rows))
+            before = _held_at_most(app)
+            asked = app.create_entity_manager().query
+            self.assertEqual(list(asked("SELECT COUNT(a) FROM Title a, Title b")), [4_000_000])
+            found = asked(
+                "SELECT a.year, b.year FROM Title a, Title b"
+                " WHERE a.year > b.year AND b.year > 1996"
+            )
+            self.assertEqual(
+                [list(row) for row in found], [[1998, 1997], [1999, 1997], [1999, 1998]]
+            )
+            # (together they would be some 240 MB)
+            self.assertLess(_held_at_most(app) - before, 60_000)
+
+
 LIBRARY = """
 class Place(Embedded):
     city: str
