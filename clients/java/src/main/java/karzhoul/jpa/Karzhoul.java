@@ -50,7 +50,8 @@ public interface Karzhoul {
 
     /**
      * Does work in a transaction of an entity manager of its own, and commits it; and does it again, where another commit
-     * came first, or the program ended before it was asked to commit. A {@link CommitUnknownException} isn't done again.
+     * came first, or the program ended before it was asked to commit, or the server is ending: the next one is waited for
+     * then, for {@code karzhoul.pool.wait} at most. A {@link CommitUnknownException} isn't done again.
      *
      * @param attempts how often it is done at most
      * @return what the work gives

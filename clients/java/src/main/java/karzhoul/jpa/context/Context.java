@@ -62,7 +62,10 @@ final class Context {
     private boolean hasBegun;
     private boolean isBeginSent;
     private boolean isMarked;
+    /** What marked it; null where setRollbackOnly did. */
+    private Throwable markedBy;
     private boolean isTouched;
+    private boolean isStoring;
     private boolean hasStale;
     private boolean hasRemoved;
     private boolean isClosing;
@@ -292,24 +295,43 @@ final class Context {
 
     void begin() {
         isActive = true;
+        unmark();
+    }
+
+    private void unmark() {
         isMarked = false;
+        markedBy = null;
     }
 
     boolean isMarked() {
         return isMarked;
     }
 
-    /** The transaction can only roll back from now on. */
-    void mark() {
-        if (isActive && !isMarked) {
-            isMarked = true;
-        }
+    /** What marked the transaction, as the application met it; null where it asked for that itself. */
+    Throwable markedBy() {
+        return markedBy;
     }
 
-    /** Marks the transaction, and answers what is to be thrown. */
+    /** The transaction can only roll back from now on, since the application asks for it. */
+    void mark() {
+        isMarked = isActive;
+    }
+
+    /** Marks the transaction, and answers what is to be thrown: the first one, or what tells more of it. */
     <E extends Throwable> E marked(E refusal) {
-        mark();
+        if (isActive && (!isMarked || markedBy != null && isOf(refusal, markedBy))) {
+            isMarked = true;
+            markedBy = refusal;
+        }
         return refusal;
+    }
+
+    private static boolean isOf(Throwable refusal, Throwable first) {
+        Throwable cause = refusal;
+        while (cause != null && cause != first) {
+            cause = cause.getCause();
+        }
+        return cause == first;
     }
 
     void needTransaction() {
@@ -387,10 +409,27 @@ final class Context {
         isTouched = is;
     }
 
+    /** The program was told of what a commit is to store. */
+    void storing() {
+        isTouched = true;
+        isStoring = true;
+    }
+
+    /** Whether the transaction has something to store, flushed or not. */
+    boolean isStoring() {
+        return isStoring;
+    }
+
+    /** Whether a commit is to find something as it was. */
+    boolean isChecking() {
+        return !locked.isEmpty();
+    }
+
     /** The transaction has ended at the program, by a commit that was done. */
     void committed() {
         isActive = false;
-        isMarked = false;
+        unmark();
+        isStoring = false;
         hasBegun = false;
         isBeginSent = false;
         forgetRemoved();
@@ -444,7 +483,8 @@ final class Context {
     void rolledBack(boolean isOverThere) {
         boolean isOpenThere = isBeginSent && !isOverThere;
         isActive = false;
-        isMarked = false;
+        unmark();
+        isStoring = false;
         hasBegun = false;
         isBeginSent = false;
         queue.clear();
@@ -458,6 +498,8 @@ final class Context {
             if (isOpenThere && session.engine().isRunning()) {
                 session.engine().ask(queue.rollback(session.manager()));
             }
+        } catch (ProgramEnded ended) {
+            System.getLogger("karzhoul").log(System.Logger.Level.DEBUG, "it is rolled back by that", ended);
         } finally {
             queue.clear();
             factory.pool().giveBack(session, true);
@@ -480,18 +522,16 @@ final class Context {
             isBeginSent = hasBegun;
             replies = session.engine().ask(queue, tail);
         } catch (ProgramEnded e) {
-            mark();
-            throw e;
+            throw marked(e);
         } finally {
             queue.clear();
         }
         checkSentAhead();
         for (int i = 0; i < main; i++) {
             if (replies[i].isRefused()) {
-                if (i < from || Refusals.marks(replies[i])) {
-                    mark();         // what waited, and was refused, must not be missing from a commit
-                }
-                throw Refusals.of(replies[i]);
+                RuntimeException refusal = Refusals.of(replies[i]);
+                // what waited, and was refused, must not be missing from a commit
+                throw i < from || Refusals.marks(replies[i]) ? marked(refusal) : refusal;
             }
         }
         return from == 0 ? replies : Arrays.copyOfRange(replies, from, replies.length);
@@ -505,7 +545,7 @@ final class Context {
             try {
                 entry.model().callbacks().run(event, entry.instance());
             } catch (RuntimeException | Error e) {
-                mark();
+                marked(e);
                 throw e;
             }
         }
@@ -678,6 +718,7 @@ final class Context {
     /** Detaches all (chapter 3.2.7); an open transaction goes on. */
     void clear() {
         letAllGo();
+        isStoring &= isActive;
         if (session == null) {
             return;
         }

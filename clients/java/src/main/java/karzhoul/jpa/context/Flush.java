@@ -40,27 +40,41 @@ final class Flush {
         }
     }
 
-    /** Flushes and commits; nothing is asked where nothing changed since the begin. */
+    /**
+     * Flushes and commits; nothing is asked where nothing changed since the begin. What only read is done, also where the
+     * program has ended meanwhile: nothing of it was to be stored.
+     */
     void commit() {
         prepare();
-        if (context.isTouched() && (context.factory().writesFirst(context.identities().models()) || !keyless().isEmpty())) {
+        if (hasChanged() && (context.factory().writesFirst(context.identities().models()) || !keyless().isEmpty())) {
             write();                    // nothing is asked behind the commit: an end there would tell as refused what stands
         }
         if (!context.isTouched() && !context.isBegunThere()) {
             context.committed();
             return;
         }
-        context.send();                 // a change that were refused must not be behind a commit that is done
-        queue.commit(context.manager());
-        take(commitNow().events(), false);
+        try {
+            context.send();             // a change that were refused must not be behind a commit that is done
+            queue.commit(context.manager());
+            take(commitNow().events(), false);
+        } catch (ProgramEnded e) {
+            if (context.isStoring() || context.isChecking()) {
+                throw e;
+            }
+        }
         context.committed();
+    }
+
+    /** Whether there is something to store since the last flush: what is only read again or locked hears and writes nothing. */
+    private boolean hasChanged() {
+        return context.isTouched() && context.isStoring();
     }
 
     private Reply commitNow() {
         try {
             return context.ask(0, (lines, number) -> context.hiddenRows().letGo(lines))[0];
         } catch (ProgramEnded e) {
-            throw e.isAsked() ? new CommitUnknownException(e.ofCommit(), e) : e;
+            throw e.isAsked() && context.isStoring() ? new CommitUnknownException(e.ofCommit(), e) : e;
         } catch (StoreFault e) {
             context.engine().close();       // its store is shut for good: the next entity manager has another one open it
             throw new CommitUnknownException(e.getMessage() + " The program shut it as the commit was written: all of it is"
@@ -71,7 +85,7 @@ final class Flush {
     /** Tells what changed, and runs what is due before the writes. */
     private void prepare() {
         push();
-        if (context.isTouched() && context.factory().hearsBefore(context.identities().models())) {
+        if (hasChanged() && context.factory().hearsBefore(context.identities().models())) {
             Set<Event> due = new HashSet<>();
             for (int round = 0; runDue(due); round++) {
                 if (round == MOST_ROUNDS) {

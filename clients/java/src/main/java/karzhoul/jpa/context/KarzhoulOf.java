@@ -10,6 +10,7 @@ import java.util.concurrent.TimeUnit;
 import java.util.function.Function;
 import karzhoul.jpa.CommitUnknownException;
 import karzhoul.jpa.Karzhoul;
+import karzhoul.jpa.ServerEndingException;
 import karzhoul.jpa.engine.Program;
 import karzhoul.jpa.engine.ProgramEnded;
 
@@ -43,7 +44,7 @@ final class KarzhoulOf implements Karzhoul {
                 if (done == attempts || !isLost(refused)) {
                     throw refused;
                 }
-                pause(done, refused);
+                awaitNext(done, refused);
             }
         }
     }
@@ -70,16 +71,28 @@ final class KarzhoulOf implements Karzhoul {
         for (Throwable cause = refused; cause != null; cause = cause.getCause()) {
             if (cause instanceof CommitUnknownException) {
                 return false;
-            } else if (cause instanceof OptimisticLockException || cause instanceof ProgramEnded) {
+            } else if (cause instanceof OptimisticLockException || cause instanceof ProgramEnded
+                    || cause instanceof ServerEndingException) {
                 return true;
             }
         }
         return false;
     }
 
-    /** So that those who met don't meet again. */
-    private static void pause(int done, PersistenceException refused) {
+    private static boolean isEnding(Throwable refused) {
+        Throwable cause = refused;
+        while (cause != null && !(cause instanceof ServerEndingException)) {
+            cause = cause.getCause();
+        }
+        return cause != null;
+    }
+
+    /** Pauses, so that those who met don't meet again; a server that is ending ends before, or the refusal stands. */
+    private void awaitNext(int done, PersistenceException refused) {
         try {
+            if (isEnding(refused) && !program.pool().awaitEnd(factory.waitMillis())) {
+                throw refused;
+            }
             TimeUnit.MILLISECONDS.sleep(ThreadLocalRandom.current().nextInt(Math.min(LONGEST_PAUSE, 2 << Math.min(done, 8))));
         } catch (InterruptedException e) {
             Thread.currentThread().interrupt();

@@ -115,7 +115,7 @@ final class Keys {
     /** Has the program persist one before it is told what it leads to, since others are to have its key. */
     void persistAlone(Entry entry) {
         context.queue().persist(context.manager(), entry.number()).about(entry);
-        context.touched(true);
+        context.storing();
         Persist.askKeys(context, List.of(entry));
     }
 }

@@ -300,7 +300,7 @@ final class Merge {
         Entry told = known == null ? imagesByInstance.get(root) : known;
         int from = queue.count();
         queue.merge(context.manager(), told.number()).about(told);
-        context.touched(true);
+        context.storing();
         Reply reply = context.ask(from)[0];
         readBack(reply.events(), reply.number());
         orphans.remove();

@@ -19,6 +19,9 @@ import karzhoul.jpa.model.Relation;
 
 /** find, remove, refresh, detach and lock (chapters 3.2 and 3.4), each within {@link Context#within}. */
 final class Operations {
+    /** How the program calls a lock that raises the version. */
+    private static final String RAISING = "WRITE";
+
     private final Context context;
     private final Lines queue;
 
@@ -90,7 +93,7 @@ final class Operations {
         context.push().relationsOf(reached);
         int from = queue.count();
         queue.remove(context.manager(), entry.number()).about(entry);
-        context.touched(true);
+        context.storing();
         removed(context.ask(from)[0].events()).forEach(this::removeJoined);
     }
 
@@ -215,8 +218,13 @@ final class Operations {
         if (entry.isHollow()) {
             new Fill(context).proxy(entry);
         }
-        queue.lock(context.manager(), entry.number(), word(mode, entry)).about(entry);
-        context.touched(true);
+        String word = word(mode, entry);
+        queue.lock(context.manager(), entry.number(), word).about(entry);
+        if (word.equals(RAISING)) {
+            context.storing();
+        } else {
+            context.touched(true);
+        }
         context.ask(0);
         context.lock(entry, mode);
     }
@@ -228,7 +236,7 @@ final class Operations {
                 return "READ";
             case WRITE:
             case OPTIMISTIC_FORCE_INCREMENT:
-                return "WRITE";
+                return RAISING;
             default:
                 // the program has no lock that keeps others out: a promise that it can't keep isn't made
                 throw context.marked(new PersistenceException(entry + " can't be locked " + mode + ": there are no"

@@ -46,9 +46,7 @@ final class Persist {
         }
         try {
             List<Entry> reached = reach(root);
-            Set<Object> waiting = Collections.newSetFromMap(new IdentityHashMap<>());
-            waiting.addAll(fresh);
-            List.copyOf(fresh).forEach(instance -> derive(instance, waiting));
+            deriveKeys();
             Push push = context.push();
             for (Object instance : fresh) {
                 made.add(push.known(instance));
@@ -127,6 +125,18 @@ final class Persist {
         }
     }
 
+    private void deriveKeys() {
+        boolean isDerived = false;
+        for (Object instance : fresh) {
+            isDerived |= !context.modelOf(instance).key().derived().isEmpty();
+        }
+        if (isDerived) {
+            Set<Object> waiting = Collections.newSetFromMap(new IdentityHashMap<>());
+            waiting.addAll(fresh);
+            List.copyOf(fresh).forEach(instance -> derive(instance, waiting));
+        }
+    }
+
     /** Derives the key of what is new from those of others, which get theirs before, where the program gives it. */
     private void derive(Object instance, Set<Object> waiting) {
         if (!waiting.remove(instance)) {
@@ -183,7 +193,7 @@ final class Persist {
 
     private void send(Entry root) {
         context.queue().persist(context.manager(), root.number()).about(root);
-        context.touched(true);
+        context.storing();
         manage(context, made);
     }
 
@@ -203,9 +213,12 @@ final class Persist {
     static void askKeys(Context context, List<Entry> persisted) {
         Lines queue = context.queue();
         int from = queue.count();
-        List<Entry> keyed = persisted.stream().filter(Persist::isKeyless).toList();
-        for (Entry entry : keyed) {
-            queue.get(entry.number(), entry.model().key().parts().get(0).member());
+        List<Entry> keyed = new ArrayList<>();
+        for (Entry entry : persisted) {
+            if (isKeyless(entry)) {
+                keyed.add(entry);
+                queue.get(entry.number(), entry.model().key().parts().get(0).member());
+            }
         }
         if (!keyed.isEmpty()) {
             Reply[] replies = context.ask(from);

@@ -158,7 +158,7 @@ class Push {
     }
 
     private void touch(Entry entry) {
-        context.touched(true);
+        context.storing();
         if (!entry.isTouched()) {
             entry.touch();
             context.hasTouched(entry);

@@ -134,7 +134,7 @@ final class Questions implements Asking {
     @Override
     public int update(String text, List<Parameter> parameters) {
         context.needTransaction();
-        context.touched(true);
+        context.storing();
         return context.within(() -> ((Long) ask("executeUpdate", text, parameters, null, null, null)[0].ok()).intValue());
     }
 

@@ -31,8 +31,9 @@ final class Transaction implements EntityTransaction {
     public void commit() {
         needActive();
         if (context.isMarked()) {
-            context.rolledBack(false);
-            throw (RollbackException) Refusals.of("Rollback(marked)", null);
+            RollbackException marked = Refusals.marked(context.markedBy());
+            rollBackAfter(marked);
+            throw marked;
         }
         try {
             context.within(() -> {

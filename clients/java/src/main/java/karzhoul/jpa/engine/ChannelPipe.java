@@ -14,7 +14,7 @@ import java.util.concurrent.TimeUnit;
  * A socket as two streams. The JDK shuts a channel whose thread is interrupted while it reads; this one is asked
  * without waiting, and waited for by a selector: so a thread that is interrupted ends no connection that others share.
  */
-final class ChannelPipe {
+final class ChannelPipe implements Pipe {
     private final SocketChannel channel;
     private final Selector selector;
     private final SelectionKey key;
@@ -28,36 +28,76 @@ final class ChannelPipe {
         key = channel.register(selector, SelectionKey.OP_READ);
     }
 
-    InputStream in() {
+    @Override
+    public InputStream in() {
         return in;
     }
 
-    OutputStream out() {
+    @Override
+    public OutputStream out() {
         return out;
     }
 
-    /** Whether nothing has come, not even the end: so it is where no reply is waited for. */
-    boolean isQuiet() {
+    @Override
+    public boolean isQuiet() {
         try {
-            return channel.read(ByteBuffer.allocate(1)) == 0;
+            return readNow(ByteBuffer.allocate(1)) == 0;
         } catch (IOException e) {
             return false;
         }
     }
 
-    /**
-     * Waits until something can be read.
-     *
-     * @throws InterruptedIOException where the thread is interrupted
-     * @throws IOException where so much time has passed
-     */
-    void await(long millis) throws IOException {
+    /** Reads what has come, and waits for nothing; answers -1 at the end. */
+    int readNow(ByteBuffer buffer) throws IOException {
+        return channel.read(buffer);
+    }
+
+    /** Reads what comes next; answers -1 at the end. */
+    int read(ByteBuffer buffer) throws IOException {
+        boolean isInterrupted = false;
+        try {
+            for (;;) {
+                int read = channel.read(buffer);
+                if (read != 0 || !buffer.hasRemaining()) {
+                    return read;
+                }
+                isInterrupted |= select(SelectionKey.OP_READ);
+            }
+        } finally {
+            if (isInterrupted) {
+                Thread.currentThread().interrupt();
+            }
+        }
+    }
+
+    @Override
+    public void awaitAlways(long millis) throws IOException {
+        long until = System.nanoTime() + TimeUnit.MILLISECONDS.toNanos(millis);
+        boolean isInterrupted = Thread.interrupted();
+        try {
+            for (;;) {
+                try {
+                    await(TimeUnit.NANOSECONDS.toMillis(until - System.nanoTime()));
+                    return;
+                } catch (InterruptedIOException e) {
+                    isInterrupted |= Thread.interrupted();
+                }
+            }
+        } finally {
+            if (isInterrupted) {
+                Thread.currentThread().interrupt();
+            }
+        }
+    }
+
+    @Override
+    public void await(long millis) throws IOException {
         long until = System.nanoTime() + TimeUnit.MILLISECONDS.toNanos(millis);
         key.interestOps(SelectionKey.OP_READ);
         while (selector.selectNow() == 0) {
             long left = TimeUnit.NANOSECONDS.toMillis(until - System.nanoTime());
             if (left <= 0) {
-                throw new IOException("nothing came in " + millis + " ms");
+                throw new IOException("nothing came in time");
             } else if (Thread.currentThread().isInterrupted()) {
                 throw new InterruptedIOException("interrupted");
             }
@@ -67,7 +107,8 @@ final class ChannelPipe {
         selector.selectedKeys().clear();
     }
 
-    void close() {
+    @Override
+    public void close() {
         try {
             selector.close();
             channel.close();
@@ -93,21 +134,7 @@ final class ChannelPipe {
 
         @Override
         public int read(byte[] bytes, int from, int count) throws IOException {
-            ByteBuffer buffer = ByteBuffer.wrap(bytes, from, count);
-            boolean isInterrupted = false;
-            try {
-                for (;;) {
-                    int read = channel.read(buffer);
-                    if (read != 0 || count == 0) {
-                        return read;
-                    }
-                    isInterrupted |= select(SelectionKey.OP_READ);
-                }
-            } finally {
-                if (isInterrupted) {
-                    Thread.currentThread().interrupt();
-                }
-            }
+            return ChannelPipe.this.read(ByteBuffer.wrap(bytes, from, count));
         }
     }
 

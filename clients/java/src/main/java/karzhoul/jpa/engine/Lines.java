@@ -335,12 +335,12 @@ public final class Lines {
         return c >= 0x10000 ? i + 1 : i;
     }
 
+    /** (a loop here would be unrolled into each call, which the JVM compiles for seconds) */
+    @SuppressWarnings("deprecation")
     private Lines put(String ascii) {
         int n = ascii.length();
         reserve(n);
-        for (int i = 0; i < n; i++) {
-            bytes[length + i] = (byte) ascii.charAt(i);
-        }
+        ascii.getBytes(0, n, bytes, length);
         length += n;
         return this;
     }

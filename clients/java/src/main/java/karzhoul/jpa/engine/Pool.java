@@ -43,6 +43,9 @@ public final class Pool implements AutoCloseable {
     /** For how long a manager of a server is kept by who has objects and no transaction. */
     private static final long IDLE = TimeUnit.SECONDS.toNanos(1);
 
+    /** How many milliseconds pass between two looks at a server that is ending. */
+    private static final long LOOK = 50;
+
     private final Supplier<Engine> starting;
     private final ReentrantLock lock = new ReentrantLock();
     private final Condition changed = lock.newCondition();
@@ -361,6 +364,24 @@ public final class Pool implements AutoCloseable {
     }
 
     // ---- over a server ---------------------------------------------------------------------------------------------
+
+    /**
+     * Waits until the server that is ending has let the connection go: other threads may end what they have open.
+     *
+     * @return whether it has, in so many milliseconds
+     * @throws InterruptedException where the thread is interrupted meanwhile
+     */
+    public boolean awaitEnd(long millis) throws InterruptedException {
+        Engine ending = engine();
+        long start = System.nanoTime();
+        while (ending.isRunning()) {
+            if (System.nanoTime() - start > TimeUnit.MILLISECONDS.toNanos(millis)) {
+                return false;
+            }
+            TimeUnit.MILLISECONDS.sleep(LOOK);
+        }
+        return true;
+    }
 
     /**
      * Begins the transaction of one that is busy, so that the server begins no new run until it ends.

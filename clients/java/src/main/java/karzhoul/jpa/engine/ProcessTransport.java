@@ -13,6 +13,8 @@ final class ProcessTransport implements Transport {
     private static final long PATIENCE = 10;
 
     private final Process process;
+    /** How it ended, for all who find it so; null until somebody has. */
+    private String status;
 
     /**
      * Starts the program.
@@ -49,19 +51,22 @@ final class ProcessTransport implements Transport {
 
     @Override
     public ProgramEnded ended(IOException cause, boolean isAsked) {
-        String told = "";
+        return new ProgramEnded("the program has ended", status(cause), "the next entity manager starts it again", isAsked, cause);
+    }
+
+    private synchronized String status(IOException cause) {
         try {
-            if (process.waitFor(PATIENCE, TimeUnit.SECONDS)) {
+            if (status == null && process.waitFor(PATIENCE, TimeUnit.SECONDS)) {
                 byte[] words = process.getErrorStream().readNBytes(4096);
                 String said = new String(words, StandardCharsets.UTF_8).strip();
-                told = " (status " + process.exitValue() + (said.isEmpty() ? "" : ": " + said) + ")";
+                status = " (status " + process.exitValue() + (said.isEmpty() ? "" : ": " + said) + ")";
             }
         } catch (InterruptedException e) {
             Thread.currentThread().interrupt();
         } catch (IOException e) {
             cause.addSuppressed(e);
         }
-        return new ProgramEnded("the program has ended", told, "the next entity manager starts it again", isAsked, cause);
+        return status == null ? "" : status;
     }
 
     @Override
@@ -77,8 +82,9 @@ final class ProcessTransport implements Transport {
         }
     }
 
+    /** (that of the process itself would close what the program's last words are read from) */
     @Override
     public void destroy() {
-        process.destroy();
+        process.toHandle().destroy();
     }
 }

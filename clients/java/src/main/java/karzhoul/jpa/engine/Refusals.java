@@ -10,6 +10,7 @@ import jakarta.persistence.RollbackException;
 import jakarta.persistence.TransactionRequiredException;
 import java.util.Map;
 import java.util.Set;
+import karzhoul.jpa.ServerEndingException;
 
 /** The program's refusals as the standard's exceptions: its words first, then a sentence. */
 public final class Refusals {
@@ -97,6 +98,8 @@ public final class Refusals {
                 return new NonUniqueResultException(message);
             case "StoreFault":
                 return new StoreFault(message);
+            case "Closed":
+                return new ServerEndingException(message);
             case "Rollback":
                 return rollback(words.substring(open + 1, words.length() - 1), message, about);
             default:
@@ -109,8 +112,18 @@ public final class Refusals {
     }
 
     /** The exception of a commit that was rolled back for this cause. */
-    public static RollbackException rolledBack(RuntimeException cause) {
-        return new RollbackException("the transaction was rolled back: " + cause.getMessage(), cause);
+    public static RollbackException rolledBack(Throwable cause) {
+        return new RollbackException("the transaction was rolled back: " + words(cause), cause);
+    }
+
+    /** The exception of a commit of a transaction that this marked before, or setRollbackOnly, which is null. */
+    public static RollbackException marked(Throwable cause) {
+        return cause == null ? new RollbackException("the transaction was rolled back: setRollbackOnly asked for it")
+            : rolledBack(cause);
+    }
+
+    private static String words(Throwable cause) {
+        return cause.getMessage() == null ? cause.getClass().getName() : cause.getMessage();
     }
 
     private static String message(String words, String name, Object about) {

@@ -7,8 +7,6 @@ import java.io.IOException;
 import java.io.InputStream;
 import java.io.OutputStream;
 import java.nio.charset.StandardCharsets;
-import java.nio.file.Files;
-import java.nio.file.Path;
 import java.util.List;
 import java.util.Map;
 import java.util.Set;
@@ -19,9 +17,6 @@ import karzhoul.jpa.model.JsonReader;
  * time, but for {@link #turn}.
  */
 final class ServerConnection implements Transport {
-    /** The property that names the file with a server's token. */
-    static final String TOKEN_FILE = "karzhoul.token.file";
-
     /** What the server says of a line whose numbers are of before a new run. */
     static final String RESTARTED = "Restarted";
 
@@ -34,57 +29,47 @@ final class ServerConnection implements Transport {
     /** How it says that it handed nothing on of what a program had that ended. */
     private static final String NOT_HANDED_ON = "what was not committed is lost";
     private static final String ANSWERED = "\"ok\":";
-    private static final long PATIENCE = 30_000;
 
+    /** What is said of a server whose program has ended, whichever line found it so; and with what one says that has. */
+    private static final String PROGRAM = "its program has ended";
+    private static final Set<String> ENDED = Set.of(PROGRAM, "the server has ended");
+
+    private final ServerWay way;
     private final ServerAddress address;
-    private final Path tokenFile;
-    private final ChannelPipe pipe;
+    private final Pipe pipe;
     private final Map<String, Object> served;
 
     /**
      * Connects, and hears what is served.
      *
-     * @param tokenFile the file with the server's token, or null
-     * @throws NotServed where nobody listens there
-     * @throws PersistenceException where the server doesn't want this one
+     * @throws NotServed where nobody serves there
+     * @throws PersistenceException where the server doesn't want this one, or this one doesn't trust it
      */
-    ServerConnection(ServerAddress address, Path tokenFile) {
-        this.address = address;
-        this.tokenFile = tokenFile;
+    ServerConnection(ServerWay way) {
+        this.way = way;
+        address = way.address();
+        pipe = way.connected();
         try {
-            pipe = new ChannelPipe(address.connected());
-        } catch (IOException | RuntimeException e) {
-            throw new NotServed("nobody serves at " + address + ": " + e.getMessage(), e);
-        }
-        try {
-            served = said(ask("{\"serve\":\"hello\"" + token() + ",\"mapping\":true}"));
+            served = said(ask("{\"serve\":\"hello\"" + way.token() + ",\"mapping\":true}"));
         } catch (IOException | RuntimeException e) {
             pipe.close();
-            throw e instanceof PersistenceException refused ? refused : new NotServed(address + " says nothing: " + e.getMessage(), e);
-        }
-    }
-
-    private String token() {
-        if (tokenFile == null) {
-            return "";
-        }
-        try {
-            return ",\"token\":\"" + Files.readString(tokenFile).strip().replaceAll("([\"\\\\])", "\\\\$1") + "\"";
-        } catch (IOException e) {
-            throw new PersistenceException("the token of " + address + " can't be read (" + TOKEN_FILE + "): " + e, e);
+            throw e instanceof PersistenceException refused ? refused
+                : new NotServed("nobody serves at " + address + ": " + e.getMessage() + way.hint(), e);
         }
     }
 
     /** The reply to a line, while none is under way. */
     private String ask(String line) throws IOException {
         pipe.out().write((line + "\n").getBytes(StandardCharsets.UTF_8));
-        return reply(pipe.in());
+        return reply(pipe);
     }
 
-    private static String reply(InputStream in) throws IOException {
+    private static String reply(Pipe pipe) throws IOException {
         ByteArrayOutputStream reply = new ByteArrayOutputStream();
         byte[] chunk = new byte[1 << 13];
-        for (int count = in.read(chunk); ; count = in.read(chunk)) {
+        for (;;) {
+            pipe.awaitAlways(ServerWay.PATIENCE);
+            int count = pipe.in().read(chunk);
             if (count < 0) {
                 throw new EOFException("it ended the connection");
             }
@@ -97,14 +82,19 @@ final class ServerConnection implements Transport {
 
     @SuppressWarnings("unchecked")
     private Map<String, Object> said(String reply) {
-        Map<String, Object> told = (Map<String, Object>) JsonReader.read(reply.split("\n", 2)[0]);
+        Map<String, Object> told;
+        try {
+            told = (Map<String, Object>) JsonReader.read(reply.split("\n", 2)[0]);
+        } catch (RuntimeException e) {
+            throw new PersistenceException("who serves at " + address + " is no server of Karzhoul" + way.hint(), e);
+        }
         if (told.containsKey("ok")) {
             return (Map<String, Object>) told.get("ok");
         }
         Map<String, Object> error = (Map<String, Object>) told.get("error");
         String words = address + " refuses the connection: " + error.get("name") + "(" + error.get("why") + ")";
         if (error.get("name").equals("Denied")) {
-            throw new PersistenceException(words + "; the property " + TOKEN_FILE + " names the file with the server's token");
+            throw new PersistenceException(words + "; the property " + ServerWay.TOKEN_FILE + " names the file with the server's token");
         }
         throw new NotServed(words, null);
     }
@@ -131,12 +121,12 @@ final class ServerConnection implements Transport {
      * @throws IOException where the server has ended, or the thread was interrupted
      */
     String turn(long millis) throws IOException {
-        ServerConnection other = new ServerConnection(address, tokenFile);
+        ServerConnection other = new ServerConnection(way);
         try {
             String line = "{\"serve\":\"turn\",\"for\":\"" + served.get("key") + "\",\"wait\":" + millis / 1000.0 + "}\n";
             other.pipe.out().write(line.getBytes(StandardCharsets.UTF_8));
-            other.pipe.await(millis + PATIENCE);
-            String reply = reply(other.pipe.in());
+            other.pipe.await(millis + ServerWay.PATIENCE);
+            String reply = reply(other.pipe);
             if (reply.contains(ANSWERED)) {
                 return null;
             }
@@ -157,10 +147,9 @@ final class ServerConnection implements Transport {
         if (!ENDS.contains(refused.error()) || BEGINS_NOTHING.stream().anyMatch(why::endsWith)) {
             return;
         }
-        if (refused.error().equals("ProgramEnded") && !why.contains(NOT_HANDED_ON)) {
-            throw new IOException("the program ended before it answered");      // other threads hear of it too
-        }
-        throw isFirst ? new NotHandedOn(why) : new IOException(why);
+        boolean isOfProgram = refused.error().equals("ProgramEnded");
+        boolean isHandedOn = !isFirst || isOfProgram && !why.contains(NOT_HANDED_ON);
+        throw new Said(isOfProgram ? PROGRAM : why.split(": ", 2)[0], isHandedOn);        // other threads hear of it too
     }
 
     /** What is raised where numbers are of before a new run of the server. */
@@ -169,12 +158,16 @@ final class ServerConnection implements Transport {
             "the next use of the entity manager finds its objects again", false, null);
     }
 
-    /** The server has said of a line that the program didn't get it. */
-    static final class NotHandedOn extends IOException {
+    /** The server has said of a line why it ends the connection. */
+    static final class Said extends IOException {
         private static final long serialVersionUID = 1;
 
-        NotHandedOn(String why) {
+        private final boolean isHandedOn;
+
+        /** @param isHandedOn whether the program may have got the line */
+        Said(String why, boolean isHandedOn) {
             super(why);
+            this.isHandedOn = isHandedOn;
         }
     }
 
@@ -198,10 +191,12 @@ final class ServerConnection implements Transport {
         return 0;
     }
 
+    /** One sentence, however the end is met: a socket doesn't always hand on the server's last words, which the cause has. */
     @Override
     public ProgramEnded ended(IOException cause, boolean isAsked) {
-        return new ProgramEnded("the connection to " + address + " has ended", " (" + (cause.getMessage() == null ? cause : cause.getMessage()) + ")",
-            "the next entity manager connects again", isAsked && !(cause instanceof NotHandedOn), cause);
+        String why = cause instanceof Said said && !ENDED.contains(said.getMessage()) ? " (" + said.getMessage() + ")" : "";
+        return new ProgramEnded("the connection to " + address + " has ended", why,
+            "the next entity manager connects again", isAsked && !(cause instanceof Said said && !said.isHandedOn), cause);
     }
 
     @Override

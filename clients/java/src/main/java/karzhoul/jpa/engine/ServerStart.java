@@ -7,7 +7,6 @@ import java.util.ArrayList;
 import java.util.LinkedHashMap;
 import java.util.List;
 import java.util.Map;
-import java.util.Optional;
 import java.util.stream.Stream;
 import karzhoul.jpa.model.EntityModel;
 import karzhoul.jpa.model.JsonReader;
@@ -18,17 +17,16 @@ final class ServerStart implements Start {
     private static final String WIDE = "wide";
 
     private final ServerAddress address;
+    private final ServerWay way;
     private final Journal journal;
     private final UnitModel unit;
-    private final Path tokenFile;
     private final boolean isAdopting;
 
     ServerStart(ServerAddress address, Journal journal, UnitModel unit, Map<String, Object> properties) {
         this.address = address;
         this.journal = journal;
         this.unit = unit;
-        tokenFile = Optional.ofNullable(properties.get(ServerConnection.TOKEN_FILE)).map(Object::toString).map(Path::of)
-            .orElse(null);
+        way = ServerWay.of(address, properties);
         isAdopting = String.valueOf(properties.get(Program.ADOPT)).equals("true");
     }
 
@@ -42,7 +40,7 @@ final class ServerStart implements Start {
     }
 
     private Engine opened() {
-        ServerConnection connection = new ServerConnection(address, tokenFile);
+        ServerConnection connection = new ServerConnection(way);
         Engine engine = new Engine(connection, journal);
         try {
             checkServed(connection.served());

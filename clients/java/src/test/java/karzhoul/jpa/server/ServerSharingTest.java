@@ -19,6 +19,7 @@ import java.util.Map;
 import java.util.Optional;
 import java.util.concurrent.CompletableFuture;
 import java.util.concurrent.TimeUnit;
+import karzhoul.jpa.ServerEndingException;
 import karzhoul.jpa.context.Factory;
 import karzhoul.jpa.model.Reader;
 import karzhoul.jpa.spi.UnitSettings;
@@ -216,7 +217,7 @@ class ServerSharingTest {
             idle.find(Counter.class, 1);
             server.beginEnd();
             for (EntityManager other : List.of(factory.createEntityManager(), idle)) {
-                PersistenceException refused = assertThrows(PersistenceException.class, () -> {
+                ServerEndingException refused = assertThrows(ServerEndingException.class, () -> {
                     other.getTransaction().begin();
                     other.find(Counter.class, 2);
                 });

@@ -131,7 +131,11 @@ final class Serving implements AutoCloseable {
     }
 
     Factory factory(Map<String, Object> properties, Duration wait, Class<?>... its) {
-        return new Factory(new UnitSettings("served", Reader.read("served", List.of(its)), url(), null, wait,
+        return factory(url(), properties, wait, its);
+    }
+
+    static Factory factory(String url, Map<String, Object> properties, Duration wait, Class<?>... its) {
+        return new Factory(new UnitSettings("served", Reader.read("served", List.of(its)), url, null, wait,
                 Optional.empty(), properties));
     }
 
