@@ -124,6 +124,8 @@ def forms(ask: Asking) -> None:
             [f"SELECT {call} AS s, n.id FROM Note n ORDER BY s, n.id", *params],
             [[found[at], at + 1] for at in order],
         )
+        by_value = [f"SELECT n.id FROM Note n ORDER BY {call}, n.id", *params]
+        asked.answers(by_value, [at + 1 for at in order])
         same = [at for at, text in enumerate(found, 1) if text is not None and text == TEXTS[at - 1]]
         asked.answers([f"SELECT n.id FROM Note n WHERE n.t = {call} ORDER BY n.id", *params], same)
     nulls = "SELECT UPPER(:p), LOWER(:p), TRIM(:p) FROM Note n WHERE n.id = 1"
@@ -150,6 +152,11 @@ CLAUSES: list[tuple[str, list[Any]]] = [
     ("SELECT UPPER(n.u), COUNT(n) FROM Note n GROUP BY n.u", [["AB", 8], [None, 1]]),
     ("SELECT n.u FROM Note n GROUP BY n.u HAVING TRIM(LEADING 'a' FROM n.u) = 'b'", ["ab"]),
     ("SELECT n.u FROM Note n GROUP BY n.u HAVING MAX(UPPER(n.u)) IS NULL", [None]),
+    ("SELECT n.id FROM Note n WHERE n.id > 5 ORDER BY LENGTH(n.t) DESC, n.id * -1", [7, 6, 8, 9]),
+    ("SELECT n.id FROM Note n WHERE n.id > 5 ORDER BY MOD(n.id, 2), (n.id) DESC", [8, 6, 9, 7]),
+    ("SELECT n.u FROM Note n GROUP BY n.u ORDER BY COUNT(n) DESC", ["ab", None]),
+    ("SELECT n.u FROM Note n GROUP BY n.u ORDER BY UPPER(n.u)", [None, "ab"]),
+    ("SELECT 'all' FROM Note n ORDER BY COUNT(n)", ["all"]),
 ]
 
 
@@ -172,7 +179,8 @@ UNREAD = [
     "TRIM('x' FROM n.t, n.u)", "LEADING(n.t)", "CASE WHEN n.id = 1 THEN 1 ELSE 2 END", "n.t AS trim", "n.t end",
 ]
 UNREAD_TEXTS = [
-    "SELECT n.id FROM Note n GROUP BY UPPER(n.t)", "SELECT n.id FROM Note n ORDER BY UPPER(n.t)",
+    "SELECT n.id FROM Note n GROUP BY UPPER(n.t)", "SELECT n.id FROM Note n ORDER BY UPPER(n.t",
+    "SELECT n.id FROM Note n ORDER BY UPPER(n.t) NULLS LAST", "SELECT n.id FROM Note n ORDER BY n.t = 'a'",
     "SELECT upper.id FROM Note upper", "SELECT case.id FROM Note AS case", "SELECT n.id FROM Note n JOIN n.next all",
     "SELECT n.id FROM Note n WHERE n.id = ALL (SELECT o.id FROM Note o)",
     "SELECT n.id FROM Note n WHERE n.id IN (SELECT o.id FROM Note o)", "SELECT some.id FROM Note n",
@@ -183,6 +191,11 @@ ILL_TYPED: list[tuple[str, list[str]]] = [
     ("UPPER(n.next)", []), ("TRIM(:off FROM n.t)", ["--param", "off=7"]), ("ABS(UPPER(n.t))", []),
     ("TRIM(:off FROM n.t)", ["--param", 'off={"hex":"20"}']), ("1 + TRIM(n.t)", []), ("SUM(UPPER(n.t))", []),
     ("UPPER(n.nothing)", []), ("UPPER(:p)", ["--param", "p=7"]), ("MOD(LOWER(n.t), 2)", []),
+]
+# A key of ORDER BY that isn't well typed: of an object, of no variable, of a kind, of what is no group.
+ILL_TYPED_KEYS: list[tuple[str, list[str]]] = [
+    ("(n)", []), ("(n.next)", []), ("1", []), ("'a'", []), ("1 + 1", []), ("LOWER('A')", []), ("COUNT(1)", []),
+    (":p", ["--param", "p=7"]), ("LOWER(n.id)", []), ("COUNT(n)", []), ("(s)", []), ("LENGTH(s)", []),
 ]
 
 
@@ -195,6 +208,11 @@ def wrong_forms(ask: Asking) -> None:
         asked.refuses(text, "IllegalArgument(syntax)")
     for value, params in ILL_TYPED:
         asked.refuses(f"SELECT {value} FROM Note n", "IllegalArgument(typing)", *params)
+    for key, params in ILL_TYPED_KEYS:
+        asked.refuses(f"SELECT n.t AS s FROM Note n ORDER BY {key}", "IllegalArgument(typing)", *params)
+    asked.refuses("SELECT DISTINCT n.t FROM Note n ORDER BY LOWER(n.t)", "IllegalArgument(typing)")
+    asked.refuses("SELECT n.id FROM Note n ORDER BY n.id + :p", "IllegalArgument(parameter)")
+    asked.refuses("SELECT n.id FROM Note n ORDER BY n.id + 9223372036854775807", "Overflow")
     asked.refuses("SELECT n.id FROM Note n WHERE UPPER(n.t) = 7", "IllegalArgument(typing)")
     asked.refuses("SELECT n.id FROM Note n WHERE UPPER(MIN(n.t)) = 'A'", "IllegalArgument(typing)")
     asked.refuses("SELECT UPPER(n.t) FROM Note n GROUP BY n.u", "IllegalArgument(typing)")

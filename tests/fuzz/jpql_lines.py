@@ -96,7 +96,9 @@ class Texts(Equations):
             items = [
                 self.item(self.aggregate(int, block), block) for _ in range(self.some([1, 1, 2]))
             ]
-            return self.whole(is_distinct, items, sources, where, [], [], [])
+            inner = block.but(takes_aggregates=True, groups=[])
+            ordering = self.ordering([], self.value_keys(inner, is_distinct))
+            return self.whole(is_distinct, items, sources, where, [], [], ordering)
         items, keys = [], []
         for _ in range(self.some([1, 1, 1, 2, 3])):
             tokens, kind = (
@@ -112,7 +114,8 @@ class Texts(Equations):
                 keys.append(tokens)
         if not is_distinct:
             keys += [tokens for tokens in (self.path(kind, block) for kind in KINDS) if tokens]
-        return self.whole(is_distinct, items, sources, where, [], [], self.ordering(keys))
+        ordering = self.ordering(keys, self.value_keys(block, is_distinct))
+        return self.whole(is_distinct, items, sources, where, [], [], ordering)
 
     def grouped(self, block: Block, sources: list[str], where: list[str]) -> list[str]:
         found = [
@@ -137,10 +140,9 @@ class Texts(Equations):
             if chosen and self.chance(0.93)
             else [[]]
         )
-        keys = [path for path, kind in chosen if kind in KINDS]
-        return self.whole(
-            self.chance(0.1), items, sources, where, groups[0], having, self.ordering(keys)
-        )
+        keys, is_distinct = [path for path, kind in chosen if kind in KINDS], self.chance(0.1)
+        ordering = self.ordering(keys, self.value_keys(inner, is_distinct))
+        return self.whole(is_distinct, items, sources, where, groups[0], having, ordering)
 
     def whole(
         self,
@@ -162,8 +164,42 @@ class Texts(Equations):
             name = self.variable()
         return [*tokens, *([*(["AS"] if self.chance(0.5) else []), name] if name else [])]
 
-    def ordering(self, keys: list[list[str]]) -> list[str]:
-        keys = self.random.sample(keys, min(len(keys), self.some([0, 1, 1, 2])))
+    def value_keys(self, block: Block, is_distinct: bool) -> list[list[str]]:
+        """Values to order by, which the wider language has, and not under DISTINCT; rarely where they
+        are refused."""
+        if not self.chance(0.03 if is_distinct or not self.is_wide else 0.5):
+            return []
+        return [self.value_key(block) for _ in range(self.some([1, 1, 2]))]
+
+    def value_key(self, block: Block) -> list[str]:
+        """A value to order by: of ten one that may be none, as it is an object or names no variable."""
+        if self.chance(0.1):
+            return self.odd_key(block)
+        for _ in range(8):
+            kind = self.some([int, int, str, bytes])
+            is_aggregate = block.takes_aggregates and self.chance(0.5)
+            found = self.aggregate(kind, block) if is_aggregate else self.value(kind, block, 2)
+            if "." in found:
+                break
+        return ["(", *found, ")"] if self.is_path(found) or self.chance(0.1) else found
+
+    def odd_key(self, block: Block) -> list[str]:
+        """A key that is mostly refused: an object, a name in parentheses, an aggregate where nothing
+        groups, or what names no variable."""
+        variable = self.cased(self.some(list(block.variables)))
+        kind = self.some(list(KINDS))
+        return self.some([
+            ["(", variable, ")"], ["(", self.some(self.names), ")"], ["COUNT", "(", variable, ")"],
+            ["COUNT", "(", "1", ")"], self.literal(kind), self.parameter(kind), ["1", "+", "1"],
+            self.value(self.some(self.roots()), block, 1), ["(", *self.literal(kind), ")"],
+        ])
+
+    def ordering(self, keys: list[list[str]], values: list[list[str]]) -> list[str]:
+        if values:
+            keys = [*values, *self.random.sample(keys, min(len(keys), self.some([0, 0, 1])))]
+            self.random.shuffle(keys)
+        else:
+            keys = self.random.sample(keys, min(len(keys), self.some([0, 1, 1, 2])))
         return (
             [
                 "ORDER",

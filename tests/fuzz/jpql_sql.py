@@ -3,9 +3,10 @@
 
 Over random units (20, or N, each with a random sound set of objects) random SELECTs are asked of
 the model (tests/model/jpql_run.py) and, written as SQL, of sqlite3: joins, null links, conditions
-with unknown, groups, DISTINCT and ORDER BY come so from a second hand. Left out are SUBSTRING,
-LOCATE, LIKE with ESCAPE and what overflows, which SQL has otherwise. No program is run. Exit status
-0 where nothing differs.
+with unknown, groups, DISTINCT and ORDER BY come so from a second hand, in half of the units in the
+wider language, so by values too. Left out are SUBSTRING, LOCATE, UPPER, TRIM of a text that is given,
+LIKE with ESCAPE and what overflows, which SQL has otherwise. No program is run. Exit status 0 where
+nothing differs.
 """
 from __future__ import annotations
 
@@ -17,7 +18,7 @@ sys.path[0] = os.path.dirname(os.path.dirname(os.path.abspath(__file__)))
 from model.cells import State, Stored
 from fuzz.jpql_lines import Texts
 from model.jpql_run import Meaning, block_paths
-from model.jpql_text import parts_of, statement_of
+from model.jpql_text import Node, parts_of, statement_of
 from model.jpql_types import IllTyped, Typing
 from fuzz.lines import MAPPINGS, Calls, some_mapping, unit_of
 from model.machine import Machine
@@ -25,7 +26,6 @@ from model.queries import Given
 from model.reading import Refused, given
 
 if TYPE_CHECKING:
-    from model.jpql_text import Node
     from model.kinds import Datum, Identity, Key, Objects, Part
     from model.unit import Entity, Relation, Unit
     from random import Random
@@ -36,6 +36,7 @@ TEXTS, BYTES, INTEGERS = (
     [0, 1, 2, 3, 5, 7, -1, -2],
 )
 STATEMENTS = 40
+TRIMS = {"TRIM BOTH": "TRIM", "TRIM LEADING": "LTRIM", "TRIM TRAILING": "RTRIM"}
 
 
 class NoSql(Exception):
@@ -225,7 +226,7 @@ class Sql:
         heads = [
             *[item.value for item in block.items],
             block.having,
-            *[key.value for key in keys if key.value.sort == "path"],
+            *[key.value for key in keys if key.value.sort != "name"],
         ]
         conditions += self.without_null_steps(
             block_paths(*heads, block.where, *(block.groups or [])), variables
@@ -248,18 +249,20 @@ class Sql:
             raise NoSql("HAVING alone")
         if block.having:
             text += f" HAVING {self.condition(block.having, variables)}"
-        if not block.is_grouped and not block.is_distinct:
-            spelled = [
-                f"i{key.value.place}"
-                if key.value.sort == "name"
-                else self.value(key.value, variables)
-                for key in keys
-            ]
-            text += " ORDER BY " + ", ".join(
-                [f"{each}{' DESC' if key.is_falling else ''}" for each, key in zip(spelled, keys)]
-                + numbers
-            )
+        if not block.is_distinct:
+            text += self.ordering(keys, variables, [] if block.is_grouped else numbers)
         return text
+
+    def ordering(
+        self, keys: list[Node], variables: dict[str, tuple[str, Entity]], numbers: list[str]
+    ) -> str:
+        """ORDER BY these keys, then the objects as FROM has them."""
+        spelled = [
+            (f"i{key.value.place}" if key.value.sort == "name" else self.value(key.value, variables))
+            + (" DESC" if key.is_falling else "")
+            for key in keys
+        ]
+        return " ORDER BY " + ", ".join(spelled + numbers) if spelled or numbers else ""
 
     # -- conditions
 
@@ -369,8 +372,9 @@ class Sql:
         )
 
     def call(self, function: str, values: list[str]) -> str:
-        if function in ("SUBSTRING", "LOCATE"):
+        if function in ("SUBSTRING", "LOCATE", "UPPER") or function in TRIMS and len(values) > 1:
             raise NoSql(function)
+        function = TRIMS.get(function, function)
         operator = {"CONCAT": " || ", "MOD": " % "}.get(function)
         return f"({operator.join(values)})" if operator else f"{function}({', '.join(values)})"
 
@@ -423,7 +427,9 @@ def some_statement(
         params = Given(
             machine, {name: given(value) for name, (_, value) in texts.parameters.items()}
         )
-        statement = statement_of(text)
+        statement = statement_of(text, machine.is_wide)
+        if statement is None:  # A value that ORDER BY takes in the wider language alone.
+            return None
         Typing(unit, params.kinds()).statement(statement)
     except (Refused, IllTyped):
         return None
@@ -437,10 +443,23 @@ def sorted_rows(rows: list[Key]) -> list[Key]:
     )
 
 
+def places_of_keys(statement: Node) -> list[int]:
+    """The places of the items that a grouped SELECT is ordered by; what is no item becomes one."""
+    places = []
+    for key in statement.keys or []:
+        if key.value.sort != "name":
+            statement.items.append(Node("item", value=key.value, name=None))
+        places.append(key.value.place if key.value.sort == "name" else len(statement.items) - 1)
+    return places
+
+
 def compared(
     unit: Unit, objects: Objects, tables: Tables, statement: Node, parameters: dict[str, Datum]
 ) -> tuple[list[Key], list[Key]] | None:
-    """What the model says of a statement and what SQL says, or None where SQL says nothing."""
+    """What the model says of a statement and what SQL says, or None where SQL says nothing. Of groups
+    with equal keys SQL has no order."""
+    is_in_order = statement.is_grouped and not statement.is_distinct
+    places = places_of_keys(statement) if is_in_order else []
     try:
         text = Sql(tables, parameters).select(statement)
         rows = Meaning(unit, objects, parameters).rows(statement)
@@ -451,11 +470,10 @@ def compared(
         for row in rows
     ]
     theirs = [tuple(row) for row in tables.store.execute(text)]
-    return (
-        (sorted_rows(mine), sorted_rows(theirs))
-        if statement.is_grouped or statement.is_distinct
-        else (mine, theirs)
-    )
+    if not statement.is_grouped and not statement.is_distinct:
+        return mine, theirs
+    keys = [[tuple(row[place] for place in places) for row in rows] for rows in (mine, theirs)]
+    return keys[0] + sorted_rows(mine), keys[1] + sorted_rows(theirs)
 
 
 def judged(seed: str, at: int) -> tuple[int, int, list[Any]]:
@@ -463,7 +481,8 @@ def judged(seed: str, at: int) -> tuple[int, int, list[Any]]:
     chance = random.Random(f"{seed}/{at}")
     unit = unit_of(some_mapping(f"{seed}/{at}", MAPPINGS[at % len(MAPPINGS)]))
     objects, count, full, differing = some_objects(chance, unit), 0, 0, []
-    machine, tables = Machine(unit, State(objects)), Tables(unit, objects)
+    is_wide = chance.random() < 0.5
+    machine, tables = Machine(unit, State(objects), is_wide), Tables(unit, objects)
     em = machine.createEntityManager([])
     for name, key in list(objects)[:8]:
         try:

@@ -240,14 +240,20 @@ class Reader:
         )
 
     def key(self, at: int) -> tuple[Node, int] | None:
-        """An ORDER BY key: a path, or the name of an item."""
-        found = self.path(at)
+        """An ORDER BY key: a path, the name of an item, or in the wider language any other value. A path
+        in parentheses is a value too."""
+        path = self.path(at)
+        value = self.value(at) if self.is_wide else None
+        found = value if value and (not path or path[1] < value[1]) else path
         if not found:
             return None
-        path, at = found
+        by, at = found
+        is_value = found is not path
+        if not is_value and not by.names:
+            by = Node("name", name=by.variable)
         direction = next((word for word in ("ASC", "DESC") if self.is_word(at, word)), None)
-        key = path if path.names else Node("name", name=path.variable)
-        return Node("key", value=key, is_falling=direction == "DESC"), at + (direction is not None)
+        key = Node("key", value=by, is_value=is_value, is_falling=direction == "DESC")
+        return key, at + (direction is not None)
 
     # -- FROM
 

@@ -35,6 +35,11 @@ def joined(kinds: list[Entity | type | None]) -> Entity | type | None:
     return next(iter(found), None)
 
 
+def names_variable(value: Node) -> bool:
+    """Whether a value names a variable: one that doesn't is the same for each row."""
+    return any(part.sort == "path" for part in parts_of(value))
+
+
 class Scope:
     """The variables that can be used at a place, with their entities, and what is allowed there."""
 
@@ -112,7 +117,8 @@ class Typing:
             self.condition(block.where, Scope(variables))
         for path in block.groups or []:
             self.path(path, Scope(variables))
-        heads = [item.value for item in block.items] + ([block.having] if block.having else [])
+        heads = [part.value for part in [*block.items, *(block.keys or [])]]
+        heads += [block.having] if block.having else []
         has_aggregates = any(part.sort == "aggregate" for head in heads for part in parts_of(head))
         block.is_grouped = block.groups is not None or block.having is not None or has_aggregates
         groups = {self.spelled(path) for path in block.groups or []} if block.is_grouped else None
@@ -121,9 +127,15 @@ class Typing:
         if block.having:
             self.condition(block.having, scope)
         for key in block.keys or []:
-            self.key(block, key.value, kinds, Scope(variables, groups=groups))
+            if key.is_value:
+                see(not block.is_distinct and names_variable(key.value), "a value as a key")
+                kind = self.value(key.value, scope)
+                see(kind is None or kind in ORDERED, "key")
+            else:
+                self.key(block, key.value, kinds, Scope(variables, groups=groups))
 
     def key(self, block: Node, key: Node, kinds: list[Entity | type | None], scope: Scope) -> None:
+        """A key that is a path, or the name of an item."""
         if key.sort == "name":
             places = [place for place, item in enumerate(block.items) if item.name == key.name]
             see(places, "name")

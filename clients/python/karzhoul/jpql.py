@@ -28,12 +28,14 @@ AGGREGATES = ("COUNT", "SUM", "MIN", "MAX")
 
 @dataclass(frozen=True)
 class Language:
-    """A language of queries: its keywords, how many values each function takes, from and to, and
-    whether a list may be handed in for a parameter that stands behind IN."""
+    """A language of queries: its keywords, how many values each function takes, from and to,
+    whether a list may be handed in for a parameter that stands behind IN, and whether ORDER BY takes
+    values that are neither paths nor names of items."""
 
     keywords: FrozenSet[str]
     functions: Mapping[str, Tuple[int, int]]
     takes_lists: bool
+    orders_by_values: bool
 
 
 _PROFILE = Language(
@@ -53,12 +55,14 @@ _PROFILE = Language(
         "NULLIF": (2, 2),
     },
     takes_lists=False,
+    orders_by_values=False,
 )
 _WIDE = Language(
     _PROFILE.keywords
     | set("UPPER LOWER TRIM LEADING TRAILING BOTH CASE WHEN THEN ELSE END ALL ANY SOME".split()),
     {**_PROFILE.functions, "UPPER": (1, 1), "LOWER": (1, 1), "TRIM": (1, 2)},
     takes_lists=True,
+    orders_by_values=True,
 )
 LanguageName = Literal["profile", "wide"]
 # As `jpa --grammar` tells them.
@@ -138,10 +142,17 @@ class Source:
 
 @dataclass
 class Key:
-    """What ORDER BY goes by: a path, of which one of the variable alone may be an item's name."""
+    """What ORDER BY goes by: a path, of which one of the variable alone is an item's name, or in the
+    wider language any other value."""
 
-    path: Node
+    value: Node
     is_falling: bool
+
+    @property
+    def path(self) -> Optional[Node]:
+        """The path that it is; None where it is another value, as a path in parentheses is."""
+        is_bare = self.value.sort == "path" and self.value.at == self.value.words[0].at
+        return self.value if is_bare else None
 
 
 @dataclass
@@ -449,8 +460,8 @@ class _Reader:
         return Item(value, self._try(lambda: self._name("a name")))
 
     def _key(self) -> Key:
-        path = self._path()
-        return Key(path, False if self._may("ASC") else self._may("DESC"))
+        value = self._value() if self.language.orders_by_values else self._path()
+        return Key(value, False if self._may("ASC") else self._may("DESC"))
 
     def _sources(self, rule: Callable[[], Source]) -> List[Source]:
         """Ranges, each with its joins."""
@@ -705,7 +716,7 @@ def _gather(part: Any, found: List[Node]) -> None:
         for each in part:
             _gather(each, found)
     elif isinstance(part, (Item, Key, Assignment)):
-        _gather(part.path if isinstance(part, Key) else part.value, found)
+        _gather(part.value, found)
     elif isinstance(part, Source):
         _gather(part.on, found)
     elif isinstance(part, Block):

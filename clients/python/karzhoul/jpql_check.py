@@ -18,6 +18,7 @@ from .jpql_words import syntax_told, unserved
 from .unit import EntityDescription, Member, MemberKind
 
 SYNTAX, TYPING, PARAMETER = (f"IllegalArgument({why})" for why in ("syntax", "typing", "parameter"))
+_NO_ORDER = "objects have no order: ORDER BY takes a member of theirs, as p.id"
 
 
 class Kind(NamedTuple):
@@ -283,7 +284,8 @@ class _Typing:
         self._where(block.where, scope)
         for path in block.groups or []:
             self._path(path, scope)
-        heads = [*block.items, *([block.having] if block.having else [])]
+        keys = block.keys or []
+        heads = [*block.items, *keys, *([block.having] if block.having else [])]
         has_aggregates = any(node.sort == "aggregate" for node in jpql.nodes_of(heads))
         is_grouped = block.groups is not None or block.having is not None or has_aggregates
         groups = frozenset(map(_spelled, block.groups or [])) if is_grouped else None
@@ -291,8 +293,11 @@ class _Typing:
         kinds = [self._value(item.value, head) for item in block.items]
         if block.having:
             self._condition(block.having, head)
-        for key in block.keys or []:
-            self._key(block, key.path, kinds, scope._replace(groups=groups))
+        for key in keys:
+            if key.path is not None:
+                self._key(block, key.path, kinds, scope._replace(groups=groups))
+            else:
+                self._value_key(block, key.value, head)
 
     def _nested(self, block: Block, outer: _Scope) -> None:
         scope = self._sources(block, outer.variables)
@@ -348,7 +353,28 @@ class _Typing:
                 return
             kind = kinds[names.index(name)]
         if kind is not None and kind.is_entity:
-            self._wrong(path, "objects have no order: ORDER BY takes a member of theirs, as p.id")
+            self._wrong(path, _NO_ORDER)
+
+    def _value_key(self, block: Block, value: Node, scope: _Scope) -> None:
+        """A key of ORDER BY that is neither an item's name nor a path alone."""
+        nodes = [node for node in jpql.nodes_of(value) if node.sort == "path"]
+        names = [item.name.said for item in block.items if item.name]
+        named = [node for node in nodes if len(node.words) == 1 and node.words[0].said in names]
+        if named:
+            name = named[0].words[0].said
+            way = f"which ORDER BY takes alone, as ORDER BY {name}: write its value here"
+            self._wrong(named[0], f"{name} is the name of an item, {way}")
+            return
+        kind = self._value(value, scope)
+        text = self._text(value)
+        if block.is_distinct:
+            way = f"select {text} under a name behind AS, and order by that name"
+            self._wrong(value, f"with DISTINCT, ORDER BY takes what is selected alone: {way}")
+        elif not nodes:
+            way = "ORDER BY takes what a variable has, as p.id, or a name behind AS"
+            self._wrong(value, f"{text} is the same for each row: {way}")
+        elif kind is not None and kind.is_entity:
+            self._wrong(value, _NO_ORDER)
 
     @staticmethod
     def _is_selected(block: Block, path: Node, way: _Way) -> bool:
@@ -492,7 +518,9 @@ class _Typing:
 
     def _aggregate(self, node: Node, scope: _Scope) -> Optional[Kind]:
         if not scope.takes_aggregates:
-            self._wrong(node, f"{node.said} stands in SELECT and HAVING alone, and in no other one")
+            is_wide = jpql.LANGUAGES[self._language].orders_by_values
+            places = "SELECT, HAVING and ORDER BY" if is_wide else "SELECT and HAVING"
+            self._wrong(node, f"{node.said} stands in {places} alone, and in no other one")
         value = node.parts[0]
         kind = self._value(value, _Scope(scope.variables))
         if node.said == "COUNT":

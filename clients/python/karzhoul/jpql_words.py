@@ -16,6 +16,10 @@ _WIDER = (
     "this function is of the wider language, language='wide'; those of texts are LENGTH, CONCAT, "
     "SUBSTRING and LOCATE here"
 )
+_SORTED_BY = (
+    "ORDER BY takes values in the wider language, language='wide': here it takes paths, as p.id, and "
+    "names behind AS"
+)
 _TRUTH = "truth values aren't served: compare a whole number"
 _PLACES = "hand in first=.. and max=.. beside the text"
 _MAPS = "maps aren't served"
@@ -109,6 +113,7 @@ def syntax_told(
         _unserved([token], language)
         or _misspelt(token, 0.6, fault.expected, language)
         or _unserved(earlier[::-1], language)
+        or _sorted_by_value(token, tokens, language)
         or _called(token, before, language)
         or _misplaced(token, before)
         or _misspelt(before, 0.7, fault.expected, language)
@@ -123,6 +128,27 @@ def _unserved(tokens: Sequence[Token], language: LanguageName) -> Optional[Tuple
         if why is not None:
             return each, why
     return None
+
+
+def _sorted_by_value(
+    token: Token, tokens: Sequence[Token], language: LanguageName
+) -> Optional[Tuple[Token, str]]:
+    """A value in ORDER BY, which takes none in this language."""
+    earlier = [each for each in tokens if each.end <= token.at]
+    pairs = zip(earlier, earlier[1:])
+    is_behind = any(one.is_word("ORDER") and other.is_word("BY") for one, other in pairs)
+    if LANGUAGES[language].orders_by_values or not is_behind:
+        return None
+    begins = earlier[-1].is_word("BY") or earlier[-1].is_mark(",")
+    is_value = token.sort in ("integer", "text", "parameter") or _is_function(token, language)
+    if begins and (is_value or token.is_mark("(")) or any(map(token.is_mark, "+-*")):
+        return token, _SORTED_BY
+    return None
+
+
+def _is_function(token: Token, language: LanguageName) -> bool:
+    functions = (*LANGUAGES[language].functions, *AGGREGATES, "SIZE")
+    return token.sort == "word" and token.said.upper() in functions
 
 
 def _called(

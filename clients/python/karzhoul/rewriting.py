@@ -138,16 +138,24 @@ def _must_fit(text: str, lists: Mapping[str, Sequence[Any]]) -> str:
 
 
 def counting(text: str) -> Optional[str]:
-    """A query that counts the rows of this one; None where none does, as of groups."""
+    """A query that counts the rows of this one, with the same parameters; None where none does, as of
+    groups."""
     block = _plain(text)
     if block is None:
         return None
-    heads = [*block.items, *(block.keys or [])]
-    paths = [node for node in jpql.nodes_of(heads) if node.sort == "path" and len(node.words) > 2]
+    heads = jpql.nodes_of([*block.items, *(block.keys or [])])
+    counted = [node.said for node in jpql.nodes_of([block.sources, block.where]) if _is_asked(node)]
+    if any(_is_asked(node) and node.said not in counted for node in heads):
+        return None
+    paths = [node for node in heads if node.sort == "path" and len(node.words) > 2]
     # A null link on the way leaves a row out, wherever the path stands.
     said = dict.fromkeys(text[path.at : path.end] for path in paths)
     there = [f"({path} IS NULL OR {path} IS NOT NULL)" for path in said]
     return f"SELECT COUNT({_variable(block)}) FROM {_from(text, block)}{_where(text, block, there)}"
+
+
+def _is_asked(node: jpql.Node) -> bool:
+    return node.sort == "parameter"
 
 
 def _plain(text: str) -> Optional[Block]:
@@ -155,7 +163,8 @@ def _plain(text: str) -> Optional[Block]:
     block = read(text)
     if not isinstance(block, Block) or block.is_distinct or block.groups or block.having:
         return None
-    is_one = any(node.sort == "aggregate" for node in jpql.nodes_of(block.items))
+    heads = [*block.items, *(block.keys or [])]
+    is_one = any(node.sort == "aggregate" for node in jpql.nodes_of(heads))
     return None if is_one else block
 
 

@@ -8,6 +8,7 @@ import unittest
 from typing import Dict, Iterator, List, Optional, Tuple
 
 from karzhoul import jpql
+from karzhoul.jpql import LanguageName
 from karzhoul.jpql_check import BYTES, INT, TEXT, Kind, Kinds, QueryFinding, check
 from karzhoul.unit import entities_of
 
@@ -91,8 +92,10 @@ class Told(unittest.TestCase):
 
     UNIT = next(json.loads("\n".join(lines)) for head, *lines in blocks("typed") if head == "unit")
 
-    def says(self, text: str, given: Optional[Kinds] = None) -> List[str]:
-        return [self.said(each) for each in check(text, entities_of(self.UNIT), given)]
+    def says(
+        self, text: str, given: Optional[Kinds] = None, language: LanguageName = "profile"
+    ) -> List[str]:
+        return [self.said(each) for each in check(text, entities_of(self.UNIT), given, language)]
 
     @staticmethod
     def said(finding: QueryFinding) -> str:
@@ -201,6 +204,36 @@ class Told(unittest.TestCase):
             ("UPDATE Person p SET p.name = 1", "1:23: name: name is a text, and gets a whole number"),
         ):
             self.tells(text, told)
+
+    def test_keys_that_are_values(self) -> None:
+        for text, told in (
+            ("SELECT p FROM Person p ORDER BY LENGTH(p.name) DESC, p.id * 2, (p.name)", ""),
+            ("SELECT p.name FROM Person p GROUP BY p.name ORDER BY COUNT(p) DESC, LENGTH(p.name)", ""),
+            ("SELECT DISTINCT p.id FROM Person p ORDER BY (p.id)", "1:45: (p.id): with DISTINCT, ORDER BY takes what is selected alone: select (p.id) under a name behind AS, and order by that name"),
+            ("SELECT DISTINCT p.id FROM Person p ORDER BY LENGTH(p.name)", "1:45: LENGTH(p.name): with DISTINCT, ORDER BY takes what is selected alone: select LENGTH(p.name) under a name behind AS, and order by that name"),
+            ("SELECT p.id FROM Person p ORDER BY 1", "1:36: 1: 1 is the same for each row: ORDER BY takes what a variable has, as p.id, or a name behind AS"),
+            ("SELECT p.id FROM Person p ORDER BY p.id, :x + 1", "1:42: :x + 1: :x + 1 is the same for each row: ORDER BY takes what a variable has, as p.id, or a name behind AS"),
+            ("SELECT p.id FROM Person p ORDER BY (p)", "1:36: (p): objects have no order: ORDER BY takes a member of theirs, as p.id"),
+            ("SELECT o.number FROM Order o ORDER BY (o.person) DESC", "1:39: (o.person): objects have no order: ORDER BY takes a member of theirs, as p.id"),
+            ("SELECT p.name FROM Person p ORDER BY COUNT(p)", "1:8: p.name: p.name stands neither in GROUP BY nor within COUNT, SUM, MIN or MAX, as what is grouped does"),
+            ("SELECT COUNT(p) FROM Person p GROUP BY p.name ORDER BY p.id + 1", "1:56: p.id: p.id stands neither in GROUP BY nor within COUNT, SUM, MIN or MAX, as what is grouped does"),
+            ("SELECT LENGTH(p.name) AS n FROM Person p ORDER BY n * 2", "1:51: n: n is the name of an item, which ORDER BY takes alone, as ORDER BY n: write its value here"),
+            ("SELECT p.id FROM Person p ORDER BY LENGTH(p.id)", "1:43: p.id: LENGTH takes a text, and p.id is a whole number"),
+            ("SELECT p FROM Person p WHERE COUNT(p) = 1", "1:30: COUNT(p): COUNT stands in SELECT, HAVING and ORDER BY alone, and in no other one"),
+            ("SELECT p.id FROM Person p ORDER BY p", "1:36: p: ORDER BY names no item p: it takes a path, as p.id, or a name behind AS"),
+            ("SELECT p.id FROM Person p ORDER BY", "1:35: the end: the text ends where a value is expected"),
+        ):
+            self.assertEqual(self.says(text, None, "wide"), [told] if told else [], text)
+
+    def test_keys_that_are_values_are_of_the_wider_language(self) -> None:
+        for key, place in (
+            ("LENGTH(p.name)", "36: LENGTH"), ("p.name, (p.id)", "44: ("), ("p.id * 2", "41: *"),
+            ("- p.id", "36: -"), ("1", "36: 1"), ("'a'", "36: 'a'"), (":x", "36: :x"), ("COUNT(p)", "36: COUNT"),
+        ):
+            way = "ORDER BY takes values in the wider language, language='wide': here it takes paths, as p.id, and names behind AS"
+            self.tells(f"SELECT p.id FROM Person p ORDER BY {key}", f"1:{place}: {way}")
+        [said] = self.says("SELECT p.id FROM Person p ORDER BY LOWER(p.name)")
+        self.assertIn("language='wide'", said)
 
     def test_parameters(self) -> None:
         text = "SELECT p FROM Person p WHERE p.name = :name AND p.id = ?1"

@@ -1,22 +1,24 @@
-"""Queries in the wider language: UPPER, LOWER, TRIM, and lists as parameters of IN."""
+"""Queries in the wider language: UPPER, LOWER, TRIM, lists as parameters of IN, and ORDER BY values."""
 
 from __future__ import annotations
 
 import json
+import re
 import subprocess
 import unittest
 from datetime import date
 from decimal import Decimal
-from typing import Any, List
+from typing import Any, Dict, List
 
 import karzhoul
 from karzhoul import jpql
 from karzhoul.jpql_check import INT, TEXT, Kinds, check
 from karzhoul.line_check import faults_of_line
+from karzhoul.rewriting import counting
 from karzhoul.unit import entities_of
 
 from .classed import ClassesTest
-from .support import PERSONS, PROGRAM, FolderTest, counted, needs_program
+from .support import PERSONS, PROGRAM, TOP, FolderTest, counted, needs_program
 
 NAMED = "SELECT p.name FROM Person p WHERE p.id {} ORDER BY p.id"
 LIBRARY = '''
@@ -218,13 +220,123 @@ class Lists(Wide):
 
 
 @needs_wide
+class Ordered(Wide):
+    """ORDER BY takes values: by chapter 4.10 rows come in the order of what they are, nulls first."""
+
+    # Of persons named "Ada", "straße", "  Bob " and nobody.
+    BY_LOWER, BY_LENGTH = [4, 3, 1, 2], [4, 1, 2, 3]
+
+    def ids(self, keys: str, **params: Any) -> List[Any]:
+        """The numbers of the persons, ordered by these keys."""
+        return list(self.em.query(f"SELECT p.id FROM Person p ORDER BY {keys}", params=params))
+
+    def test_functions_and_arithmetic(self) -> None:
+        self.assertEqual(self.ids("LOWER(p.name)"), self.BY_LOWER)
+        self.assertEqual(self.ids("LENGTH(p.name), p.id"), self.BY_LENGTH)
+        self.assertEqual(self.ids("LENGTH(p.name) DESC, p.id DESC"), [3, 2, 1, 4])
+        self.assertEqual(self.ids("p.id * -1"), [4, 3, 2, 1])
+        self.assertEqual(self.ids("COALESCE(p.name, :last)", last="zz"), [3, 1, 2, 4])
+        self.assertEqual(self.ids("MOD(p.id, ?1), p.id", **{"1": 2}), [2, 4, 1, 3])
+
+    def test_groups(self) -> None:
+        with self.em.transaction():
+            self.em.persist(self.app.entity("Person")(name="Ada"))
+        text = "SELECT p.name FROM Person p GROUP BY p.name ORDER BY COUNT(p) DESC, LENGTH(p.name)"
+        self.assertEqual(list(self.em.query(text)), ["Ada", None, "straße", "  Bob "])
+        self.assertEqual(self.em.page(text, 1, 3, total=True).total, 4)
+
+    def test_pages(self) -> None:
+        text = "SELECT p.id FROM Person p WHERE p.id < :n ORDER BY LOWER(p.name)"
+        pages = [self.em.page(text, number, 3, total=True, n=9) for number in (1, 2)]
+        self.assertEqual([list(page) for page in pages], [self.BY_LOWER[:3], self.BY_LOWER[3:]])
+        self.assertEqual([page.total for page in pages], [4, 4])
+        by_parameter = "SELECT p.id FROM Person p ORDER BY MOD(p.id, :n), p.id"
+        found = self.em.page(by_parameter, 1, 2, total=True, n=2)
+        self.assertEqual((list(found), found.total), ([2, 4], 4))
+        self.assertEqual(self.em.page("SELECT 1 FROM Person p ORDER BY COUNT(p)", 1, 2, total=True).total, 1)
+        with self.assertRaises(ValueError):
+            list(self.em.iterate("SELECT p.id FROM Person p ORDER BY LOWER(p.name)"))
+
+    def test_rows_are_counted_as_their_keys_leave_them(self) -> None:
+        text = "SELECT o.number FROM Order o ORDER BY {}"
+        there = "(o.person.name IS NULL OR o.person.name IS NOT NULL)"
+        wanted = f"SELECT COUNT(o) FROM Order o WHERE {there}"
+        self.assertEqual(counting(text.format("LENGTH(o.person.name)")), wanted)
+        self.assertEqual(counting(text.format("LENGTH(o.name)")), "SELECT COUNT(o) FROM Order o")
+        for key in ("COUNT(o)", "o.number + :n"):
+            self.assertIsNone(counting(text.format(key)), key)
+
+    def test_what_is_refused(self) -> None:
+        for text, told in (
+            ("SELECT DISTINCT p.name FROM Person p ORDER BY LOWER(p.name)", "select LOWER(p.name) under a name behind AS"),
+            ("SELECT p.id FROM Person p ORDER BY 1 + 1", "1 + 1 is the same for each row"),
+            ("SELECT p.id FROM Person p ORDER BY (p)", "objects have no order"),
+            ("SELECT p.id FROM Person p ORDER BY COUNT(p)", "stands neither in GROUP BY nor within COUNT"),
+        ):
+            with self.assertRaises(karzhoul.IllegalArgument) as refused:
+                self.em.query(text)
+            self.assertEqual(refused.exception.word, "IllegalArgument(typing)", text)
+            self.assertIn(told, refused.exception.explain())
+        with self.assertRaises(karzhoul.Overflow):
+            self.ids("p.id + 9223372036854775807")
+
+
+class Paper(unittest.TestCase):
+    """What docs/QUERIES.md says of ORDER BY."""
+
+    @needs_wide
+    def test_its_table_is_so(self) -> None:
+        page = (TOP / "docs" / "QUERIES.md").read_text(encoding="utf-8")
+        rows = re.findall(r"^\| `(.*ORDER BY .+)` \| `(.+)` \|$", page, re.MULTILINE)
+        self.assertGreater(len(rows), 10)
+        with karzhoul.open(PERSONS, program=PROGRAM, language="wide") as app:
+            manager = app.create_entity_manager()
+            with manager.transaction():
+                for name in ("Ada", "bob", None, "Zoe", "ada"):
+                    manager.persist(app.entity("Person")(name=name))
+            for keys, wanted in rows:
+                try:
+                    found = json.dumps(list(manager.query(f"SELECT p.id FROM Person p {keys}")))
+                except karzhoul.Refused as refused:
+                    found = refused.word
+                self.assertEqual(found, wanted, keys)
+
+
+@needs_wide
 class Judged(Wide):
     """The client's own check refuses what the program refuses, with its word."""
+
+    def judges(self, text: str, given: Kinds, values: Dict[str, Any]) -> None:
+        """Holds what the check finds in a text against the word of the program."""
+        found = check(text, entities_of(PERSONS), given, "wide")
+        line = json.dumps({"call": "query", "em": self.em.number, "text": text, "params": values})
+        words = set()
+        try:
+            self.app.send_line(line)
+        except karzhoul.Refused as refused:
+            words.add(refused.word)
+        self.assertEqual({each.refusal for each in found}, words, (text, found))
+
+    def test_it_judges_keys_as_the_program_does(self) -> None:
+        for keys in (
+            "LOWER(p.name)", "(p.name)", "(p)", "p", "p.id + 1 DESC, p.name", "p.id +", "1", "'a'", "-1", ":n",
+            ":n + p.id", "COUNT(p)", "COUNT(1)", "SIZE(p.orders)", "(p.orders)", "p.orders", "n", "(n)", "LENGTH(n)",
+            "LENGTH(p.id)", "p.name + 1", "COALESCE(p, p)", "NULLIF(p.name, 'a') ASC", "LOWER(p.name) DESC ASC",
+            "LOWER(x.name)", "LOWER(p.name), 1", "p.id > 1", "NULL", "", "LOWER(p.name) NULLS LAST", "TRIM(BOTH FROM p.name)",
+            "MAX(p.id) - MIN(p.id)", "SUM(COUNT(p))", "SUM(p.name)", "CASE",
+        ):
+            given = {"n": 1} if ":n" in keys else {}
+            kinds: Kinds = {name: INT for name in given}
+            for head, groups in (
+                ("SELECT p.name AS n", ""), ("SELECT DISTINCT p.name AS n", ""), ("SELECT 1 AS n", ""),
+                ("SELECT COUNT(p) AS n", ""), ("SELECT p.name AS n", " GROUP BY p.name"),
+                ("SELECT p.id", " GROUP BY p.id HAVING COUNT(p) > 0"), ("SELECT COUNT(p)", " GROUP BY p"),
+            ):
+                self.judges(f"{head} FROM Person p{groups} ORDER BY {keys}", kinds, given)
 
     def test_it_judges_as_the_program_does(self) -> None:
         kinds: Kinds = {"n": INT, "t": TEXT, "ns": [INT, None], "ts": [TEXT], "none": [], "mix": [INT, TEXT]}
         values = {"n": 1, "t": "a", "ns": [1, None], "ts": ["a"], "none": [], "mix": [1, "a"]}
-        described = entities_of(PERSONS)
         for test, names in (
             ("UPPER(p.name) = :t", "t"), ("LOWER(p.id) = :t", "t"), ("UPPER(p.name, p.name) = :t", "t"),
             ("UPPER(p.name) = 1", ""), ("TRIM() = 'a'", ""), ("TRIM(p.name) = 'a'", ""),
@@ -239,20 +351,9 @@ class Judged(Wide):
             ("p.id = 1", "ns"), ("p.id IN ()", ""), ("p.id IN :ns, 3", "ns"), ("UPPER(:ts) = 'a'", "ts"),
             ("p.id = CASE", ""), ("end.id = 1", ""),
         ):
-            text = f"SELECT p FROM Person p WHERE {test}"
             given = [name for name in names.split() if name]
-            found = check(text, described, {name: kinds[name] for name in given}, "wide")
-            told = {each.refusal for each in found}
-            line = json.dumps({
-                "call": "query", "em": self.em.number, "text": text,
-                "params": {name: values[name] for name in given},
-            })
-            words = set()
-            try:
-                self.app.send_line(line)
-            except karzhoul.Refused as refused:
-                words.add(refused.word)
-            self.assertEqual(told, words, (test, found))
+            told = {name: kinds[name] for name in given}
+            self.judges(f"SELECT p FROM Person p WHERE {test}", told, {name: values[name] for name in given})
 
 
 @needs_wide
@@ -301,6 +402,23 @@ class OfClasses(ClassesTest):
         self.assertIs(self.em.one(text, name="BOB"), self.bob)
         row = self.em.one("SELECT LOWER(m.email) AS mail, l.state FROM Loan l JOIN l.member m WHERE l.id = 1")
         self.assertEqual((row.mail, row.state), ("ada@x.org", self.State.OPEN))
+
+    def test_keys_are_of_the_types_of_attributes(self) -> None:
+        def ordered(keys: str, **params: Any) -> List[int]:
+            return list(self.em.query(f"SELECT l.id FROM Loan l ORDER BY {keys}", params=params))
+
+        with self.em.transaction():
+            self.em.persist(self.models.Loan(member=self.ada, state=self.State.OPEN, fee=Decimal("2.50")))
+        self.assertEqual(ordered("(l.due) DESC"), [3, 2, 1, 4])
+        self.assertEqual(ordered("COALESCE(l.due, :day)", day=date(2026, 1, 2)), [1, 2, 4, 3])
+        self.assertEqual(ordered("ABS(l.fee - :fee), l.id", fee=Decimal("2.25")), [2, 4, 3, 1])
+        self.assertEqual(ordered("LOWER(TRIM(l.member.name)), l.fee * -1"), [4, 1, 3, 2])
+        grouped = "SELECT m.name FROM Loan l JOIN l.member m GROUP BY m, m.name ORDER BY {}"
+        self.assertEqual(list(self.em.query(grouped.format("SUM(l.fee) DESC"))), [" bob ", "Ada"])
+        self.assertEqual(list(self.em.query(grouped.format("MIN(l.due)"))), ["Ada", " bob "])
+        with self.assertRaises(karzhoul.WrongValue) as caught:
+            ordered("COALESCE(l.due, :day)", day="today")
+        self.assertIn("'day'", str(caught.exception))
 
     def test_the_profile_can_be_asked_for(self) -> None:
         with karzhoul.open(self.models, program=PROGRAM, lock=self.lock, language="profile") as app:

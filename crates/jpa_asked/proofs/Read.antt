@@ -10,16 +10,12 @@ use Rattle.jpql_tree.specs.declared.Language.{Language}
 use Rattle.jpql_tree.specs.declared.Query.{Query}
 use Rattle.jpql_tree.specs.Names.{Text}
 use Rattle.jpql_grammar.specs.Limits.{nests_over}
-use Rattle.jpql_grammar.specs.Lists.{spread}
 use Rattle.jpql_grammar.specs.Queries.{IsQuery}
 use Rattle.jpql_grammar.specs.Text.{IsText}
-use Rattle.jpql_grammar.specs.Statements.{whole_at}
 use Rattle.jpql_tree.specs.Steps.{◌>>=◌}
 use Rattle.jpql_tree.specs.Variables.{declared_variables}
 use Rattle.jpql_grammar.proofs.LexingLaws.{tokens_sound, tokens_complete}
-use Rattle.jpql_grammar.proofs.One.{read_is}
-use Rattle.jpql_grammar.proofs.Queries.{query_read}
-use Rattle.jpql_grammar.proofs.Tools.{step}
+use Rattle.jpql_text.proofs.Whole.{stated_is, is_stated}
 use Rattle.jpql_text.specs.Answers.{statement_in, IsWithin, IsRead, IsOverLimit, IsRefused, UsesLists}
 use Rattle.jpa_context.specs.Steps.{Done, Refused, Op, after, give, require, IsRefusedAs}
 use Rattle.jpa_context.specs.Work.{Work}
@@ -31,15 +27,15 @@ use Rattle.jpa_asked.specs.Reading.{tokens_in, query_of, are_used_in, become_few
 -- ---- the tree of a text
 
 pub whole_read : (l : Language) (lists : List GivenList) (text : Text) (q : Query) → nests_over most_open_parentheses false 0 text ≡ false → IsQuery l lists text q → query_of l lists text ≡ Some q
-whole_read l lists text q n (tokens, stand, t, e, s) =
-    ap (λ (o : Option (List Token)). o >>= statement_in lists) (tokens_complete l text tokens t) ∙ query_read l lists text tokens q n t (tokens, stand, t, e, s)
+whole_read l lists text q n (says, (tokens, stand, t, e, s)) =
+    ap (λ (o : Option (List Token)). o >>= statement_in l lists) (tokens_complete l text tokens t) ∙ is_stated l lists text tokens q n t (says, (tokens, stand, t, e, s))
 
 pub read_whole : (l : Language) (lists : List GivenList) (text : Text) (q : Query) → query_of l lists text ≡ Some q → IsQuery l lists text q
 read_whole l lists text q h = from (tokens_in l text) refl h
   where
-    from : (o : Option (List Token)) → tokens_in l text ≡ o → (o >>= statement_in lists) ≡ Some q → IsQuery l lists text q
+    from : (o : Option (List Token)) → tokens_in l text ≡ o → (o >>= statement_in l lists) ≡ Some q → IsQuery l lists text q
     from None e h = absurd cc
-    from (Some tokens) e h = step (spread lists tokens) (whole_at 35) q h (λ stand is found. (tokens, stand, tokens_sound l text tokens e, is, read_is stand q found))
+    from (Some tokens) e h = stated_is l lists text tokens q (tokens_sound l text tokens e) h
 
 none_read : (l : Language) (lists : List GivenList) (text : Text) → ((q : Query) → IsQuery l lists text q → ⊥) → query_of l lists text ≡ None
 none_read l lists text never = from (query_of l lists text) refl

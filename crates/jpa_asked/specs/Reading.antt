@@ -21,7 +21,7 @@ tokens_in l text = tokens_at l (length text) [] text
 
 -- the tree of a text of the language's grammar, where collections are handed in for these parameters
 abbrev pub query_of : Language → List GivenList → Text → Option Query
-query_of l lists text = tokens_in l text >>= statement_in lists
+query_of l lists text = tokens_in l text >>= statement_in l lists
 
 -- whether each list stands behind IN in these tokens; so it is where there are none
 abbrev pub are_used_in : List GivenList → Option (List Token) → Bool

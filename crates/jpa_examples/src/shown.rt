@@ -283,6 +283,10 @@ fn key(out: &mut Writer, shown: &SortKey) {
             out.add(" ");
             path(out, by);
         }
+        Sorted::Value(by) => {
+            out.add(" ");
+            value(out, by);
+        }
     }
     out.add(if shown.is_descending { " DESC;" } else { ";" })
 }

@@ -11,7 +11,7 @@ use Rattle.jpql_types.specs.declared.typed.TypedKey.{TypedKey}
 use Rattle.jpql_types.specs.declared.typed.TypedSelect.{TypedSelect}
 use Rattle.jpql_types.specs.declared.typed.TypedSorted.{TypedSorted}
 use Rattle.jpql_eval.specs.declared.datum.Datum.{Datum}
-use Rattle.jpql_eval.specs.Answers.{◌>>=◌, under, every}
+use Rattle.jpql_eval.specs.Answers.{gives, ◌>>=◌, under, every}
 use Rattle.jpql_plan.specs.Paths.{Tuple, is_broken, path_datum}
 use Rattle.jpql_plan.specs.Meaning.{Case, alone, condition, kept, truth_of_any, value}
 use Rattle.jpql_plan.specs.Selection.{Row, case_of, cases_of, distinct, group_key, groups_of, in_order, is_grouping, key_breaks, key_datum, put_tuples, row_of, rows_of, select_drops}
@@ -49,13 +49,15 @@ module _ (m : PersistenceUnit) (s s' : StoredSet) (ps : List Datum) where
       of : (by : TypedSorted) → is_own_sorted m by ≡ true → key_breaks m s ps t (record key { by = by }) ≡ key_breaks m s' ps (pairless_tuple m t) (record key { by = by })
       of (TypedSorted.Item n) h = refl
       of (TypedSorted.Path p) h = broken_same m s s' p h t
+      of (TypedSorted.Value v) h = λ i. (same_value m s s' ps v h).1 i t
 
   datum_same : (items : List Datum) (at : Case) (key : TypedKey) → is_own_key m key ≡ true → key_datum m s ps items at key ≡ key_datum m s' ps items (pairless_case m at) key
   datum_same items at key h = of key.by h
     where
       of : (by : TypedSorted) → is_own_sorted m by ≡ true → key_datum m s ps items at (record key { by = by }) ≡ key_datum m s' ps items (pairless_case m at) (record key { by = by })
       of (TypedSorted.Item n) h = refl
-      of (TypedSorted.Path p) h = path_same m s s' p h at.tuple
+      of (TypedSorted.Path p) h = ap gives (path_same m s s' p h at.tuple)
+      of (TypedSorted.Value v) h = λ i. (same_value m s s' ps v h).0 i at
 
   group_same : (paths : List TypedPath) → list_all (is_own_path m) paths ≡ true → group_key m s ps paths ≡ (λ t. group_key m s' ps paths (pairless_tuple m t))
   group_same paths h = λ i t.
@@ -101,7 +103,7 @@ module _ (m : PersistenceUnit) (s s' : StoredSet) (ps : List Datum) where
         (each_tested (is_own_key m) (λ k. key_datum m s ps items at k ≡ key_datum m s' ps items (pairless_case m at) k) (λ k h. datum_same items at k h) q.order own.order)
 
     row_same : (at : Case) → row_of m s ps q at ≡ row_of m s' ps q (pairless_case m at)
-    row_same at = λ i. under (λ items. record { items = items; keys = keys_same items at i }) (every (items_same at i))
+    row_same at = λ i. every (items_same at i) >>= λ items. under (λ keys. record { items = items; keys = keys }) (every (keys_same items at i))
 
     each_row : (cases : List Case) → map (row_of m s' ps q) (map (pairless_case m) cases) ≡ map (row_of m s ps q) cases
     each_row [] = refl

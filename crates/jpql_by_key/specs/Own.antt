@@ -118,12 +118,13 @@ module _ (m : PersistenceUnit) where
 
   -- ---- statements, but for FROM
 
-  -- whether ORDER BY goes by an item, or by a path that the object tells by itself (chapter 4.10)
+  -- whether ORDER BY goes by an item, or by a path or value that the object tells by itself (chapter 4.10)
   abbrev pub is_own_sorted : TypedSorted → Bool
   is_own_sorted (TypedSorted.Item n) = true
   is_own_sorted (TypedSorted.Path p) = is_own_path p
+  is_own_sorted (TypedSorted.Value v) = is_own_value v
 
-  -- whether a key of ORDER BY goes by an item, or by such a path (chapter 4.10)
+  -- whether a key of ORDER BY goes by an item, or by such a path or value (chapter 4.10)
   abbrev pub is_own_key : TypedKey → Bool
   is_own_key key = is_own_sorted key.by
 

@@ -106,6 +106,7 @@ fn is_own_key(metamodel: &Metamodel, key: &TypedKey) -> bool
     match &key.by {
         TypedSorted::Item(_) => true,
         TypedSorted::Path(path) => is_own_path(metamodel, path),
+        TypedSorted::Value(value) => is_own_value(metamodel, value),
     }
 }
 

@@ -19,5 +19,6 @@ mod steps;
 mod values;
 
 pub use conditions::{clause, item, named, optional_name, related, sources};
+pub use predicates::begins_variable;
 pub use steps::{after, after_word, is_word, name, optional_word, path, sees};
 pub use values::value;

@@ -15,13 +15,15 @@ use Rattle.jpql_eval.specs.Answers.{Answer, gives, overflows, ◌>>=◌, under, 
 use Rattle.jpql_plan.specs.Paths.{Tuple}
 use Rattle.jpql_plan.specs.Meaning.{Case, alone, is_any, kept, truth_of_any}
 use Rattle.jpql_plan.specs.Selection as selection
-use Rattle.jpql_plan.specs.Selection.{Row, put_row, put_rows, in_order, has_aggregate}
+use Rattle.jpql_plan.specs.Selection.{Row, put_row, put_rows, in_order, has_aggregate, sorts_by_aggregate}
 use Rattle.jpql_run.specs.declared.run.Run.{Run}
 use Rattle.jpql_run.specs.Keys.{is_given, NeverOverflows}
 use Rattle.jpql_run.specs.Runs as runs
-use Rattle.jpql_select.specs.Selects.{key_datum, row_of, rows_of, cases_of, groups_of, tuples}
+use Rattle.jpql_select.specs.Selects.{key_datum, key_given, row_of, rows_of, cases_of, groups_of, tuples}
 use Rattle.jpql_select.specs.Rows.{distinct}
 use Rattle.jpql_select.specs.Tables.{items_in}
+use Rattle.jpql_select.proofs.Behind.{same_given}
+use Rattle.jpql_select.proofs.Given.{all_given}
 use Rattle.jpql_select.proofs.Kept.{none_left_out}
 use Rattle.jpql_first.specs.First.{GoesByTuple, IsFit}
 use Rattle.jpql_first.proofs.Rows.{rows_front}
@@ -46,19 +48,31 @@ module _ (run : Run) (q : TypedSelect) where
       let more = items_given vs (All-tail NeverOverflows v vs h) at in
       (one.0 ∷ more.0, λ i. both (λ x xs. x ∷ xs) (one.1 i) (more.1 i))
 
-  keys_same : (ks : List TypedKey) → All GoesByTuple ks → (items others : List Datum) (at : Case) → map (key_datum run items at) ks ≡ map (key_datum run others at) ks
-  keys_same [] h items others at = refl
-  keys_same (k ∷ ks) h items others at = λ i. All-head GoesByTuple k ks h run items others at i ∷ keys_same ks (All-tail GoesByTuple k ks h) items others at i
+  -- keys that go by a tuple are given, whatever the items are
+  pub keys_given : (ks : List TypedKey) → All GoesByTuple ks → (items : List Datum) (at : Case) → every (map (key_datum run items at) ks) ≡ gives (map (key_given run [] at) ks)
+  keys_given ks h items at = all_given (key_datum run items at) (key_given run [] at) GoesByTuple (λ k g. g run items at) ks h
+
+  -- so what keys give is that
+  pub keys_are : IsFit q → (t : Tuple) (keys : List TypedKey) (ks : List Datum) → keys ≡ q.order → every (map (key_datum run [] (alone t)) keys) ≡ gives ks
+      → ks ≡ map (key_given run [] (alone t)) q.order
+  keys_are fit t keys ks is e =
+      same_given ks (map (key_given run [] (alone t)) q.order)
+      (sym e ∙ ap (λ os. every (map (key_datum run [] (alone t)) os)) is ∙ keys_given q.order fit.placed [] (alone t))
+
+  -- and they don't overflow
+  pub keys_fail : {A : Type 0} (a : Answer A) → IsFit q → (t : Tuple) (keys : List TypedKey) → keys ≡ q.order → every (map (key_datum run [] (alone t)) keys) ≡ overflows → a ≡ overflows
+  keys_fail a fit t keys is e =
+      absurd (false≢true (ap is_given (sym e ∙ ap (λ os. every (map (key_datum run [] (alone t)) os)) is ∙ keys_given q.order fit.placed [] (alone t))))
 
   -- with these items, and keys that need none
   pub row_made : IsFit q → (t : Tuple) (ds ks : List Datum) → every (map (λ v. runs.value run v (alone t)) q.items) ≡ gives ds
-      → ks ≡ map (key_datum run [] (alone t)) q.order → row_of run q (alone t) ≡ gives (record { items = ds; keys = ks })
+      → ks ≡ map (key_given run [] (alone t)) q.order → row_of run q (alone t) ≡ gives (record { items = ds; keys = ks })
   row_made fit t ds ks e k =
-      ap (under (λ items. record { items = items; keys = map (key_datum run items (alone t)) q.order })) e
-      ∙ ap (λ xs. gives (record { items = ds; keys = xs })) (keys_same q.order fit.placed ds [] (alone t) ∙ sym k)
+      ap (λ (a : Answer (List Datum)). a >>= λ items. under (λ keys. record { items = items; keys = keys }) (every (map (key_datum run items (alone t)) q.order))) e
+      ∙ ap (under (λ keys. record { items = ds; keys = keys })) (keys_given q.order fit.placed ds (alone t) ∙ ap gives (sym k))
 
   -- there is one
-  pub row_given : IsFit q → (t : Tuple) (ks : List Datum) → ks ≡ map (key_datum run [] (alone t)) q.order
+  pub row_given : IsFit q → (t : Tuple) (ks : List Datum) → ks ≡ map (key_given run [] (alone t)) q.order
       → (row : Row) × ((row_of run q (alone t) ≡ gives row) × (row.keys ≡ ks))
   row_given fit t ks k =
       let items = items_given q.items fit.given (alone t) in
@@ -80,7 +94,8 @@ module _ (run : Run) (q : TypedSelect) where
 
   no_having : IsFit q → q.having ≡ None
   no_having fit =
-      none_written q.having (or_right (is_any q.groups) (is_some q.having) (or_left (is_any q.groups || is_some q.having) (list_any has_aggregate q.items) fit.alone))
+      none_written q.having (or_right (is_any q.groups) (is_some q.having) (or_left (is_any q.groups || is_some q.having) (list_any has_aggregate q.items)
+      (or_left ((is_any q.groups || is_some q.having) || list_any has_aggregate q.items) (list_any (λ key. sorts_by_aggregate key.by) q.order) fit.alone)))
 
   rows_alone : IsFit q → (all : List Tuple) → rows_of run q (cases_of run q all) ≡ every (map (row_of run q) (map alone all))
   rows_alone fit all =

@@ -9,7 +9,7 @@ use Rattle.jpql_types.specs.declared.typed.TypedSelect.{TypedSelect}
 use Rattle.jpql_types.specs.declared.typed.TypedSorted.{TypedSorted}
 use Rattle.jpql_types.specs.declared.typed.TypedSource.{TypedSource}
 use Rattle.jpql_eval.specs.declared.datum.Datum.{Datum}
-use Rattle.jpql_eval.specs.Answers.{every, under}
+use Rattle.jpql_eval.specs.Answers.{every, gives, under}
 use Rattle.jpql_plan.specs.Meaning.{Case, alone}
 use Rattle.jpql_plan.specs.Paths.{Entry, Tuple}
 use Rattle.jpql_plan.specs.Selection.{Row, in_order, precedes, is_grouping, selected}
@@ -20,7 +20,7 @@ use Rattle.jpql_run.specs.Equations.{IsKeyPart}
 use Rattle.jpql_run.specs.Fronts.{IsFront}
 use Rattle.jpql_run.specs.Keys.{NeverOverflows}
 use Rattle.jpql_run.specs.ValueFronts.{IsFrontBy, LeadsFrom}
-use Rattle.jpql_select.specs.Selects.{key_datum, row_of}
+use Rattle.jpql_select.specs.Selects.{key_datum, key_given, row_of}
 use Rattle.jpql_select.specs.Tables.{items_in}
 use Rattle.jpql_first.specs.declared.fronts.Way.{Way}
 
@@ -29,13 +29,13 @@ abbrev pub first_of : {A : Type 0} → Option ℕ → List A → List A
 first_of None rows = rows
 first_of (Some n) rows = take n rows
 
--- a key of ORDER BY is the same whatever the items of the row are
+-- a key of ORDER BY is the same whatever the items of the row are, and can't overflow
 abbrev pub GoesByTuple : TypedKey → Type 0
-GoesByTuple key = (run : Run) (items others : List Datum) (at : Case) → key_datum run items at key
-    ≡ key_datum run others at key
+GoesByTuple key = (run : Run) (items : List Datum) (at : Case) → key_datum run items at key
+    ≡ gives (key_given run [] at key)
 
 -- A statement of which any row may be left out: each is of one tuple and no other row's double, its
--- items can't overflow, and its place is known without them.
+-- items and keys can't overflow, and its place is known without the items.
 pub record IsFit (q : TypedSelect) : Type 0 where
   pub alone : is_grouping q ≡ false
   pub all : q.is_distinct ≡ false

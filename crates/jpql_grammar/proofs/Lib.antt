@@ -18,4 +18,5 @@ pub mod Queries
 pub mod Words
 mod Samples
 mod CallSamples
+mod KeySamples
 mod ListSamples

@@ -1,6 +1,6 @@
 -- Where lists stand for their values, one parenthesis more is open at most.
 use Rattle.std.proofs.lemmas.Bool.{leb-false, lt-leb}
-use Rattle.std.proofs.Common.{◌≡◌, ℕ, zero, suc, ◌≤◌, Bool, true, false, nat_le, ◌||◌, List, [], ◌∷◌, ◌++◌, subst, Option, Some, None, refl, ap, sym, ◌∙◌, arith, append_assoc}
+use Rattle.std.proofs.Common.{◌≡◌, ℕ, zero, suc, ◌≤◌, Bool, true, false, nat_le, List, [], ◌∷◌, ◌++◌, subst, Option, Some, None, refl, ap, sym, ◌∙◌, arith, append_assoc}
 use Rattle.jpql_grammar.specs.declared.lists.Before.{Before}
 use Rattle.jpql_grammar.specs.declared.lists.GivenList.{GivenList}
 use Rattle.jpql_grammar.specs.declared.token.Mark.TheVariants as m

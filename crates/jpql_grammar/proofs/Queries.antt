@@ -26,13 +26,13 @@ one_spread : (lists : List GivenList) (a b s u : List Token) → a ≡ b → spr
 one_spread lists a b s u e x y = same _ _ (sym x ∙ (ap (spread lists) e ∙ y))
 
 pub one_query : (l : Language) (lists : List GivenList) (text : Text) (x y : Query) → IsQuery l lists text x → IsQuery l lists text y → x ≡ y
-one_query l lists text x y (a, s, ta, ea, sa) (b, u, tb, eb, sb) =
+one_query l lists text x y (_, (a, s, ta, ea, sa)) (_, (b, u, tb, eb, sb)) =
     one_tree u x y (subst (λ ts. IsStatement ts x) (one_spread lists a b s u (one_list l text a b ta tb) ea eb) sa) sb
 
 -- the tokens of a query within the limit are read as it
 pub query_read : (l : Language) (lists : List GivenList) (text : Text) (tokens : List Token) (x : Query) → nests_over 32 false 0 text ≡ false → IsText l text tokens → IsQuery l lists text x
     → (spread lists tokens >>= whole_at 35) ≡ Some x
-query_read l lists text tokens x h t (a, s, ta, ea, sa) =
+query_read l lists text tokens x h t (_, (a, s, ta, ea, sa)) =
     let is = ap (spread lists) (one_list l text tokens a t ta) ∙ ea in
     let deep = spread_below lists 32 tokens s (sym (text_nests l 32 text tokens t) ∙ h) is in
     ap (λ (o : Option (List Token)). o >>= whole_at 35) is ∙ is_read s x deep sa

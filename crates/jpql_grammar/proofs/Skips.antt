@@ -12,7 +12,7 @@ use Rattle.jpql_grammar.specs.Same.{same_mark}
 use Rattle.jpql_grammar.specs.Nesting.{too_deep}
 use Rattle.jpql_tree.specs.Names.{Text}
 use Rattle.jpql_grammar.specs.Parts.{Name, plain, word, name_token, Steps, write_names, write_path, Taken°, taken_text, taken_parameter, Trimming°, unwritten_trimming, sided, unsided, write_taken, write_trimming}
-use Rattle.jpql_grammar.specs.Grammar.{Value°, sum, Sums°, no_sums, plus, minus, Product°, product, Times°, no_times, times, Unary°, unsigned, positive, negative, Atom°, integer, text, parameter, path, call, group, Call°, length_of, concat, substring_from, substring, locate, locate_from, abs, modulo, size, coalesce, null_if, upper, lower, trim, aggregate, aggregate_distinct, More°, no_more, more, write_value, write_sums, write_product, write_times, write_unary, write_atom, write_call, write_more, Written, write_word, Named, write_named, write_optional_name, Item°, write_item, write_others, comparison_mark, write_escape, Side, inner, left, write_side, Range, entity, related, write_range, Cond°, cond, Ors°, no_ors, or, And°, conj, Ands°, no_ands, and, Not°, maybe_not, Test°, inside, compare, between, among, among_none, like, null, empty, member, exists, type_is, type_is_not, type_among, Sub°, sub, Source°, source, Sources°, no_sources, sources, Joins°, no_joins, joins, Join°, join, On°, no_on, on, Where°, no_where, filter, write_cond, write_ors, write_and, write_ands, write_not, write_test, write_sub, write_source, write_sources, write_joins, write_join, write_on, write_where, Direction, unwritten, ascending, descending, write_direction, Key°, by_name, by_path, write_key, Clause, no_clause, clause, write_clause, Having°, no_having, having, write_having, Set°, to_value, to_null, write_set, From°, from_entity, write_from}
+use Rattle.jpql_grammar.specs.Grammar.{Value°, sum, Sums°, no_sums, plus, minus, Product°, product, Times°, no_times, times, Unary°, unsigned, positive, negative, Atom°, integer, text, parameter, path, call, group, Call°, length_of, concat, substring_from, substring, locate, locate_from, abs, modulo, size, coalesce, null_if, upper, lower, trim, aggregate, aggregate_distinct, More°, no_more, more, write_value, write_sums, write_product, write_times, write_unary, write_atom, write_call, write_more, Written, write_word, Named, write_named, write_optional_name, Item°, write_item, write_others, comparison_mark, write_escape, Side, inner, left, write_side, Range, entity, related, write_range, Cond°, cond, Ors°, no_ors, or, And°, conj, Ands°, no_ands, and, Not°, maybe_not, Test°, inside, compare, between, among, among_none, like, null, empty, member, exists, type_is, type_is_not, type_among, Sub°, sub, Source°, source, Sources°, no_sources, sources, Joins°, no_joins, joins, Join°, join, On°, no_on, on, Where°, no_where, filter, write_cond, write_ors, write_and, write_ands, write_not, write_test, write_sub, write_source, write_sources, write_joins, write_join, write_on, write_where, Direction, unwritten, ascending, descending, write_direction, Key°, write_key, Clause, no_clause, clause, write_clause, Having°, no_having, having, write_having, Set°, to_value, to_null, write_set, From°, from_entity, write_from}
 
 abbrev pub opened : List Token → List Token
 opened rest = t.Mark m.Open ∷ rest
@@ -289,8 +289,7 @@ direction_skip (ascending w) rest = key stay
 direction_skip (descending w) rest = key stay
 
 pub key_skip : (x : Key°) (rest : List Token) → Skips (write_key x rest) rest
-key_skip (by_name w d) rest = bare (direction_skip d rest)
-key_skip (by_path x n ns d) rest = bare (chain (names_skip (n ∷ ns) (write_direction d rest)) (direction_skip d rest))
+key_skip (Key°.key a d) rest = chain (value_skip a (write_direction d rest)) (direction_skip d rest)
 
 pub clause_skip : {A : Type 0} (kind : Keyword) (write : A → List Token → List Token) → ((a : A) (rest : List Token) → Skips (write a rest) rest)
     → (x : Clause A) (rest : List Token) → Skips (write_clause kind write x rest) rest

@@ -7,7 +7,7 @@ use Rattle.jpql_grammar.specs.declared.token.Token.{Token}
 use Rattle.jpql_grammar.specs.declared.token.Token.TheVariants as t
 use Rattle.jpql_tree.specs.Names.{Text}
 use Rattle.jpql_grammar.specs.Parts.{Name, Steps, write_path, path_tree}
-use Rattle.jpql_grammar.specs.Grammar.{write_value, write_others, Written, Named, write_named, write_optional_name, Item°, write_item, item_tree, Cond°, write_cond, cond_tree, Where°, no_where, filter, write_where, Direction, unwritten, ascending, descending, write_direction, is_descending, Key°, by_name, by_path, write_key, key_tree, Clause, no_clause, clause, write_clause, clause_trees, Having°, no_having, having, write_having, having_tree, Set°, to_value, to_null, write_set, set_tree, From°, from_entity, write_from, from_tree, Statement°, select, update, delete, write_statement, statement_tree}
+use Rattle.jpql_grammar.specs.Grammar.{write_value, write_others, Written, Named, write_named, write_optional_name, Item°, write_item, item_tree, Cond°, write_cond, cond_tree, Where°, no_where, filter, write_where, Direction, unwritten, ascending, descending, write_direction, is_descending, Key°, write_key, key_tree, Clause, no_clause, clause, write_clause, clause_trees, Having°, no_having, having, write_having, having_tree, Set°, to_value, to_null, write_set, set_tree, From°, from_entity, write_from, from_tree, Statement°, select, update, delete, write_statement, statement_tree}
 use Rattle.jpql_grammar.specs.Nesting.{too_deep}
 use Rattle.jpql_grammar.specs.Values.{Read, sees, is_word, path_at, list_at}
 use Rattle.jpql_grammar.specs.Conditions.{begins_variable, item_at, clause_at, source_at, cond_at}
@@ -15,6 +15,7 @@ use Rattle.jpql_grammar.specs.Statements.{direction_at, key_at, by_at, select_at
 use Rattle.jpql_grammar.proofs.Skips.{Skips, comma, name_skip, named_skip, word_skip, path_skip, item_skip, optional_name_skip, others_skip, where_skip, key_skip, clause_skip, having_skip, set_skip, from_skip}
 use Rattle.jpql_grammar.proofs.Tools.{word_complete, same_keyword_refl}
 use Rattle.jpql_grammar.proofs.ValuesComplete.{Ends, ends_comma, value_complete, list_complete, path_complete, value_no_null, value_no_distinct}
+use Rattle.jpql_grammar.proofs.TestsSound.{bare_is}
 use Rattle.jpql_grammar.proofs.TestsComplete.{ends_key, name_complete}
 use Rattle.jpql_grammar.proofs.CondComplete.{stops, stops_word, AfterItem, AfterSource, after_source_comma, item_complete, related_complete, named_complete, optional_name_complete, where_complete, entity_source_complete, cond_complete}
 
@@ -22,7 +23,7 @@ use Rattle.jpql_grammar.proofs.CondComplete.{stops, stops_word, AfterItem, After
 
 -- what may follow a key of ORDER BY
 record AfterKey (ts : List Token) : Type 0 where
-  pub dot : sees m.Dot ts ≡ false
+  pub ends : Ends ts
   pub ascending : is_word k.Asc ts ≡ false
   pub descending : is_word k.Desc ts ≡ false
 
@@ -31,17 +32,10 @@ direction_complete unwritten rest e = rw (e.ascending, e.descending)
 direction_complete (ascending w) rest e = refl
 direction_complete (descending w) rest e = refl
 
-direction_no_dot : (d : Direction) (rest : List Token) → AfterKey rest → sees m.Dot (write_direction d rest) ≡ false
-direction_no_dot unwritten rest e = e.dot
-direction_no_dot (ascending w) rest e = refl
-direction_no_dot (descending w) rest e = refl
-
-key_complete : (x : Key°) (rest : List Token) → AfterKey rest → key_at (write_key x rest) ≡ Some (key_tree x, rest)
-unfolding key_at
-key_complete (by_name w d) rest e =
-    rw (path_complete (record { variable = w; names = [] }) (write_direction d rest) (direction_no_dot d rest e), direction_complete d rest e)
-key_complete (by_path x n ns d) rest e =
-    rw (path_complete (record { variable = x; names = n ∷ ns }) (write_direction d rest) (direction_no_dot d rest e), direction_complete d rest e)
+direction_ends : (d : Direction) (rest : List Token) → AfterKey rest → Ends (write_direction d rest)
+direction_ends unwritten rest e = e.ends
+direction_ends (ascending w) rest e = ends_key
+direction_ends (descending w) rest e = ends_key
 
 by_complete : {A D : Type 0} (most : ℕ) (kind : Keyword) (one : Read A) (write : D → List Token → List Token) (tree : D → A) (Follow : List Token → Type 0)
     (before_comma : (ts : List Token) → Follow (comma ts)) (skip : (d : D) (rest : List Token) → Skips (write d rest) rest)
@@ -109,7 +103,7 @@ after_item_comma : (ts : List Token) → AfterItem (comma ts)
 after_item_comma ts = record { ends = record { dot = refl; star = refl; plus = refl; minus = refl }; as_word = refl; variable = refl }
 
 after_key_comma : (ts : List Token) → AfterKey (comma ts)
-after_key_comma ts = record { dot = refl; ascending = refl; descending = refl }
+after_key_comma ts = record { ends = ends_comma ts; ascending = refl; descending = refl }
 
 -- ---- statements
 
@@ -117,6 +111,11 @@ after_key_comma ts = record { dot = refl; ascending = refl; descending = refl }
 module _ (most n : ℕ) (room : suc (suc most) ≤ n) where
   conditions : (d : Cond°) (rest : List Token) → too_deep most 0 (write_cond d rest) ≡ false → stops rest ≡ true → cond_at n (write_cond d rest) ≡ Some (cond_tree d, rest)
   conditions d rest h e = cond_complete most n 0 (omega arith) (omega arith) d rest h e
+
+  key_complete : (x : Key°) (rest : List Token) → too_deep most 0 (write_key x rest) ≡ false → AfterKey rest → key_at n (write_key x rest) ≡ Some (key_tree x, rest)
+  unfolding key_at
+  key_complete (Key°.key a d) rest h e =
+      rw (value_complete most n 0 (omega arith) (omega arith) a (write_direction d rest) h (direction_ends d rest e), bare_is a (write_direction d rest), direction_complete d rest e)
 
   having_complete : (x : Having°) (rest : List Token) → too_deep most 0 (write_having x rest) ≡ false → stops rest ≡ true → is_word k.Having rest ≡ false
       → clause_at (cond_at n) k.Having (write_having x rest) ≡ Some (having_tree x, rest)
@@ -163,7 +162,8 @@ module _ (most n : ℕ) (room : suc (suc most) ≤ n) where
         where_complete (cond_at n) most 0 conditions f r2 h5 e2.source.stop e2.filter,
         by_complete most k.Group path_at write_path path_tree (λ ts. sees m.Dot ts ≡ false) (λ ts. refl) path_skip (λ p rest deep e. path_complete p rest e) gs r3 h6 e3.part.dot e3.part.comma e3.group,
         having_complete h r4 h7 e4.before.part.source.stop e4.having,
-        by_complete most k.Order key_at write_key key_tree AfterKey after_key_comma key_skip (λ x rest deep e. key_complete x rest e) ks [] h8 (record { dot = refl; ascending = refl; descending = refl }) refl refl,
+        by_complete most k.Order (key_at n) write_key key_tree AfterKey after_key_comma key_skip key_complete ks [] h8
+            (record { ends = record { dot = refl; star = refl; plus = refl; minus = refl }; ascending = refl; descending = refl }) refl refl,
       )
 
   set_complete : (x : Set°) (rest : List Token) → too_deep most 0 (write_set x rest) ≡ false → Ends rest → assignment_at n (write_set x rest) ≡ Some (set_tree x, rest)

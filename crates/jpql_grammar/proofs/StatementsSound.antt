@@ -1,5 +1,5 @@
 -- What is read as a statement is written by the grammar, with its tree.
-use Rattle.std.proofs.Common.{◌≡◌, ℕ, Bool, true, false, List, [], ◌∷◌, ◌++◌, drop, length, subst, Option, Some, None, refl, ap, ◌∙◌}
+use Rattle.std.proofs.Common.{◌≡◌, ℕ, Bool, true, false, List, [], ◌∷◌, ◌++◌, drop, length, subst, Option, Some, None, refl, ap, sym, ◌∙◌}
 use Rattle.jpql_grammar.specs.declared.token.Keyword.{Keyword}
 use Rattle.jpql_grammar.specs.declared.token.Keyword.TheVariants as k
 use Rattle.jpql_grammar.specs.declared.token.Mark.TheVariants as m
@@ -18,12 +18,13 @@ use Rattle.jpql_tree.specs.declared.Assignment.{Assignment}
 use Rattle.jpql_tree.specs.declared.Query.{Query}
 use Rattle.jpql_tree.specs.declared.Query.TheVariants as q
 use Rattle.jpql_tree.specs.Names.{Text}
-use Rattle.jpql_grammar.specs.Parts.{Name, name_token, name_text, write_path, path_tree}
-use Rattle.jpql_grammar.specs.Grammar.{Value°, write_value, value_tree, Written, write_word, is_written, write_named, write_optional_name, optional_name, write_item, item_tree, write_joins, joins_trees, Direction, unwritten, ascending, descending, write_direction, is_descending, by_name, by_path, write_key, key_tree, no_clause, clause, write_clause, clause_trees, Having°, no_having, having, write_having, having_tree, to_value, to_null, write_set, set_tree, from_entity, write_from, from_tree, select, update, delete, IsStatement}
+use Rattle.jpql_grammar.specs.Parts.{Name, name_token, name_text, write_path, path_tree, sorted_by}
+use Rattle.jpql_grammar.specs.Grammar.{Value°, write_value, value_tree, Written, write_word, is_written, write_named, write_optional_name, optional_name, write_item, item_tree, write_joins, joins_trees, Direction, unwritten, ascending, descending, write_direction, is_descending, Key°, write_key, key_tree, no_clause, clause, write_clause, clause_trees, Having°, no_having, having, write_having, having_tree, to_value, to_null, write_set, set_tree, from_entity, write_from, from_tree, select, update, delete, IsStatement}
 use Rattle.jpql_grammar.specs.Values.{Read, after, is_word, after_word, optional_word, name_at, path_at, list_at, value_at}
-use Rattle.jpql_grammar.specs.Conditions.{named_at, optional_name_at, item_at, related_at, origin_at, clause_at, joins_at, source_at, cond_at}
-use Rattle.jpql_grammar.specs.Statements.{direction_at, sorted_by, key_at, by_at, select_at, new_value_at, assignment_at, update_at, delete_at, statement_at, where_ended, whole_at}
+use Rattle.jpql_grammar.specs.Conditions.{begins_variable, bare_path, named_at, optional_name_at, item_at, related_at, origin_at, clause_at, joins_at, source_at, cond_at}
+use Rattle.jpql_grammar.specs.Statements.{direction_at, key_at, by_at, select_at, new_value_at, assignment_at, update_at, delete_at, statement_at, where_ended, whole_at}
 use Rattle.jpql_grammar.proofs.Tools.{step, choice, same, after_is, word_is, after_word_is, optional_word_is, name_sound}
+use Rattle.jpql_grammar.proofs.TestsSound.{bare_is}
 use Rattle.jpql_grammar.proofs.ValuesSound.{Wrote, value_sound, path_sound, list_sound, write_list, list_trees, nothing, leaf}
 use Rattle.jpql_grammar.proofs.CondSound.{named_sound, optional_name_sound, item_sound, of_name, write_related, related_tree, related_sound, Clause°, write_clause°, clause_tree, where_of, where_of_is, clause_sound, joins_sound, cond_sound}
 
@@ -38,17 +39,16 @@ direction_sound ts = by_test (is_word k.Asc ts) refl (is_word k.Desc ts) refl
     by_test false e true f = let (w, ew) = word_is k.Desc ts f in (descending w, rw (e, f) ew, rw (e, f))
     by_test false e false f = (unwritten, rw (e, f), rw (e, f))
 
-key_glued : (x : Text) (ns : List Name) (ts : List Token) (p : Path × List Token) (d : Bool × List Token) (y : SortKey × List Token)
-    → write_path (record { variable = x; names = ns }) p.1 ≡ ts → path_tree (record { variable = x; names = ns }) ≡ p.0
-    → (w : Direction) × (write_direction w d.1 ≡ p.1) × (is_descending w ≡ d.0)
-    → Some (record { by = sorted_by p.0; is_descending = d.0 }, d.1) ≡ Some y → Wrote write_key key_tree ts y
-key_glued x [] ts p d y ep tp (w, ew, tw) h = leaf write_key key_tree (by_name x w) (record { by = sorted_by p.0; is_descending = d.0 }) d.1 ts y h (rw ew ep) (rw (← tp, tw))
-key_glued x (n ∷ ns) ts p d y ep tp (w, ew, tw) h = leaf write_key key_tree (by_path x n ns w) (record { by = sorted_by p.0; is_descending = d.0 }) d.1 ts y h (rw ew ep) (rw (← tp, tw))
+key_glued : (ts : List Token) (a : Value × List Token) (d : Bool × List Token) (y : SortKey × List Token) → Wrote write_value value_tree ts a
+    → (w : Direction) × (write_direction w d.1 ≡ a.1) × (is_descending w ≡ d.0)
+    → Some (record { by = sorted_by (bare_path (begins_variable ts) a.0) a.0; is_descending = d.0 }, d.1) ≡ Some y → Wrote write_key key_tree ts y
+key_glued ts a d y (e, ee, te) (w, ew, tw) h =
+    leaf write_key key_tree (Key°.key e w) (record { by = sorted_by (bare_path (begins_variable ts) a.0) a.0; is_descending = d.0 }) d.1 ts y h (rw ew ee)
+    (rw (← te, ← ee, tw) (ap (λ p. record { by = sorted_by p (value_tree e); is_descending = d.0 }) (sym (bare_is e a.1))))
 
-key_sound : (ts : List Token) (y : SortKey × List Token) → key_at ts ≡ Some y → Wrote write_key key_tree ts y
+key_sound : (n : ℕ) (ts : List Token) (y : SortKey × List Token) → key_at n ts ≡ Some y → Wrote write_key key_tree ts y
 unfolding key_at
-key_sound ts y h = step (path_at ts) _ _ h (λ p ep hp. let q = path_sound ts p ep in
-    key_glued q.0.variable q.0.names ts p (direction_at p.1) y q.1 q.2 (direction_sound p.1) hp)
+key_sound n ts y h = step (value_at n ts) _ _ h (λ a ea ha. key_glued ts a (direction_at a.1) y (value_sound n ts a ea) (direction_sound a.1) ha)
 
 by_glued : {A D : Type 0} (word : Keyword) (write : D → List Token → List Token) (tree : D → A) (ts more : List Token) (x : List A × List Token)
     → (w : Text) × (t.Key word w ∷ drop 1 ts ≡ ts) → (u : Text) × (t.Key k.By u ∷ more ≡ drop 1 ts) → Wrote (write_list write) (list_trees tree) more x
@@ -123,10 +123,10 @@ unfolding select_at
 select_sound n w ts x hx e = let d = optional_word k.Distinct ts in
     step (list_at (item_at n) d.1) _ _ hx (λ is ei hi. step (after_word k.From is.1) _ _ hi (λ more em hm. step (list_at (source_at (cond_at n) false) more) _ _ hm (λ xs es hs.
     step (clause_at (cond_at n) k.Where xs.1) _ _ hs (λ f ef hf. step (by_at k.Group path_at f.1) _ _ hf (λ gs eg hg. step (clause_at (cond_at n) k.Having gs.1) _ _ hg (λ h eh hh.
-    step (by_at k.Order key_at h.1) _ _ hh (λ ks ek hk.
+    step (by_at k.Order (key_at n) h.1) _ _ hh (λ ks ek hk.
     select_glued w ts d.1 more d.0 is xs f gs h ks x (optional_word_is k.Distinct ts) (list_sound (item_at n) write_item item_tree (item_sound n) d.1 is ei) (after_word_is k.From is.1 more em)
     (list_sound (source_at (cond_at n) false) write_from from_tree (from_sound n) more xs es) (clause_sound (cond_at n) (cond_sound n) k.Where xs.1 f ef)
-    (by_sound k.Group path_at write_path path_tree path_sound f.1 gs eg) (clause_sound (cond_at n) (cond_sound n) k.Having gs.1 h eh) (by_sound k.Order key_at write_key key_tree key_sound h.1 ks ek) hk e)))))))
+    (by_sound k.Group path_at write_path path_tree path_sound f.1 gs eg) (clause_sound (cond_at n) (cond_sound n) k.Having gs.1 h eh) (by_sound k.Order (key_at n) write_key key_tree (key_sound n) h.1 ks ek) hk e)))))))
 
 -- a value, or NULL
 data New° : Type 0 where

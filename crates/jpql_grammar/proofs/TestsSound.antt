@@ -1,5 +1,5 @@
 -- What is read as a test of a value or of TYPE is written by the grammar, with its tree.
-use Rattle.std.proofs.Common.{◌≡◌, ℕ, Bool, true, false, ◌&&◌, List, [], ◌∷◌, drop, subst, Option, Some, None, refl, ap, ◌∙◌}
+use Rattle.std.proofs.Common.{◌≡◌, ℕ, Bool, true, false, ◌&&◌, List, [], ◌∷◌, drop, subst, Option, Some, None, option_map, refl, ap, sym, ◌∙◌}
 use Rattle.jpql_grammar.specs.declared.token.Keyword.TheVariants as k
 use Rattle.jpql_grammar.specs.declared.token.Mark.TheVariants as m
 use Rattle.jpql_grammar.specs.declared.token.Token.{Token}
@@ -13,7 +13,7 @@ use Rattle.jpql_tree.specs.declared.Condition.{Condition}
 use Rattle.jpql_tree.specs.declared.Condition.TheVariants as is
 use Rattle.jpql_tree.specs.Names.{Text}
 use Rattle.jpql_grammar.specs.Parts.{Name, name_token, name_text, Steps, write_path, path_tree}
-use Rattle.jpql_grammar.specs.Grammar.{Value°, sum, Sums°, no_sums, plus, minus, product, Times°, no_times, times, unsigned, positive, negative, integer, text, parameter, path, call, group, write_value, write_times, write_sums, value_tree, times_tree, sums_tree, Written, write_word, is_written, comparison_mark, negated, write_escape, escape_text, Test°, compare, between, among, among_none, like, null, empty, member, type_is, type_is_not, type_among, write_test, test_tree}
+use Rattle.jpql_grammar.specs.Grammar.{Value°, sum, Sums°, no_sums, plus, minus, product, Times°, no_times, times, unsigned, positive, negative, integer, text, parameter, path, call, group, write_value, bare_steps, write_times, write_sums, value_tree, times_tree, sums_tree, Written, write_word, is_written, comparison_mark, negated, write_escape, escape_text, Test°, compare, between, among, among_none, like, null, empty, member, type_is, type_is_not, type_among, write_test, test_tree}
 use Rattle.jpql_grammar.specs.Values.{sees, after, is_word, after_word, optional_word, name_at, variable_at, path_at, list_at, closed, value_at}
 use Rattle.jpql_grammar.specs.Conditions.{comparison_at, sees_comparison, begins_variable, negated_if, bare_path, compared_at, is_at, between_at, among_at, escape_at, like_at, member_at, worded_at, tested_at, valued_at, entities_at, type_is_at, entity_at, typed_at, simple_at}
 use Rattle.jpql_grammar.proofs.Skips.{opened, close}
@@ -78,29 +78,45 @@ arithmetic_times : (us : Times°) (op : Arithmetic) (a b : Value) → bare_path 
 arithmetic_times no_times op a b = refl
 arithmetic_times (times u us) op a b = arithmetic_times us _ _ _
 
-not_some : {A : Type 0} (o : Option A) (p : A) → o ≡ None → o ≡ Some p → ⊥
-not_some None p e h = cc
-not_some (Some q) p e h = cc
+-- the path that all of a value is, by its tokens and its tree, is the one that the grammar has
+not_path : (b : Bool) (a : Value) → b ≡ false → bare_path b a ≡ None
+not_path true a e = cc
+not_path false a e = refl
 
-not_bare : (b : Bool) (a : Value) (p : Path) → b ≡ false → bare_path b a ≡ Some p → ⊥
-not_bare true a p e h = cc
-not_bare false a p e h = cc
+pub bare_is : (d : Value°) (rest : List Token) → bare_path (begins_variable (write_value d rest)) (value_tree d) ≡ option_map path_tree (bare_steps d)
+bare_is (sum (product (unsigned (path q)) no_times) no_sums) rest = refl
+bare_is (sum (product (unsigned (path q)) no_times) (plus a ps)) rest = arithmetic_sums ps _ _ _
+bare_is (sum (product (unsigned (path q)) no_times) (minus a ps)) rest = arithmetic_sums ps _ _ _
+bare_is (sum (product (unsigned (path q)) (times u us)) no_sums) rest = arithmetic_times us _ _ _
+bare_is (sum (product (unsigned (path q)) (times u us)) (plus a ps)) rest = arithmetic_sums ps _ _ _
+bare_is (sum (product (unsigned (path q)) (times u us)) (minus a ps)) rest = arithmetic_sums ps _ _ _
+bare_is (sum (product (unsigned (integer i)) us) ps) rest = refl
+bare_is (sum (product (unsigned (text w)) us) ps) rest = refl
+bare_is (sum (product (unsigned (parameter w)) us) ps) rest = refl
+bare_is (sum (product (unsigned (call x)) us) ps) rest = not_path _ _ (of_call begins_variable false (λ j w ts b. refl) x (write_times us (write_sums ps rest)))
+bare_is (sum (product (unsigned (group a)) us) ps) rest = refl
+bare_is (sum (product (positive a) us) ps) rest = refl
+bare_is (sum (product (negative a) us) ps) rest = refl
+
+bare_written : (d : Value°) (p : Path) → option_map path_tree (bare_steps d) ≡ Some p
+    → (q : Steps) × ((rest : List Token) → write_path q rest ≡ write_value d rest) × (path_tree q ≡ p)
+bare_written (sum (product (unsigned (path q)) no_times) no_sums) p h = (q, λ rest. refl, same _ _ h)
+bare_written (sum (product (unsigned (path q)) no_times) (plus a ps)) p h = absurd cc
+bare_written (sum (product (unsigned (path q)) no_times) (minus a ps)) p h = absurd cc
+bare_written (sum (product (unsigned (path q)) (times u us)) no_sums) p h = absurd cc
+bare_written (sum (product (unsigned (path q)) (times u us)) (plus a ps)) p h = absurd cc
+bare_written (sum (product (unsigned (path q)) (times u us)) (minus a ps)) p h = absurd cc
+bare_written (sum (product (unsigned (integer i)) us) ps) p h = absurd cc
+bare_written (sum (product (unsigned (text w)) us) ps) p h = absurd cc
+bare_written (sum (product (unsigned (parameter w)) us) ps) p h = absurd cc
+bare_written (sum (product (unsigned (call x)) us) ps) p h = absurd cc
+bare_written (sum (product (unsigned (group a)) us) ps) p h = absurd cc
+bare_written (sum (product (positive a) us) ps) p h = absurd cc
+bare_written (sum (product (negative a) us) ps) p h = absurd cc
 
 bare_sound : (d : Value°) (rest : List Token) (p : Path) → bare_path (begins_variable (write_value d rest)) (value_tree d) ≡ Some p
     → (q : Steps) × ((rest : List Token) → write_path q rest ≡ write_value d rest) × (path_tree q ≡ p)
-bare_sound (sum (product (unsigned (path q)) no_times) no_sums) rest p h = (q, λ rest. refl, same _ _ h)
-bare_sound (sum (product (unsigned (path q)) no_times) (plus a ps)) rest p h = absurd (not_some _ p (arithmetic_sums ps _ _ _) h)
-bare_sound (sum (product (unsigned (path q)) no_times) (minus a ps)) rest p h = absurd (not_some _ p (arithmetic_sums ps _ _ _) h)
-bare_sound (sum (product (unsigned (path q)) (times u us)) no_sums) rest p h = absurd (not_some _ p (arithmetic_times us _ _ _) h)
-bare_sound (sum (product (unsigned (path q)) (times u us)) (plus a ps)) rest p h = absurd (not_some _ p (arithmetic_sums ps _ _ _) h)
-bare_sound (sum (product (unsigned (path q)) (times u us)) (minus a ps)) rest p h = absurd (not_some _ p (arithmetic_sums ps _ _ _) h)
-bare_sound (sum (product (unsigned (integer i)) us) ps) rest p h = absurd cc
-bare_sound (sum (product (unsigned (text w)) us) ps) rest p h = absurd cc
-bare_sound (sum (product (unsigned (parameter w)) us) ps) rest p h = absurd cc
-bare_sound (sum (product (unsigned (call x)) us) ps) rest p h = absurd (not_bare _ _ p (of_call begins_variable false (λ j w ts b. refl) x (write_times us (write_sums ps rest))) h)
-bare_sound (sum (product (unsigned (group a)) us) ps) rest p h = absurd cc
-bare_sound (sum (product (positive a) us) ps) rest p h = absurd cc
-bare_sound (sum (product (negative a) us) ps) rest p h = absurd cc
+bare_sound d rest p h = bare_written d p (sym (bare_is d rest) ∙ h)
 
 null_glued : (d : Value°) (w u : Text) (ts mid : List Token) (b : Bool) (x : Condition × List Token)
     → (n : Written) × (write_word k.Not n (t.Key k.Null u ∷ mid) ≡ ts) × (is_written n ≡ b)

@@ -8,7 +8,6 @@ use Rattle.jpql_grammar.specs.declared.token.Keyword.{Keyword}
 use Rattle.jpql_grammar.specs.declared.token.Token.{Token}
 use Rattle.jpql_tree.specs.declared.Query.{Query}
 use Rattle.jpql_tree.specs.Names.{Text}
-use Rattle.jpql_grammar.specs.Grammar.{IsStatement}
 use Rattle.jpql_grammar.specs.Text.{first_keyword, spelling, profile_keywords, wide_keywords, keyword_of, word_of, Piece, blank, bare, digits, quoted, named, numbered, mark, tokens_of, IsText}
 use Rattle.jpql_grammar.specs.Lists.{spread}
 use Rattle.jpql_grammar.specs.Queries.{IsQuery, KeepNames}
@@ -58,5 +57,5 @@ text_stays text tokens (ps, s, e, ts) keep = (ps, s, e, tokens_stay ps (subst Ke
 
 pub query_stays : (lists : List GivenList) (text : Text) (tokens : List Token) (query : Query) → IsText language.Profile text tokens → KeepNames tokens
     → IsQuery language.Profile lists text query → IsQuery language.Wide lists text query
-query_stays lists text tokens query is keep (own, stand, t, e, s) =
-    (tokens, stand, text_stays text tokens is keep, ap (spread lists) (one_list language.Profile text tokens own is t) ∙ e, s)
+query_stays lists text tokens query is keep (_, (own, stand, t, e, s)) =
+    (refl, (tokens, stand, text_stays text tokens is keep, ap (spread lists) (one_list language.Profile text tokens own is t) ∙ e, s))

@@ -1,7 +1,7 @@
 -- The grammar. A derivation says which case of which line was taken. Its `write` is the tokens that
 -- it stands for, in front of those that follow. Its `tree` is the statement. Parentheses leave no
 -- node.
-use Rattle.std.specs.Prelude.{◌≡◌, ℕ, Bool, true, false, List, [], ◌∷◌, map, ℤ, Option, Some, None}
+use Rattle.std.specs.Prelude.{◌≡◌, Bool, true, false, List, [], ◌∷◌, map, ℤ, Option, Some, None, option_map}
 use Rattle.jpql_grammar.specs.declared.token.Keyword.{Keyword}
 use Rattle.jpql_grammar.specs.declared.token.Keyword.TheVariants as k
 use Rattle.jpql_grammar.specs.declared.token.Mark.{Mark}
@@ -14,7 +14,6 @@ use Rattle.jpql_tree.specs.declared.Sign.TheVariants as s
 use Rattle.jpql_tree.specs.declared.Arithmetic.TheVariants as o
 use Rattle.jpql_tree.specs.declared.Comparison.{Comparison}
 use Rattle.jpql_tree.specs.declared.Comparison.TheVariants as c
-use Rattle.jpql_tree.specs.declared.Path.{Path}
 use Rattle.jpql_tree.specs.declared.Value.{Value}
 use Rattle.jpql_tree.specs.declared.Value.TheVariants as v
 use Rattle.jpql_tree.specs.declared.Item.{Item}
@@ -26,14 +25,13 @@ use Rattle.jpql_tree.specs.declared.Block.{Block, roll-Block}
 use Rattle.jpql_tree.specs.declared.Source.{Source, roll-Source}
 use Rattle.jpql_tree.specs.declared.Join.{Join, roll-Join}
 use Rattle.jpql_tree.specs.declared.SortKey.{SortKey}
-use Rattle.jpql_tree.specs.declared.Sorted.TheVariants as by
 use Rattle.jpql_tree.specs.declared.Assignment.{Assignment}
 use Rattle.jpql_tree.specs.declared.Query.{Query}
 use Rattle.jpql_tree.specs.declared.Query.TheVariants as q
 use Rattle.jpql_tree.specs.Names.{Text}
-use Rattle.jpql_grammar.specs.Parts.{Name, word, name_token, name_text, Steps, write_names}
+use Rattle.jpql_grammar.specs.Parts.{Name, name_token, name_text, Steps}
 use Rattle.jpql_grammar.specs.Parts.{write_path, path_tree, aggregate_word, Trimming°}
-use Rattle.jpql_grammar.specs.Parts.{write_trimming, trimming_tree, trimmed_value}
+use Rattle.jpql_grammar.specs.Parts.{write_trimming, trimming_tree, trimmed_value, sorted_by}
 
 -- Each keyword comes with how it is written.
 mutual
@@ -600,7 +598,7 @@ abbrev mutual
 
 -- ---- statements
 
--- key = (path | name) [ASC | DESC]
+-- key = value [ASC | DESC]
 pub data Direction : Type 0 where
   unwritten : Direction
   ascending : Text → Direction
@@ -618,22 +616,23 @@ is_descending unwritten = false
 is_descending (ascending w) = false
 is_descending (descending w) = true
 
--- (path | name) [ASC | DESC] (chapter 4.10)
+-- value [ASC | DESC] (chapter 4.10)
 pub data Key° : Type 0 where
-  -- a key of one name is a name
-  by_name : Text → Direction → Key°
-  by_path : Text → Name → List Name → Direction → Key°
+  key : Value° → Direction → Key°
 
 -- the tokens of a key
 abbrev pub write_key : Key° → List Token → List Token
-write_key (by_name w d) rest = t.Word w ∷ write_direction d rest
-write_key (by_path x n ns d) rest = t.Word x ∷ write_names (n ∷ ns) (write_direction d rest)
+write_key (key a d) rest = write_value a (write_direction d rest)
+
+-- the path that is all of a value, without parentheses, if one is
+abbrev pub bare_steps : Value° → Option Steps
+bare_steps (sum (product (unsigned (path p)) no_times) no_sums) = Some p
+bare_steps _ = None
 
 -- a key: what it goes by, and whether it descends
 abbrev pub key_tree : Key° → SortKey
-key_tree (by_name w d) = record { by = by.Name w; is_descending = is_descending d }
-key_tree (by_path x n ns d) =
-    record { by = by.Path (record { variable = x; names = map name_text (n ∷ ns) }); is_descending = is_descending d }
+key_tree (key a d) =
+    record { by = sorted_by (option_map path_tree (bare_steps a)) (value_tree a); is_descending = is_descending d }
 
 -- GROUP BY path {"," path}, ORDER BY key {"," key}, HAVING cond
 pub data Clause (A : Type 0) : Type 0 where

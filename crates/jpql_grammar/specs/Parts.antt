@@ -1,4 +1,4 @@
--- Parts of values: names, paths, the words of aggregates, and what TRIM takes off.
+-- Parts of values: names, paths, the words of aggregates, what TRIM takes off, and what is sorted by.
 use Rattle.std.specs.Prelude.{List, [], ◌∷◌, map, Option, Some, None}
 use Rattle.jpql_grammar.specs.declared.token.Keyword.{Keyword}
 use Rattle.jpql_grammar.specs.declared.token.Keyword.TheVariants as k
@@ -13,6 +13,8 @@ use Rattle.jpql_tree.specs.declared.Aggregate.TheVariants as g
 use Rattle.jpql_tree.specs.declared.Path.{Path}
 use Rattle.jpql_tree.specs.declared.Value.{Value}
 use Rattle.jpql_tree.specs.declared.Value.TheVariants as v
+use Rattle.jpql_tree.specs.declared.Sorted.{Sorted}
+use Rattle.jpql_tree.specs.declared.Sorted.TheVariants as by
 use Rattle.jpql_tree.specs.Names.{Text}
 
 -- a word that stands for a name whether or not it is one of the grammar's
@@ -108,3 +110,13 @@ trimming_tree (unsided x u) = (side.Both, Some (taken_tree x))
 abbrev pub trimmed_value : Trimmed × Option Value → Value → Value
 trimmed_value (h, None) a = v.Call (f.Trim h) (a ∷ [])
 trimmed_value (h, Some x) a = v.Call (f.Trim h) (a ∷ x ∷ [])
+
+-- what a key of ORDER BY sorts by, from its value and the path that this is, if it is one: a path of no
+-- names is a result variable (chapter 4.10)
+abbrev pub sorted_by : Option Path → Value → Sorted
+sorted_by None a = by.Value a
+sorted_by (Some p) a = of_names p.names
+  where
+    of_names : List Text → Sorted
+    of_names [] = by.Name p.variable
+    of_names (n ∷ ns) = by.Path p

@@ -1,21 +1,37 @@
 -- Which text is which query.
-use Rattle.std.specs.Prelude.{◌≡◌, List, [], ◌∷◌, Some, None}
+use Rattle.std.specs.Prelude.{◌≡◌, Bool, true, false, List, [], ◌∷◌, Some, None}
+use Rattle.std.specs.List.{list_all}
 use Rattle.jpql_tree.specs.declared.Language.{Language}
 use Rattle.jpql_tree.specs.declared.Language.TheVariants as language
 use Rattle.jpql_grammar.specs.declared.lists.GivenList.{GivenList}
 use Rattle.jpql_grammar.specs.declared.token.Token.{Token}
 use Rattle.jpql_grammar.specs.declared.token.Token.TheVariants as t
+use Rattle.jpql_tree.specs.declared.Sorted.{Sorted}
+use Rattle.jpql_tree.specs.declared.Sorted.TheVariants as by
 use Rattle.jpql_tree.specs.declared.Query.{Query}
+use Rattle.jpql_tree.specs.declared.Query.TheVariants as q
 use Rattle.jpql_tree.specs.Names.{Text}
 use Rattle.jpql_grammar.specs.Grammar.{IsStatement}
 use Rattle.jpql_grammar.specs.Lists.{spread}
 use Rattle.jpql_grammar.specs.Text.{keyword_of, IsText}
 
+-- whether what ORDER BY sorts by is a result variable or a path
+abbrev pub is_named : Sorted → Bool
+is_named (by.Name name) = true
+is_named (by.Path p) = true
+is_named (by.Value a) = false
+
+-- whether a language has a statement: the profile sorts by result variables and paths alone
+abbrev pub speaks : Language → Query → Bool
+speaks language.Profile (q.Select s) = list_all (λ key. is_named key.by) s.order
+speaks _ _ = true
+
 -- The text is one of the language's grammar, where collections are handed in for these parameters, and
 -- this is its tree.
 abbrev pub IsQuery : Language → List GivenList → Text → Query → Type 0
-IsQuery l lists text query =
-    (tokens stand : List Token) × IsText l text tokens × (spread lists tokens ≡ Some stand) × IsStatement stand query
+IsQuery l lists text query = (speaks l query ≡ true)
+    × ((tokens stand : List Token)
+    × IsText l text tokens × (spread lists tokens ≡ Some stand) × IsStatement stand query)
 
 -- no name among these tokens is a word of the wider language's grammar
 abbrev pub KeepNames : List Token → Type 0

@@ -4,12 +4,9 @@ use Rattle.jpql_grammar.specs.declared.token.Keyword.{Keyword}
 use Rattle.jpql_grammar.specs.declared.token.Keyword.TheVariants as k
 use Rattle.jpql_grammar.specs.declared.token.Mark.TheVariants as m
 use Rattle.jpql_grammar.specs.declared.token.Token.{Token}
-use Rattle.jpql_tree.specs.declared.Path.{Path}
 use Rattle.jpql_tree.specs.declared.Value.{Value}
 use Rattle.jpql_tree.specs.declared.Condition.{Condition}
 use Rattle.jpql_tree.specs.declared.SortKey.{SortKey}
-use Rattle.jpql_tree.specs.declared.Sorted.{Sorted}
-use Rattle.jpql_tree.specs.declared.Sorted.TheVariants as by
 use Rattle.jpql_tree.specs.declared.Assignment.{Assignment}
 use Rattle.jpql_tree.specs.declared.Query.{Query}
 use Rattle.jpql_tree.specs.declared.Query.TheVariants as q
@@ -17,24 +14,12 @@ use Rattle.jpql_tree.specs.Steps.{◌>>=◌}
 use Rattle.jpql_grammar.specs.Values.{Read, after, is_word, after_word, optional_word, name_at, path_at, list_at}
 use Rattle.jpql_grammar.specs.Values.{value_at}
 use Rattle.jpql_grammar.specs.Conditions.{named_at, optional_name_at, item_at, related_at, clause_at, source_at}
-use Rattle.jpql_grammar.specs.Conditions.{cond_at}
+use Rattle.jpql_grammar.specs.Conditions.{begins_variable, bare_path, cond_at}
+use Rattle.jpql_grammar.specs.Parts.{sorted_by}
 
 -- [ASC | DESC]
 abbrev pub direction_at : List Token → Bool × List Token
 direction_at ts = if is_word k.Asc ts then (false, drop 1 ts) else optional_word k.Desc ts
-
--- a path of no names is a name
-abbrev pub sorted_by : Path → Sorted
-sorted_by p = of_names p.names
-  where
-    of_names : List (List ℕ) → Sorted
-    of_names [] = by.Name p.variable
-    of_names (n ∷ ns) = by.Path p
-
--- (path | name) [ASC | DESC] (chapter 4.10)
-unfoldable pub key_at : Read SortKey
-key_at ts = path_at ts >>= λ p. let d = direction_at p.1 in
-    Some (record { by = sorted_by p.0; is_descending = d.0 }, d.1)
 
 -- [GROUP BY one {"," one}], [ORDER BY one {"," one}]
 unfoldable pub by_at : {A : Type 0} → Keyword → Read A → Read (List A)
@@ -51,6 +36,11 @@ module _ (n : ℕ) where
   -- a clause with a condition, where its word comes next
   abbrev pub filter_at : Keyword → Read (Option Condition)
   filter_at = clause_at (cond_at n)
+
+  -- value [ASC | DESC] (chapter 4.10)
+  unfoldable pub key_at : Read SortKey
+  key_at ts = value_at n ts >>= λ a. let d = direction_at a.1 in
+      Some (record { by = sorted_by (bare_path (begins_variable ts) a.0) a.0; is_descending = d.0 }, d.1)
 
   -- what follows the word SELECT (chapter 4.2.1)
   unfoldable pub select_at : Read Query

@@ -1,6 +1,6 @@
 -- How values are read from tokens, from the left: each function gives the tree and the tokens after
 -- it.
-use Rattle.std.specs.Prelude.{ℕ, zero, suc, Bool, true, false, nat_eq, nat_le, ◌&&◌, ◌||◌, List, [], ◌∷◌, ◌++◌, drop}
+use Rattle.std.specs.Prelude.{ℕ, zero, suc, Bool, true, false, ◌&&◌, List, [], ◌∷◌, ◌++◌, drop}
 use Rattle.std.specs.Prelude.{length, Option, Some, None, is_some, if◌then◌else◌}
 use Rattle.jpql_grammar.specs.declared.token.Keyword.{Keyword}
 use Rattle.jpql_grammar.specs.declared.token.Keyword.TheVariants as k
@@ -8,7 +8,6 @@ use Rattle.jpql_grammar.specs.declared.token.Mark.{Mark}
 use Rattle.jpql_grammar.specs.declared.token.Mark.TheVariants as m
 use Rattle.jpql_grammar.specs.declared.token.Token.{Token}
 use Rattle.jpql_grammar.specs.declared.token.Token.TheVariants as t
-use Rattle.jpql_tree.specs.declared.Function.{Function}
 use Rattle.jpql_tree.specs.declared.Function.TheVariants as f
 use Rattle.jpql_tree.specs.declared.Trimmed.{Trimmed}
 use Rattle.jpql_tree.specs.declared.Trimmed.TheVariants as side

@@ -1,13 +1,26 @@
--- Titles with a price, cut into a front of their order and the rest: what that asks, and what it gives.
-use Rattle.std.specs.Prelude.{◌≡◌, refl, ℕ, pos, Bool, false, true, nat_lt, List, [], ◌∷◌, ◌++◌, map, Some, None}
+-- Titles with a price: cut into a front of their order and the rest, and sorted by a value.
+use Rattle.std.proofs.Common.{rules, ap}
+use Rattle.std.specs.Prelude.{◌≡◌, refl, ℕ, ℤ, pos, negsuc, Bool, false, true, nat_lt, List, [], ◌∷◌, ◌++◌, map, Some, None}
 use Rattle.std.proofs.lemmas.Bool.{false≢true}
 use Rattle.std.specs.List.{filter}
 use Rattle.jpa_value.specs.declared.value.Value.{Value}
+use Rattle.jpa_model.specs.declared.unit.Member.{Member}
+use Rattle.jpa_model.specs.declared.unit.PersistenceUnit.{PersistenceUnit}
+use Rattle.jpa_stored.specs.Sets.{StoredSet}
+use Rattle.jpql_tree.specs.declared.Arithmetic.{Arithmetic}
+use Rattle.jpql_types.specs.declared.scope.TypedPath.{TypedPath}
 use Rattle.jpql_types.specs.declared.typed.TypedKey.{TypedKey}
+use Rattle.jpql_types.specs.declared.typed.TypedSelect.{TypedSelect}
 use Rattle.jpql_types.specs.declared.typed.TypedSorted.{TypedSorted}
+use Rattle.jpql_types.specs.declared.typed.TypedValue.{TypedValue}
+use Rattle.jpql_types.specs.declared.typed.TypedValue.TheFolds as folds
+use Rattle.jpql_types.specs.declared.typed.TypedValue.TheVariants as v
 use Rattle.jpql_eval.specs.declared.datum.Datum.{Datum}
-use Rattle.jpql_plan.specs.Paths.{Tuple}
-use Rattle.jpql_plan.specs.Selection.{Row, in_order}
+use Rattle.jpql_eval.specs.Answers.{Answer, gives, overflows, both, every, under}
+use Rattle.jpql_eval.specs.Numbers.{number, arithmetic}
+use Rattle.jpql_plan.specs.Meaning.{Case, alone, value}
+use Rattle.jpql_plan.specs.Paths.{Tuple, path_datum}
+use Rattle.jpql_plan.specs.Selection.{Row, in_order, row_of, rows_of}
 use Rattle.jpql_plan.specs.Laws.{AreCut}
 
 -- the title of this number, with this price
@@ -23,16 +36,16 @@ abbrev price : Tuple → ℕ
 price (Some e ∷ others) = int_in (e.1).values
 price _ = 0
 
-abbrev number : Tuple → ℕ
-number (Some e ∷ others) = int_in (e.0).key
-number _ = 0
+abbrev title : Tuple → ℕ
+title (Some e ∷ others) = int_in (e.0).key
+title _ = 0
 
 abbrev int : ℕ → Datum
 int n = Datum.Plain (Value.Int (pos n))
 
 -- a row with the title's number, ordered by its price
 abbrev by_price : Tuple → Row
-by_price t = record { items = int (number t) ∷ []; keys = int (price t) ∷ [] }
+by_price t = record { items = int (title t) ∷ []; keys = int (price t) ∷ [] }
 
 abbrev order : Bool → List TypedKey
 order is_descending = record { by = TypedSorted.Item 0; is_descending = is_descending } ∷ []
@@ -62,10 +75,10 @@ cheap_rising = refl
 abbrev alike : List Tuple
 alike = priced 1 7 ∷ priced 2 7 ∷ priced 3 7 ∷ []
 
-first_in_front : AreCut (order true) (λ t. nat_lt (number t) 3) by_price alike
+first_in_front : AreCut (order true) (λ t. nat_lt (title t) 3) by_price alike
 first_in_front = ((tt, (refl, tt)), ((refl, tt), (tt, tt)))
 
-last_in_front : AreCut (order true) (λ t. nat_lt 1 (number t)) by_price alike → ⊥
+last_in_front : AreCut (order true) (λ t. nat_lt 1 (title t)) by_price alike → ⊥
 last_in_front h = false≢true (h.0).0
 
 falling : numbers true alike ≡ (int 1 ∷ []) ∷ (int 2 ∷ []) ∷ (int 3 ∷ []) ∷ []
@@ -73,5 +86,58 @@ falling = refl
 
 -- ---- without ORDER BY all rows tie, and what stands first is in front
 
-unordered : AreCut [] (λ t. nat_lt (number t) 4) by_price titles
+unordered : AreCut [] (λ t. nat_lt (title t) 4) by_price titles
 unordered = ((tt, (tt, (refl, (refl, tt)))), ((tt, (refl, (refl, tt))), ((refl, (refl, tt)), ((tt, tt), (tt, tt)))))
+
+-- ---- SELECT t.number FROM Title t ORDER BY t.price * factor: the key of a row is a value computed for it
+
+abbrev path_to : Member → TypedPath
+path_to member = record { variable = 0; class = 0; steps = record { class = 0; member = member } ∷ [] }
+
+abbrev times : ℤ → TypedValue
+times factor = v.Arithmetic Arithmetic.Times (v.Path (path_to (Member.Attribute 0))) (v.Integer factor)
+
+abbrev by_times : ℤ → TypedSelect
+by_times factor = record {
+  is_distinct = false;
+  items = v.Path (path_to (Member.KeyPart 0)) ∷ [];
+  sources = [];
+  filter = None;
+  groups = [];
+  having = None;
+  order = record { by = TypedSorted.Value (times factor); is_descending = false } ∷ [];
+}
+
+module _ (m : PersistenceUnit) (s : StoredSet) (ps : List Datum) where
+  path_gives : (p : TypedPath) (at : Case) → value m s ps (v.Path p) at ≡ gives (path_datum m s at.tuple p)
+  path_gives p at = search (rules, folds.the_lemmas)
+
+  times_gives : (factor : ℤ) (at : Case)
+      → value m s ps (times factor) at ≡ arithmetic Arithmetic.Times (path_datum m s at.tuple (path_to (Member.Attribute 0))) (number factor)
+  times_gives factor at = search (rules, folds.the_lemmas)
+
+  abbrev row_by : ℤ → Tuple → Answer Row
+  row_by factor t =
+      let items = path_datum m s t (path_to (Member.KeyPart 0)) ∷ [] in
+      let key = arithmetic Arithmetic.Times (path_datum m s t (path_to (Member.Attribute 0))) (number factor) in
+      under (λ keys. record { items = items; keys = keys }) (both (λ x xs. x ∷ xs) key (gives []))
+
+  row_is : (factor : ℤ) (t : Tuple) → row_of m s ps (by_times factor) (alone t) ≡ row_by factor t
+  row_is factor t = rw (path_gives (path_to (Member.KeyPart 0)) (alone t)) (rw (times_gives factor (alone t)) refl)
+
+  each_row : (factor : ℤ) (ts : List Tuple) → every (map (row_of m s ps (by_times factor)) (map alone ts)) ≡ every (map (row_by factor) ts)
+  each_row factor [] = refl
+  each_row factor (t ∷ ts) = λ i. both (λ row rows. row ∷ rows) (row_is factor t i) (each_row factor ts i)
+
+  abbrev sorted_by_times : ℤ → Answer (List (List Datum))
+  sorted_by_times factor =
+      under (λ rows. map (λ (r : Row). r.items) (in_order (by_times factor).order rows)) (rows_of m s ps (by_times factor) (map alone titles))
+
+  -- by the price times -1 the dearest title is the first
+  dearest_first : sorted_by_times (negsuc 0) ≡ gives ((int 3 ∷ []) ∷ (int 1 ∷ []) ∷ (int 2 ∷ []) ∷ (int 4 ∷ []) ∷ (int 5 ∷ []) ∷ [])
+  dearest_first = ap (under (λ rows. map (λ (r : Row). r.items) (in_order (by_times (negsuc 0)).order rows))) (each_row (negsuc 0) titles)
+
+  -- and where a key is outside 64 bits, the statement overflows
+  key_overflows : sorted_by_times (pos 9223372036854775807) ≡ overflows
+  key_overflows =
+      ap (under (λ rows. map (λ (r : Row). r.items) (in_order (by_times (pos 9223372036854775807)).order rows))) (each_row (pos 9223372036854775807) titles)

@@ -15,7 +15,7 @@ use Rattle.jpql_types.specs.declared.typed.TypedSorted.{TypedSorted}
 use Rattle.jpql_types.specs.declared.typed.TypedKey.{TypedKey}
 use Rattle.jpql_types.specs.declared.typed.TypedSelect.{TypedSelect}
 use Rattle.jpql_eval.specs.declared.datum.Datum.{Datum}
-use Rattle.jpql_eval.specs.Answers.{Answer, ◌>>=◌, under, every}
+use Rattle.jpql_eval.specs.Answers.{Answer, gives, ◌>>=◌, under, every}
 use Rattle.jpql_eval.specs.Data.{null, same_data, datum_cmp}
 use Rattle.jpql_eval.specs.Aggregates.{once}
 use Rattle.jpql_plan.specs.Paths.{Tuple, path_datum, is_broken}
@@ -40,9 +40,16 @@ has_aggregate_step (part.Aggregate g distinct a) = true
 abbrev pub has_aggregate : TypedValue → Bool
 has_aggregate = fold-TypedValue Bool has_aggregate_step
 
--- whether a SELECT makes groups: by GROUP BY, HAVING or an aggregate in an item (chapter 4.8)
+-- whether an aggregate stands in what ORDER BY sorts by (chapter 4.10)
+abbrev pub sorts_by_aggregate : TypedSorted → Bool
+sorts_by_aggregate (TypedSorted.Item n) = false
+sorts_by_aggregate (TypedSorted.Path p) = false
+sorts_by_aggregate (TypedSorted.Value v) = has_aggregate v
+
+-- whether a SELECT makes groups: by GROUP BY, HAVING or an aggregate in an item or a key (chapter 4.8)
 abbrev pub is_grouping : TypedSelect → Bool
 is_grouping q = is_any q.groups || is_some q.having || list_any has_aggregate q.items
+    || list_any (λ key. sorts_by_aggregate key.by) q.order
 
 -- a group of tuples, with its first
 abbrev pub case_of : List Tuple → Case
@@ -129,6 +136,7 @@ module _ (m : PersistenceUnit) (s : StoredSet) (parameters : List Datum) where
       by : TypedSorted → Bool
       by (TypedSorted.Item n) = false
       by (TypedSorted.Path p) = is_broken m s t p
+      by (TypedSorted.Value v) = value_drops m s parameters v t
 
   -- whether a tuple has a null step in some path of the block
   abbrev pub select_drops : TypedSelect → Tuple → Bool
@@ -138,19 +146,20 @@ module _ (m : PersistenceUnit) (s : StoredSet) (parameters : List Datum) where
       || list_any (is_broken m s t) q.groups || drops_any (option_map (condition m s parameters) q.having) t
       || list_any (key_breaks t) q.order
 
-  -- what a key of ORDER BY is: an item of the row, or what its path gives (chapter 4.10)
-  abbrev pub key_datum : List Datum → Case → TypedKey → Datum
+  -- what a key of ORDER BY is: an item of the row, or what its path or value gives (chapter 4.10)
+  abbrev pub key_datum : List Datum → Case → TypedKey → Answer Datum
   key_datum items at key = by key.by
     where
-      by : TypedSorted → Datum
-      by (TypedSorted.Item n) = slice_index_or items n null
-      by (TypedSorted.Path p) = path_datum m s at.tuple p
+      by : TypedSorted → Answer Datum
+      by (TypedSorted.Item n) = gives (slice_index_or items n null)
+      by (TypedSorted.Path p) = gives (path_datum m s at.tuple p)
+      by (TypedSorted.Value v) = value m s parameters v at
 
   -- a row: what its items give, with what it is ordered by (chapter 4.9)
   abbrev pub row_of : TypedSelect → Case → Answer Row
   row_of q at =
-      under (λ items. record { items = items; keys = map (key_datum items at) q.order })
-      (every (map (λ v. value m s parameters v at) q.items))
+      every (map (λ v. value m s parameters v at) q.items) >>= λ items.
+      under (λ keys. record { items = items; keys = keys }) (every (map (key_datum items at) q.order))
 
   -- under DISTINCT the first of rows with the same items, else all rows (chapter 4.9)
   abbrev pub distinct : Bool → List Row → List Row

@@ -3,6 +3,7 @@ pub mod Kept
 pub mod Placed
 pub mod Counted
 pub mod Rising
+pub mod Given
 mod Shortness
 pub mod Keys
 pub mod Once

@@ -1,11 +1,13 @@
 -- What the parts of a SELECT mean, over what it is run over.
-use Rattle.std.specs.Prelude.{Bool, List, [], map}
+use Rattle.std.specs.Prelude.{Bool, true, false, List, [], map, slice_index_or}
 use Rattle.jpa_open.specs.Opened.{now}
 use Rattle.jpql_types.specs.declared.scope.TypedPath.{TypedPath}
 use Rattle.jpql_types.specs.declared.typed.TypedKey.{TypedKey}
 use Rattle.jpql_types.specs.declared.typed.TypedSelect.{TypedSelect}
+use Rattle.jpql_types.specs.declared.typed.TypedSorted.{TypedSorted}
 use Rattle.jpql_eval.specs.declared.datum.Datum.{Datum}
 use Rattle.jpql_eval.specs.Answers.{Answer}
+use Rattle.jpql_eval.specs.Data.{null}
 use Rattle.jpql_plan.specs.Meaning.{Case}
 use Rattle.jpql_plan.specs.Paths as paths
 use Rattle.jpql_plan.specs.Paths.{Tuple}
@@ -42,8 +44,26 @@ abbrev pub cases_of : Run → TypedSelect → List Tuple → List Case
 cases_of run q ts = selection.cases_of run.metamodel.now (now run.set.now) run.parameters.now q ts
 
 -- what a key of ORDER BY is
-abbrev pub key_datum : Run → List Datum → Case → TypedKey → Datum
+abbrev pub key_datum : Run → List Datum → Case → TypedKey → Answer Datum
 key_datum run items at k = selection.key_datum run.metamodel.now (now run.set.now) run.parameters.now items at k
+
+-- whether a key of ORDER BY is a value, which may overflow; an item or a path can't
+abbrev pub is_by_value : TypedKey → Bool
+is_by_value key = by key.by
+  where
+    by : TypedSorted → Bool
+    by (TypedSorted.Item n) = false
+    by (TypedSorted.Path p) = false
+    by (TypedSorted.Value v) = true
+
+-- what a key of ORDER BY is that is no value; of a value it is null
+abbrev pub key_given : Run → List Datum → Case → TypedKey → Datum
+key_given run items at key = by key.by
+  where
+    by : TypedSorted → Datum
+    by (TypedSorted.Item n) = slice_index_or items n null
+    by (TypedSorted.Path p) = paths.path_datum run.metamodel.now (now run.set.now) at.tuple p
+    by (TypedSorted.Value v) = null
 
 -- a row, with what it is ordered by
 abbrev pub row_of : Run → TypedSelect → Case → Answer Row

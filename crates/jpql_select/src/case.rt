@@ -17,7 +17,7 @@ use crate::row::Row;
 use crate::rows::rows_of;
 use jpql_eval::Failure;
 use jpql_run::{Run, Tuple};
-use jpql_types::{TypedPath, TypedSelect, TypedValue};
+use jpql_types::{TypedKey, TypedPath, TypedSelect, TypedSorted, TypedValue};
 use std::alloc::{AllocError, Global};
 
 /// A tuple, and the group that it is the first of, where they stand.
@@ -62,6 +62,23 @@ fn have_aggregate(values: &[TypedValue]) -> bool
     false
 }
 
+/// Whether a key of ORDER BY sorts by a value that has one.
+fn sorts_by_aggregate(key: &TypedKey) -> bool
+    ensures { result ≡ selection.sorts_by_aggregate key.now.by }
+{
+    match &key.by {
+        TypedSorted::Item(_) | TypedSorted::Path(_) => false,
+        TypedSorted::Value(value) => has_aggregate(value),
+    }
+}
+
+/// Whether some of these keys does.
+fn sort_by_aggregate(keys: &[TypedKey]) -> bool
+    ensures { result ≡ list_any (λ key. selection.sorts_by_aggregate key.by) keys.now }
+{
+    keys.iter().any(|key| sorts_by_aggregate(key))
+}
+
 fn is_any(groups: &[TypedPath]) -> bool
     ensures { result ≡ meaning.is_any groups.now }
 {
@@ -69,13 +86,14 @@ fn is_any(groups: &[TypedPath]) -> bool
 }
 
 /// Whether the tuples of a statement stand in groups: by GROUP BY, HAVING or an aggregate among its
-/// items (chapter 4.8).
+/// items and keys of ORDER BY (chapter 4.8).
 pub fn is_grouping(select: &TypedSelect) -> bool
     ensures { result ≡ selection.is_grouping select.now }
 {
     is_any(select.groups.as_slice())
         || select.having.is_some()
         || have_aggregate(select.items.as_slice())
+        || sort_by_aggregate(select.order.as_slice())
 }
 
 /// Each tuple alone.

@@ -1,5 +1,5 @@
 -- What reading a whole text answers, in words of the grammar.
-use Rattle.std.proofs.Common.{◌≡◌, ℕ, ◌≤◌, ◌<◌, ◌⊎◌, inl, inr, min, Bool, true, false, List, length, Option, Some, None, Result, Ok, Err, IfOk, IfErr, subst, ap, sym, ◌∙◌, refl, arith}
+use Rattle.std.proofs.Common.{◌≡◌, ℕ, ◌≤◌, ◌<◌, ◌⊎◌, inl, inr, min, Bool, true, false, List, length, Option, Some, None, cond, Result, Ok, Err, IfOk, IfErr, subst, ap, sym, ◌∙◌, refl, arith}
 use Rattle.std.proofs.lemmas.Bool.{leb-true, leb-false}
 use Rattle.jpa_value.specs.declared.refusal.Argument.TheVariants as argument
 use Rattle.jpa_value.specs.declared.refusal.Cause.{Cause}
@@ -16,14 +16,14 @@ use Rattle.jpql_grammar.specs.Statements.{whole_at}
 use Rattle.jpql_grammar.specs.Limits.{nests_over}
 use Rattle.jpql_tree.specs.Variables.{declared_variables}
 use Rattle.jpql_grammar.specs.Lists.{spread, are_used}
-use Rattle.jpql_grammar.specs.Queries.{IsQuery}
-use Rattle.jpql_grammar.proofs.Tools.{same, step}
+use Rattle.jpql_grammar.specs.Queries.{IsQuery, speaks}
+use Rattle.jpql_grammar.proofs.Tools.{same, step, choice}
 use Rattle.jpql_grammar.proofs.One.{read_is}
 use Rattle.jpql_grammar.proofs.Queries.{one_list, query_read}
 use Rattle.jpql_lexer.specs.declared.error.ReadError.{ReadError}
 use Rattle.jpql_lexer.specs.declared.error.ReadError.TheVariants.{Memory, Syntax}
 use Rattle.jpql_lexer.specs.Gives.{Gives, Fails}
-use Rattle.jpql_text.specs.Answers.{IsWithin, IsAnswered, UsesLists, cause_of, statement_in}
+use Rattle.jpql_text.specs.Answers.{IsWithin, IsAnswered, UsesLists, cause_of, spoken, statement_in}
 use Rattle.jpql_text.specs.Together.{most_values_together, values_together, become_few}
 
 abbrev pub itself : Query → Query
@@ -44,6 +44,24 @@ used_in_none l lists view text h = record {
   none = λ no. refl;
 }
 
+-- ---- the statement of a text
+
+said : (l : Language) (q found : Query) → spoken l q ≡ Some found → (speaks l q ≡ true) × (q ≡ found)
+said l q found h = choice (speaks l q) (Some q) None (Some found) h (λ says e. (says, same _ _ e)) (λ _ e. absurd cc)
+
+-- a text is the query that its tokens are as a statement
+pub stated_is : (l : Language) (lists : List GivenList) (text : Text) (tokens : List Token) (found : Query) → IsText l text tokens → statement_in l lists tokens ≡ Some found → IsQuery l lists text found
+stated_is l lists text tokens found t h =
+    step (spread lists tokens >>= whole_at 35) (spoken l) found h (λ q eq hq. let (says, same_query) = said l q found hq in
+    step (spread lists tokens) (whole_at 35) q eq (λ stand stands reads.
+    subst (λ f. IsQuery l lists text f) same_query (says, (tokens, stand, t, stands, read_is stand q reads))))
+
+-- and a query that nests not too deep is the statement of its tokens
+pub is_stated : (l : Language) (lists : List GivenList) (text : Text) (tokens : List Token) (q : Query) → nests_over 32 false 0 text ≡ false → IsText l text tokens → IsQuery l lists text q
+    → statement_in l lists tokens ≡ Some q
+is_stated l lists text tokens q shallow t r =
+    ap (λ o. o >>= spoken l) (query_read l lists text tokens q shallow t r) ∙ ap (λ says. cond says (Some q) None) r.0
+
 -- ---- what is answered
 
 -- a text that isn't too long, nests not too deep, and has these tokens
@@ -63,7 +81,7 @@ module _ (l : Language) (lists : List GivenList) (text : Text) (written : List T
   within few = (short, shallow, λ tokens t. subst (λ ts. values_together lists ts ≤ most_values_together) (one_list l text written tokens is t) (leb-true (values_together lists written) most_values_together few))
 
   -- it is not read as a statement
-  pub unread : become_few lists written ≡ true → (e : ReadError) → Fails e (statement_in lists written) → IsAnswered l lists text (Err (cause_of e))
+  pub unread : become_few lists written ≡ true → (e : ReadError) → Fails e (statement_in l lists written) → IsAnswered l lists text (Err (cause_of e))
   unread few Memory h = record { read = tt; refused = tt; only = λ q r. inr refl }
   unread few Syntax h = record {
     read = tt;
@@ -72,23 +90,23 @@ module _ (l : Language) (lists : List GivenList) (text : Text) (written : List T
   }
     where
       none : (q : Query) → IsQuery l lists text q → ⊥
-      none q r = let never = sym h ∙ query_read l lists text written q shallow is r in cc
+      none q r = let never = sym h ∙ is_stated l lists text written q shallow is r in cc
 
-  found_query : (found : Query) → statement_in lists written ≡ Some found → IsQuery l lists text found
-  found_query found h = step (spread lists written) (whole_at 35) found h (λ stand stands reads. (written, stand, is, stands, read_is stand found reads))
+  found_query : (found : Query) → statement_in l lists written ≡ Some found → IsQuery l lists text found
+  found_query found h = stated_is l lists text written found is h
 
-  found_alone : (found q : Query) → statement_in lists written ≡ Some found → IsQuery l lists text q → q ≡ found
-  found_alone found q h r = same _ _ (sym (query_read l lists text written q shallow is r) ∙ h)
+  found_alone : (found q : Query) → statement_in l lists written ≡ Some found → IsQuery l lists text q → q ≡ found
+  found_alone found q h r = same _ _ (sym (is_stated l lists text written q shallow is r) ∙ h)
 
   -- or as one with too many variables
-  pub too_many_variables : (found : Query) (n : ℕ) → statement_in lists written ≡ Some found → n ≡ min 9 (declared_variables found) → 8 < n → IsAnswered l lists text (Err cause.Limit)
+  pub too_many_variables : (found : Query) (n : ℕ) → statement_in l lists written ≡ Some found → n ≡ min 9 (declared_variables found) → 8 < n → IsAnswered l lists text (Err cause.Limit)
   too_many_variables found n h e more = record {
     read = tt;
     refused = inr (inr (inr (found, found_query found h, omega (arith, e, more))));
     only = λ q r. absurd (omega (arith, e, more, r.2, ap declared_variables (found_alone found q h r.0)));
   }
 
-  pub tree_found : become_few lists written ≡ true → (found : Query) (n : ℕ) → statement_in lists written ≡ Some found → n ≡ min 9 (declared_variables found) → n ≤ 8 → IsAnswered l lists text (Ok found)
+  pub tree_found : become_few lists written ≡ true → (found : Query) (n : ℕ) → statement_in l lists written ≡ Some found → n ≡ min 9 (declared_variables found) → n ≤ 8 → IsAnswered l lists text (Ok found)
   tree_found few found n h e fits = record {
     read = (found_query found h, within few, omega (arith, e, fits));
     refused = tt;
@@ -109,4 +127,4 @@ no_tokens l lists text view Syntax short shallow h = record {
     never tokens t = let none = h tokens t in cc
 
     none : (q : Query) → IsQuery l lists text q → ⊥
-    none q (tokens, stand, t, s, u) = never tokens t
+    none q (says, (tokens, stand, t, s, u)) = never tokens t

@@ -1,6 +1,6 @@
 -- What reading a text answers.
 use Rattle.std.specs.Prelude.{◌≡◌, ℕ, ◌≤◌, ◌<◌, ◌⊎◌, Bool, true, false, List, length, Option}
-use Rattle.std.specs.Prelude.{Result, Ok, Err, IfOk, IfErr}
+use Rattle.std.specs.Prelude.{Result, Ok, Err, IfOk, IfErr, Some, None, if◌then◌else◌}
 use Rattle.jpa_value.specs.declared.refusal.Argument.TheVariants as argument
 use Rattle.jpa_value.specs.declared.refusal.Cause.{Cause}
 use Rattle.jpa_value.specs.declared.refusal.Cause.TheVariants as cause
@@ -16,15 +16,19 @@ use Rattle.jpql_tree.specs.Steps.{◌>>=◌}
 use Rattle.jpql_grammar.specs.Lists.{spread, are_used}
 use Rattle.jpql_grammar.specs.Statements.{whole_at}
 use Rattle.jpql_grammar.specs.Text.{IsText}
-use Rattle.jpql_grammar.specs.Queries.{IsQuery}
+use Rattle.jpql_grammar.specs.Queries.{IsQuery, speaks}
 use Rattle.jpql_lexer.specs.declared.error.ReadError.{ReadError}
 use Rattle.jpql_lexer.specs.declared.error.ReadError.TheVariants.{Memory, Syntax}
 use Rattle.jpql_text.specs.Together.{most_values_together, values_together}
 
--- the statement that tokens are, where lists stand for their values; conditions and values nest no
--- deeper than parentheses do
-abbrev pub statement_in : List GivenList → List Token → Option Query
-statement_in lists tokens = spread lists tokens >>= whole_at 35
+-- a statement, where the language has it
+abbrev pub spoken : Language → Query → Option Query
+spoken l query = if speaks l query then Some query else None
+
+-- the statement of the language that tokens are, where lists stand for their values; conditions and
+-- values nest no deeper than parentheses do
+abbrev pub statement_in : Language → List GivenList → List Token → Option Query
+statement_in l lists tokens = spread lists tokens >>= whole_at 35 >>= spoken l
 
 -- ---- the limits
 

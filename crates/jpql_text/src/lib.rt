@@ -10,6 +10,7 @@
 //! tokens one more where a collection stands for its values: each recursion counts down from 35.
 #![tactic(auto)]
 
+mod language;
 mod limits;
 mod lists;
 mod read;

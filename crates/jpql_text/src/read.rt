@@ -14,6 +14,7 @@ ghost use Rattle.jpql_lexer.specs.Gives.{Gives};
 ghost use Rattle.jpql_text.specs.Answers.{IsAnswered, IsRead, IsRefused, UsesLists};
 ghost use Rattle.jpql_text.specs.Answers.{cause_of, statement_in};
 
+use crate::language::speaks;
 use crate::limits::nests_over;
 use crate::lists::{are_used, become_few, spread};
 use crate::statements::statement;
@@ -34,25 +35,41 @@ fn cause_of(error: ReadError) -> Cause
     }
 }
 
-/// The statement that a text's tokens are, where lists stand for their values.
-fn statement_in(alloc: Global, lists: &[GivenList], written: Vec<Token>) -> Result<Query, ReadError>
-    ensures { Gives (λ query. query) result (statement_in lists.now written.items) }
+/// The statement of a language that a text's tokens are, where lists stand for their values.
+fn statement_in(
+    alloc: Global,
+    language: Language,
+    lists: &[GivenList],
+    written: Vec<Token>,
+) -> Result<Query, ReadError>
+    ensures { Gives (λ query. query) result (statement_in language lists.now written.items) }
 {
     let tokens = spread(alloc, lists, written)?;
-    statement(alloc, MOST_OPEN_PARENTHESES + 3, tokens.as_slice())
+    let query = statement(alloc, MOST_OPEN_PARENTHESES + 3, tokens.as_slice())?;
+    if speaks(language, &query) {
+        Ok(query)
+    } else {
+        drop(query);
+        Err(ReadError::Syntax)
+    }
 }
 
 /// The tree of a text that has these tokens, and isn't too long and nests not too deep.
-fn tree_of(alloc: Global, lists: &[GivenList], written: Vec<Token>) -> Result<Query, Cause>
-    ensures { (l : Language) (text : Text) → length text ≤ 16384 →
-        limits.nests_over 32 false 0 text ≡ false → IsText l text written.items →
-        IsAnswered l lists.now text result }
+fn tree_of(
+    alloc: Global,
+    language: Language,
+    lists: &[GivenList],
+    written: Vec<Token>,
+) -> Result<Query, Cause>
+    ensures { (text : Text) → length text ≤ 16384 →
+        limits.nests_over 32 false 0 text ≡ false → IsText language text written.items →
+        IsAnswered language lists.now text result }
 {
     if !become_few(lists, written.as_slice()) {
         drop(written);
         return Err(Cause::Limit);
     }
-    match statement_in(alloc, lists, written) {
+    match statement_in(alloc, language, lists, written) {
         Err(error) => Err(cause_of(error)),
         Ok(query) => {
             if declared(&query) > MOST_QUERY_VARIABLES {
@@ -67,7 +84,8 @@ fn tree_of(alloc: Global, lists: &[GivenList], written: Vec<Token>) -> Result<Qu
 
 /// The tree of a query's text in a language. The text is one of the grammar of Jakarta Persistence
 /// 3.1, chapter 4, as far as `jpql_grammar`'s `specs/Grammar` has it; keywords are those of the
-/// language and ignore ASCII case, and parentheses leave no node. A parameter that a collection is
+/// language and ignore ASCII case, and parentheses leave no node. The profile's ORDER BY sorts by
+/// result variables and paths alone, the wide language's by any value. A parameter that a collection is
 /// handed in for stands behind IN alone, with parentheses around it or not, for the parameters of its
 /// values (chapter 4.6.9), whose names `value_name` gives.
 ///
@@ -92,7 +110,7 @@ pub fn read_query(
     }
     match tokens(alloc, language, text) {
         Err(error) => Err(cause_of(error)),
-        Ok(written) => tree_of(alloc, lists, written),
+        Ok(written) => tree_of(alloc, language, lists, written),
     }
 }
 

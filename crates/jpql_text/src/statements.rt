@@ -1,14 +1,15 @@
 //! Statements.
-ghost use Rattle.std.specs.Prelude.{◌≡◌, ◌∷◌, [], length, IfOk};
+ghost use Rattle.std.specs.Prelude.{◌≡◌, ◌∷◌, [], length, IfOk, Some};
 ghost use Rattle.jpql_lexer.specs.Gives.{Gives};
 ghost use Rattle.jpql_grammar.specs.Values.{list_at, path_at};
 ghost use Rattle.jpql_grammar.specs.Statements as spec;
-ghost use Rattle.jpql_grammar.specs.Conditions.{item_at};
+ghost use Rattle.jpql_grammar.specs.Conditions.{item_at, begins_variable, bare_path};
+ghost use Rattle.jpql_grammar.specs.Parts.{sorted_by};
 
 use jpa_value::Seq;
 use jpql_conditions::{
-    after, after_word, clause, is_word, item, name, named, optional_name, optional_word, path,
-    related, sees, sources, value,
+    after, after_word, begins_variable, clause, is_word, item, name, named, optional_name,
+    optional_word, path, related, sees, sources, value,
 };
 use jpql_grammar::{Keyword, Mark, Token};
 use jpql_lexer::ReadError;
@@ -25,8 +26,8 @@ fn direction(tokens: &[Token]) -> (bool, &[Token])
     }
 }
 
-fn sorted_by(path: Path) -> Sorted
-    ensures { result ≡ spec.sorted_by path }
+fn sorted_by_path(path: Path) -> Sorted
+    ensures { result ≡ sorted_by (Some path) (Value.Path path) }
 {
     if path.names.is_empty() {
         Sorted::Name(path.variable)
@@ -35,15 +36,28 @@ fn sorted_by(path: Path) -> Sorted
     }
 }
 
-#[tactic(auto, unfolding(jpql_grammar::specs::Statements::key_at))]
-fn key(alloc: Global, tokens: &[Token]) -> Result<(SortKey, &[Token]), ReadError>
-    ensures { Gives (λ r. (r.0, r.1.now)) result (spec.key_at tokens.now) }
+/// What a key sorts by, from its value and whether that begins with a variable.
+fn sorted_by(begins_variable: bool, value: Value) -> Sorted
+    ensures { result ≡ sorted_by (bare_path begins_variable value) value }
 {
-    let (path, rest) = path(alloc, tokens)?;
+    if !begins_variable {
+        return Sorted::Value(value);
+    }
+    match value {
+        Value::Path(path) => sorted_by_path(path),
+        other => Sorted::Value(other),
+    }
+}
+
+#[tactic(auto, unfolding(jpql_grammar::specs::Statements::key_at))]
+fn key(alloc: Global, depth: usize, tokens: &[Token]) -> Result<(SortKey, &[Token]), ReadError>
+    ensures { Gives (λ r. (r.0, r.1.now)) result (spec.key_at depth tokens.now) }
+{
+    let (value, rest) = value(alloc, depth, tokens)?;
     let (is_descending, rest) = direction(rest);
     Ok((
         SortKey {
-            by: sorted_by(path),
+            by: sorted_by(begins_variable(tokens), value),
             is_descending,
         },
         rest,
@@ -51,17 +65,21 @@ fn key(alloc: Global, tokens: &[Token]) -> Result<(SortKey, &[Token]), ReadError
 }
 
 #[tactic(auto, unfolding(jpql_grammar::specs::Values::list_at, jpql_grammar::specs::Values::others_at))]
-fn keys(alloc: Global, tokens: &[Token]) -> Result<(Seq<SortKey>, &[Token]), ReadError>
-    ensures { Gives (λ r. (r.0, r.1.now)) result (list_at spec.key_at tokens.now) }
+fn keys(
+    alloc: Global,
+    depth: usize,
+    tokens: &[Token],
+) -> Result<(Seq<SortKey>, &[Token]), ReadError>
+    ensures { Gives (λ r. (r.0, r.1.now)) result (list_at (spec.key_at depth) tokens.now) }
 {
-    let (first, mut rest) = key(alloc, tokens)?;
+    let (first, mut rest) = key(alloc, depth, tokens)?;
     let mut found = Seq::new(alloc);
     found.push(first)?;
     for _turn in 0..rest.len() {
         if !sees(Mark::Comma, rest) {
             return Ok((found, rest));
         }
-        let (one, more) = key(alloc, &rest[1..])?;
+        let (one, more) = key(alloc, depth, &rest[1..])?;
         found.push(one)?;
         rest = more;
     }
@@ -116,12 +134,16 @@ fn group_by(alloc: Global, tokens: &[Token]) -> Result<(Seq<Path>, &[Token]), Re
 }
 
 #[tactic(auto, unfolding(jpql_grammar::specs::Statements::by_at))]
-fn order_by(alloc: Global, tokens: &[Token]) -> Result<(Seq<SortKey>, &[Token]), ReadError>
+fn order_by(
+    alloc: Global,
+    depth: usize,
+    tokens: &[Token],
+) -> Result<(Seq<SortKey>, &[Token]), ReadError>
     ensures { Gives (λ r. (r.0, r.1.now)) result
-        (spec.by_at Keyword.Order spec.key_at tokens.now) }
+        (spec.by_at Keyword.Order (spec.key_at depth) tokens.now) }
 {
     if is_word(Keyword::Order, tokens) {
-        keys(alloc, after_word(Keyword::By, &tokens[1..])?)
+        keys(alloc, depth, after_word(Keyword::By, &tokens[1..])?)
     } else {
         Ok((Seq::new(alloc), tokens))
     }
@@ -138,7 +160,7 @@ fn select(alloc: Global, depth: usize, tokens: &[Token]) -> Result<(Query, &[Tok
     let (filter, rest) = clause(alloc, depth, Keyword::Where, rest)?;
     let (groups, rest) = group_by(alloc, rest)?;
     let (having, rest) = clause(alloc, depth, Keyword::Having, rest)?;
-    let (order, rest) = order_by(alloc, rest)?;
+    let (order, rest) = order_by(alloc, depth, rest)?;
     Ok((
         Query::Select(Select {
             is_distinct,

@@ -160,11 +160,12 @@ pub struct Block {
     pub filter: Option<Boxed<Condition>>,
 }
 
-/// What ORDER BY sorts by: a result variable, or a path.
+/// What ORDER BY sorts by: a result variable, a path, or any other value.
 #[derive(Drop)]
 pub enum Sorted {
     Name(Text),
     Path(Path),
+    Value(Value),
 }
 
 /// A key of ORDER BY (chapter 4.10).

@@ -14,7 +14,7 @@ use Rattle.jpql_tree.specs.declared.Source.{Source, out-Source}
 use Rattle.jpql_tree.specs.Names.{Text}
 use Rattle.jpql_types.specs.declared.names.Names.{Names}
 use Rattle.jpql_types.specs.Names.{joined_lists, or_nothing, of_variable, in_value, in_item, in_condition, in_filter, in_join, in_source, in_block}
-use Rattle.jpql_types.specs.Statements.{has_aggregate}
+use Rattle.jpql_types.specs.Statements.{has_aggregate, names_variable}
 
 pub joined-map : {A : Type 0} (f : A → List Text) (xs : List A) → joined_lists (map f xs) ≡ flat_map f xs
 joined-map f xs = flat_map-map (λ (names : List Text). names) f xs
@@ -32,6 +32,12 @@ call_any f values = search (rules, value.the_lemmas)
 
 pub call_has_aggregate : (f : Function) (values : List Value) → has_aggregate (v.Call f values) ≡ list_any has_aggregate values
 call_has_aggregate f values = call_any f values ∙ list_any-map (λ (a : Bool). a) has_aggregate values
+
+call_any_named : (f : Function) (values : List Value) → names_variable (v.Call f values) ≡ list_any (λ a. a) (map names_variable values)
+call_any_named f values = search (rules, value.the_lemmas)
+
+pub call_names_variable : (f : Function) (values : List Value) → names_variable (v.Call f values) ≡ list_any names_variable values
+call_names_variable f values = call_any_named f values ∙ list_any-map (λ (a : Bool). a) names_variable values
 
 -- ---- nested SELECTs and FROM
 

@@ -33,12 +33,12 @@ use Rattle.jpql_types.specs.declared.typed.TypedAssignment.{TypedAssignment}
 use Rattle.jpql_types.specs.Scope.{Scope, path_of, step_from}
 use Rattle.jpql_types.specs.Sorts.{goes_with, is_basic, step_sort}
 use Rattle.jpql_types.specs.Typing.{all_some, value_sort, is_condition_typed, in_turn, source_scope, with_variable, scope_of}
-use Rattle.jpql_types.specs.Statements.{select_clause, item_sort, sorted_sort, is_kept, is_key_typed, is_group_typed, is_filter_typed, is_select_typed_in, is_select_typed, is_settable, allows_value, is_value_of, is_set_typed, is_assignment_typed, is_update_typed, are_distinct, is_statement_typed, is_typed, has_distinct_names, are_given}
+use Rattle.jpql_types.specs.Statements.{select_clause, item_sort, names_variable, sorted_sort, is_kept, is_key_typed, is_group_typed, is_filter_typed, is_select_typed_in, is_select_typed, is_settable, allows_value, is_value_of, is_set_typed, is_assignment_typed, is_update_typed, are_distinct, is_statement_typed, is_typed, has_distinct_names, are_given}
 use Rattle.jpql_types.specs.Trees as trees
 use Rattle.jpql_types.specs.Trees.{place, no_step, is_named}
 use Rattle.jpql_types.specs.Resolved as names
 use Rattle.jpql_types.specs.Resolved.{both, if_written}
-use Rattle.jpql_types.proofs.Options.{IsThere, there, there_before, there_that, there_both, that_at, both_of, each_of, each_tested, each_holds, written_of}
+use Rattle.jpql_types.proofs.Options.{IsThere, there, there_before, there_if, there_that, there_both, that_at, both_of, each_of, each_tested, each_holds, written_of}
 use Rattle.jpql_types.proofs.Turns.{turns}
 use Rattle.jpql_types.proofs.ResolvedValues.{value_resolved, sorted_path}
 use Rattle.jpql_types.proofs.ResolvedConditions.{S, condition_resolved, source_resolved}
@@ -68,6 +68,9 @@ module _ (m : PersistenceUnit) (ps : List (Text × Sort)) where
         (there 0 (position_from (is_named name) 0 q.items) (found_at (is_named name) q.items 0 (there_before (find (is_named name) q.items) (item_sort m ps q scope) h)))
     key_by (Sorted.Path p) is_descending h =
         ap (λ o. option_map (λ b. record { by = b; is_descending = is_descending }) (option_map TypedSorted.Path o)) (sorted_path m ps q.groups scope (select_clause q) p h)
+    key_by (Sorted.Value a) is_descending h =
+        ap (λ o. option_map (λ b. record { by = b; is_descending = is_descending }) (option_map TypedSorted.Value o))
+        (value_resolved m ps q.groups scope a (select_clause q) (there_if (names_variable a) (value_sort m ps q.groups scope (select_clause q) a) h))
 
     key_resolved : (key : SortKey) → is_key_typed m ps q scope key ≡ true → names.key_in m ps scope q.items key ≡ Some (trees.typed_key m ps scope q.items key)
     key_resolved key h = key_by key.by key.is_descending (there_that is_basic (sorted_sort m ps q scope key.by) (and_parts (is_some_that is_basic (sorted_sort m ps q scope key.by)) (not q.is_distinct || is_kept m ps q scope key.by) h).0)

@@ -11,6 +11,8 @@ use Rattle.jpql_tree.specs.declared.Condition.TheOpen.{Block-F, Join-F, Source-F
 use Rattle.jpql_tree.specs.declared.Block.{Block, fold-Block}
 use Rattle.jpql_tree.specs.declared.Join.{Join, fold-Join}
 use Rattle.jpql_tree.specs.declared.Source.{Source, fold-Source}
+use Rattle.jpql_tree.specs.declared.Sorted.{Sorted}
+use Rattle.jpql_tree.specs.declared.SortKey.{SortKey}
 use Rattle.jpql_tree.specs.declared.Query.{Query}
 use Rattle.jpql_tree.specs.Names.{Text}
 use Rattle.jpql_types.specs.declared.names.Names.{Names}
@@ -118,6 +120,15 @@ module _ (which : Names) where
       of None = []
       of (Some value) = in_value which value
 
+  -- the names in a key of ORDER BY that is a value; any other has none (chapter 4.10)
+  abbrev pub in_key : SortKey → List Text
+  in_key key = in_sorted key.by
+    where
+      in_sorted : Sorted → List Text
+      in_sorted (Sorted.Name name) = []
+      in_sorted (Sorted.Path p) = []
+      in_sorted (Sorted.Value value) = in_value which value
+
   -- the variable of a DELETE, where one is written
   abbrev pub in_variable : Option Text → List Text
   in_variable None = []
@@ -127,6 +138,7 @@ module _ (which : Names) where
   abbrev pub names_in : Query → List Text
   names_in (Query.Select s) =
       flat_map (in_item which) s.items ++ flat_map in_source s.sources ++ in_filter s.filter ++ in_filter s.having
+      ++ flat_map in_key s.order
   names_in (Query.Update entity x assignments filter) =
       of_variable which x ++ flat_map in_assignment assignments ++ in_filter filter
   names_in (Query.Delete entity x filter) = in_variable x ++ in_filter filter

@@ -165,10 +165,11 @@ module _ (m : PersistenceUnit) (parameters : List (Text × Sort)) where
 
   -- ---- statements
 
-  -- what a key of ORDER BY names, if it means something: an item or a path (chapter 4.10)
+  -- what a key of ORDER BY sorts by, if it means something: an item, a path or a value (chapter 4.10)
   abbrev pub sorted : Scope → List Item → Sorted → Option TypedSorted
   sorted scope items (Sorted.Name name) = option_map TypedSorted.Item (position_from (is_named name) 0 items)
   sorted scope items (Sorted.Path p) = option_map TypedSorted.Path (path_of m scope p)
+  sorted scope items (Sorted.Value a) = option_map TypedSorted.Value (value scope a)
 
   -- the tree of a key of ORDER BY, where what it names means something (chapter 4.10)
   abbrev pub key_in : Scope → List Item → SortKey → Option TypedKey

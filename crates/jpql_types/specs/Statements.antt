@@ -1,6 +1,6 @@
 -- Which statements are well typed, and what a check answers (chapters 4.2 and 4.8 to 4.11).
 use Rattle.std.specs.Prelude.{ℕ, ◌==◌, Bool, true, false, not, ◌&&◌, ◌||◌, List, [], ◌∷◌, map, length, find, is_some}
-use Rattle.std.specs.Prelude.{Option, if◌then◌else◌, Result, Ok, Err}
+use Rattle.std.specs.Prelude.{Option, None, if◌then◌else◌, Result, Ok, Err}
 use Rattle.std.specs.List.{list_any, list_all}
 use Rattle.jpa_value.specs.declared.refusal.Argument.{Argument}
 use Rattle.jpa_value.specs.declared.refusal.Cause.{Cause}
@@ -66,14 +66,37 @@ has_aggregate_step (part.Aggregate g distinct a) = true
 abbrev pub has_aggregate : Value → Bool
 has_aggregate = fold-Value Bool has_aggregate_step
 
+-- whether an aggregate stands in what ORDER BY sorts by (chapter 4.10)
+abbrev pub sorts_by_aggregate : Sorted → Bool
+sorts_by_aggregate (Sorted.Name name) = false
+sorts_by_aggregate (Sorted.Path p) = false
+sorts_by_aggregate (Sorted.Value value) = has_aggregate value
+
+-- whether a value names a variable, from whether its parts do
+abbrev pub names_variable_step : Value-F Bool → Bool
+names_variable_step (part.Integer n) = false
+names_variable_step (part.Text t) = false
+names_variable_step (part.Parameter name) = false
+names_variable_step (part.Path p) = true
+names_variable_step (part.Signed s a) = a
+names_variable_step (part.Arithmetic op a b) = a || b
+names_variable_step (part.Call f all) = list_any (λ a. a) all
+names_variable_step (part.Size p) = true
+names_variable_step (part.Aggregate g distinct a) = a
+
+-- whether a value names a variable: one that doesn't is the same for each row
+abbrev pub names_variable : Value → Bool
+names_variable = fold-Value Bool names_variable_step
+
 -- whether a list has an element
 abbrev pub is_any : {A : Type 0} → List A → Bool
 is_any [] = false
 is_any (x ∷ xs) = true
 
--- whether a SELECT makes groups: by GROUP BY, HAVING or an aggregate in an item (chapter 4.8)
+-- whether a SELECT makes groups: by GROUP BY, HAVING or an aggregate in an item or a key (chapter 4.8)
 abbrev pub is_grouping : Select → Bool
 is_grouping q = is_any q.groups || is_some q.having || list_any (λ i. has_aggregate i.value) q.items
+    || list_any (λ key. sorts_by_aggregate key.by) q.order
 
 -- the clause of the items, and of ORDER BY
 abbrev pub select_clause : Select → Clause
@@ -124,16 +147,19 @@ module _ (m : PersistenceUnit) (parameters : List (Text × Sort)) where
   abbrev pub item_sort : Select → Scope → Item → Option Sort
   item_sort q scope i = value_sort m parameters q.groups scope (select_clause q) i.value
 
-  -- the sort of what ORDER BY names: an item's, or a path's
+  -- the sort of what ORDER BY sorts by: an item's, a path's, or that of a value, which names a variable
   abbrev pub sorted_sort : Select → Scope → Sorted → Option Sort
   sorted_sort q scope (Sorted.Name name) = sort_named (item_sort q scope) q.items name
   sorted_sort q scope (Sorted.Path p) = sort_of_path m q.groups scope (select_clause q) p
+  sorted_sort q scope (Sorted.Value value) = if names_variable value
+      then value_sort m parameters q.groups scope (select_clause q) value else None
 
-  -- DISTINCT keeps the items, and what is one step from a variable that is an item
+  -- DISTINCT keeps the items, and what is one step from a variable that is an item; no other value
   abbrev pub is_kept : Select → Scope → Sorted → Bool
   is_kept q scope (Sorted.Name name) = true
   is_kept q scope (Sorted.Path p) =
       is_some_that (λ path. list_any (λ i. is_kept_by p (length path.steps) i.value) q.items) (path_of m scope p)
+  is_kept q scope (Sorted.Value value) = false
 
   -- a key of ORDER BY is of a basic sort, and under DISTINCT it is kept (chapter 4.10)
   abbrev pub is_key_typed : Select → Scope → SortKey → Bool

@@ -188,13 +188,14 @@ module _ (m : PersistenceUnit) (parameters : List (Text × Sort)) where
 
   -- ---- statements
 
-  -- the tree of a key of ORDER BY: the place of an item, or a path (chapter 4.10)
+  -- the tree of a key of ORDER BY: the place of an item, a path or another value (chapter 4.10)
   abbrev pub typed_key : Scope → List Item → SortKey → TypedKey
   typed_key scope items key = record { by = by key.by; is_descending = key.is_descending }
     where
       by : Sorted → TypedSorted
       by (Sorted.Name name) = TypedSorted.Item (place (position_from (is_named name) 0 items))
       by (Sorted.Path p) = TypedSorted.Path (typed_path scope p)
+      by (Sorted.Value value) = TypedSorted.Value (typed_value scope value)
 
   -- a SELECT in the scope that its FROM makes
   abbrev pub typed_select_in : Select → Scope → List TypedSource → TypedSelect

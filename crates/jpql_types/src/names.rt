@@ -4,7 +4,9 @@ ghost use Rattle.std.specs.List.{flat_map};
 ghost use Rattle.jpql_types.specs.Names as spec;
 
 use jpa_value::{Boxed, Seq, Text};
-use jpql_tree::{Assignment, Block, Condition, Item, Join, Query, Select, Source, Value};
+use jpql_tree::{
+    Assignment, Block, Condition, Item, Join, Query, Select, SortKey, Sorted, Source, Value,
+};
 use std::alloc::{AllocError, Global};
 
 /// Which names are listed.
@@ -232,6 +234,25 @@ fn add_in_assignments(
     Ok(())
 }
 
+/// The names in a key of ORDER BY; one that isn't a value has none of its own.
+fn add_in_key(names: &mut Seq<Text>, which: Names, key: &SortKey) -> Result<(), AllocError>
+    ensures { OnOk result (names.new ≡ names.old ++ spec.in_key which key.now) }
+{
+    match &key.by {
+        Sorted::Value(value) => add_in_value(names, which, value),
+        Sorted::Name(_) | Sorted::Path(_) => Ok(()),
+    }
+}
+
+fn add_in_keys(names: &mut Seq<Text>, which: Names, keys: &[SortKey]) -> Result<(), AllocError>
+    ensures { OnOk result (names.new ≡ names.old ++ flat_map (spec.in_key which) keys.now) }
+{
+    for key in keys {
+        add_in_key(names, which, key)?;
+    }
+    Ok(())
+}
+
 fn add_in_select(names: &mut Seq<Text>, which: Names, select: &Select) -> Result<(), AllocError>
     ensures { OnOk result (names.new ≡ names.old
         ++ spec.names_in which (Query.Select select.now)) }
@@ -239,7 +260,8 @@ fn add_in_select(names: &mut Seq<Text>, which: Names, select: &Select) -> Result
     add_in_items(names, which, select.items.as_slice())?;
     add_in_sources(names, which, select.sources.as_slice())?;
     add_in_filter(names, which, &select.filter)?;
-    add_in_filter(names, which, &select.having)
+    add_in_filter(names, which, &select.having)?;
+    add_in_keys(names, which, select.order.as_slice())
 }
 
 fn add_names(names: &mut Seq<Text>, which: Names, query: &Query) -> Result<(), AllocError>

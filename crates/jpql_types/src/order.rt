@@ -1,4 +1,4 @@
-//! Keys of ORDER BY (chapter 4.10).
+//! Keys of ORDER BY: items by their names, paths and other values (chapter 4.10).
 ghost use Rattle.std.specs.Prelude.{◌≡◌, ◌&&◌, ◌||◌, not, map, Option, Some, option_map, IfSome, IfOk};
 ghost use Rattle.std.specs.List.{list_any, list_all, position_from};
 ghost use Rattle.jpa_model.specs.WellFormed.{is_some_that};
@@ -11,13 +11,15 @@ ghost use Rattle.jpql_types.specs.Within.{IsScope};
 
 use crate::context::Context;
 use crate::error::TypingError;
+use crate::groups::names_variable;
 use crate::index::{NameIndex, PathIndex};
+use crate::nodes::judged;
 use crate::scope::{Clause, Variable};
 use crate::sort::Sort;
 use crate::typed::{TypedKey, TypedSorted};
-use crate::values::typed_path;
+use crate::values::{typed_path, typed_value};
 use jpa_value::{Seq, Text};
-use jpql_tree::{Item, Path, Select, SortKey, Sorted};
+use jpql_tree::{Item, Path, Select, SortKey, Sorted, Value};
 use std::alloc::{AllocError, Global};
 
 /// The items of a SELECT, found by the names and by the paths that they have.
@@ -146,6 +148,35 @@ fn by_path(
     Ok(TypedSorted::Path(found))
 }
 
+/// What a key that is another value sorts by. DISTINCT keeps no such value, and by one that names
+/// no variable rows would stand in no order.
+fn by_value(
+    alloc: Global,
+    context: &Context<'_>,
+    scope: &[Variable],
+    clause: Clause,
+    select: &Select,
+    value: &Value,
+) -> Result<TypedSorted, TypingError>
+    requires scope { IsScope context.now.metamodel.now scope.now }
+    requires groups { context.now.groups.now ≡ select.now.groups }
+    requires clause { clause ≡ spec.select_clause select.now }
+    ensures typed { IsJudged result (is_some_that is_basic
+        (spec.sorted_sort context.now.metamodel.now context.now.parameters.now select.now scope.now
+        (Sorted.Value value.now)) && (not select.now.is_distinct
+        || spec.is_kept context.now.metamodel.now context.now.parameters.now select.now scope.now
+        (Sorted.Value value.now))) }
+    ensures tree { IfOk result (λ found. found ≡ TypedSorted.Value
+        (trees.typed_value context.now.metamodel.now context.now.parameters.now scope.now
+        value.now)) }
+{
+    if select.is_distinct || !names_variable(value) {
+        return Err(TypingError::Typing);
+    }
+    let (found, sort) = typed_value(alloc, context, scope, clause, value)?;
+    judged(sort.is_basic(), TypedSorted::Value(found))
+}
+
 fn typed_key(
     alloc: Global,
     context: &Context<'_>,
@@ -172,6 +203,7 @@ fn typed_key(
     let by = match &key.by {
         Sorted::Name(name) => by_name(&items.names, sorts, name)?,
         Sorted::Path(path) => by_path(alloc, context, scope, clause, select, &items.paths, path)?,
+        Sorted::Value(value) => by_value(alloc, context, scope, clause, select, value)?,
     };
     Ok(TypedKey {
         by,

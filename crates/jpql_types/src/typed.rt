@@ -78,11 +78,12 @@ pub struct TypedBlock {
     pub filter: Option<Boxed<TypedCondition>>,
 }
 
-/// What ORDER BY sorts by: the item at a place, or a path.
+/// What ORDER BY sorts by: the item at a place, a path, or any other value.
 #[derive(Drop)]
 pub enum TypedSorted {
     Item(usize),
     Path(TypedPath),
+    Value(TypedValue),
 }
 
 /// A key of ORDER BY (chapter 4.10).

@@ -173,7 +173,7 @@ class _Reader:
             if self._whole(group, scope) is None:
                 self._within(group, scope)
         parts = [*(it.on for it in block.sources), block.where, block.having]
-        for part in [*parts, *(it.path for it in block.keys or ())]:
+        for part in [*parts, *(it.value for it in block.keys or ())]:
             self._within(part, scope)
         if is_outer:
             self._check_names(block, wholes)
@@ -252,8 +252,9 @@ class _Reader:
     def _check_names(self, block: Block, wholes: Sequence[Optional[Path]]) -> None:
         names = {it.name.said for it, whole in zip(block.items, wholes) if it.name and whole}
         for key in block.keys or ():
-            if len(key.path.words) == 1 and key.path.words[0].said in names:
-                raise WrongValue(f"ORDER BY {key.path.words[0].said} is of an embedded value, "
+            words = key.path.words if key.path else ()
+            if len(words) == 1 and words[0].said in names:
+                raise WrongValue(f"ORDER BY {words[0].said} is of an embedded value, "
                                  "which has no order: name one of its parts")
 
     def _of_whole(self, found: Path, front: str) -> WrongValue:

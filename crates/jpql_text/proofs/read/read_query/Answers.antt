@@ -15,5 +15,5 @@ returns-in-Err c =
 pub returns-in-Ok : goal.returns-in-Ok
 returns-in-Ok c =
     let shallow = subst (λ text. nests_over 32 false 0 text ≡ false) c.as_bytes.ensures.value (sym c.if-nests_over.ensures) in
-    let a = c.tree_of.ensures c.args.language c.args.text.now c.if-text-gt-MOST_QUERY_BYTES.false shallow c.in-Ok.ensures.found in
+    let a = c.tree_of.ensures c.args.text.now c.if-text-gt-MOST_QUERY_BYTES.false shallow c.in-Ok.ensures.found in
     record { read = a.read; refused = a.refused; only = a.only }

@@ -5,20 +5,20 @@ use Rattle.jpql_text.proofs.Whole.{too_many_values, unread, too_many_variables, 
 use Rattle.jpql_text.proofs.read.tree_of.Goals as goal
 
 pub returns-then-not-become_few : goal.returns-then-not-become_few
-returns-then-not-become_few c l text short shallow is =
-    too_many_values l c.args.lists.now text c.args.written.items short shallow is (ap (become_few c.args.lists.now) (sym c.as_slice.ensures.value) ∙ sym c.become_few.ensures ∙ c.if-not-become_few.true)
+returns-then-not-become_few c text short shallow is =
+    too_many_values c.args.language c.args.lists.now text c.args.written.items short shallow is (ap (become_few c.args.lists.now) (sym c.as_slice.ensures.value) ∙ sym c.become_few.ensures ∙ c.if-not-become_few.true)
 
 pub returns-in-Err : goal.returns-in-Err
-returns-in-Err c l text short shallow is =
+returns-in-Err c text short shallow is =
     let few : become_few c.args.lists.now c.args.written.items ≡ true = ap (become_few c.args.lists.now) (sym c.as_slice.ensures.value) ∙ sym c.become_few.ensures ∙ c.if-not-become_few.false in
-    subst (λ cause. IsAnswered l c.args.lists.now text (Err cause)) (sym c.cause_of.ensures)
-    (unread l c.args.lists.now text c.args.written.items short shallow is few c.in-Err.error c.in-Err.ensures)
+    subst (λ cause. IsAnswered c.args.language c.args.lists.now text (Err cause)) (sym c.cause_of.ensures)
+    (unread c.args.language c.args.lists.now text c.args.written.items short shallow is few c.in-Err.error c.in-Err.ensures)
 
 pub returns-then-declared-gt-MOST_QUERY_VARIABLES : goal.returns-then-declared-gt-MOST_QUERY_VARIABLES
-returns-then-declared-gt-MOST_QUERY_VARIABLES c l text short shallow is =
-    too_many_variables l c.args.lists.now text c.args.written.items short shallow is c.in-Ok.query c.declared.result c.in-Ok.ensures c.declared.ensures c.if-declared-gt-MOST_QUERY_VARIABLES.true
+returns-then-declared-gt-MOST_QUERY_VARIABLES c text short shallow is =
+    too_many_variables c.args.language c.args.lists.now text c.args.written.items short shallow is c.in-Ok.query c.declared.result c.in-Ok.ensures c.declared.ensures c.if-declared-gt-MOST_QUERY_VARIABLES.true
 
 pub returns-else-declared-gt-MOST_QUERY_VARIABLES : goal.returns-else-declared-gt-MOST_QUERY_VARIABLES
-returns-else-declared-gt-MOST_QUERY_VARIABLES c l text short shallow is =
+returns-else-declared-gt-MOST_QUERY_VARIABLES c text short shallow is =
     let few : become_few c.args.lists.now c.args.written.items ≡ true = ap (become_few c.args.lists.now) (sym c.as_slice.ensures.value) ∙ sym c.become_few.ensures ∙ c.if-not-become_few.false in
-    tree_found l c.args.lists.now text c.args.written.items short shallow is few c.in-Ok.query c.declared.result c.in-Ok.ensures c.declared.ensures c.if-declared-gt-MOST_QUERY_VARIABLES.false
+    tree_found c.args.language c.args.lists.now text c.args.written.items short shallow is few c.in-Ok.query c.declared.result c.in-Ok.ensures c.declared.ensures c.if-declared-gt-MOST_QUERY_VARIABLES.false
