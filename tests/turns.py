@@ -36,35 +36,35 @@ def planted_turn() -> ModuleType:
     return module
 
 
-def walked(turns: Any, is_short: bool) -> list[str]:
-    """What is wrong with a round, of at least so many landings, on 4 processors or on 2."""
+def walked(turns: Any) -> list[str]:
+    """What is wrong with a round, of at least so many landings."""
     first = turns.landing()
-    lots = turns.ring(is_short)
-    round_ = turns.windows(lots, is_short)
+    lots = turns.ring()
+    round_ = turns.windows(lots)
     wrong, tried, cost = [], set[str](), []
     for number in range(first, first + max(LANDINGS, len(round_))):
         lots_now = round_[number % len(round_)]
-        chosen = turns.turn(number, is_short)
+        chosen = turns.turn(number)
         if chosen[: len(lots_now)] != lots_now:
             wrong.append(f"landing {number} leaves out lots of its window")
         tried.update(edit for lot in lots_now for edit in lot.edits)
         cost.append(sum(lot.seconds for lot in lots_now))
         extra = sum(lot.seconds for lot in chosen[len(lots_now) :])
-        if extra > turns.budget(is_short) / 3:
+        if extra > turns.BUDGET / 3:
             wrong.append(f"landing {number} takes {extra:.0f} s more for crates that changed")
     planted = glob.glob("planted/*/*.edit")
     planted = [edit for edit in planted if not edit.startswith("planted/untried/")]
     wrong += [f"{edit} has no turn" for edit in sorted(set(planted) - tried)]
-    most = turns.budget(is_short) + max(lot.seconds for lot in lots)
+    most = turns.BUDGET + max(lot.seconds for lot in lots)
     if max(cost) > most:
         wrong.append(f"a landing takes {max(cost):.0f} s, more than {most:.0f}")
     names = sorted(it.split("/")[1] for it in glob.glob("crates/*/must-fail"))
-    for name in names if is_short else []:
-        if all(name in turns.crates_left_out(first + i, True) for i in range(3)):
+    for name in names:
+        if all(name in turns.crates_left_out(first + i) for i in range(3)):
             wrong.append(f"the edits of must-fail/ of {name} have no turn in three landings")
     print(
-        f"{len(planted)} planted edits in {len(lots)} lots, on {2 if is_short else 4} processors:"
-        f" {len(round_)} landings a round, of {sum(cost) / len(cost):.0f} s, {max(cost):.0f} at most"
+        f"{len(planted)} planted edits in {len(lots)} lots: {len(round_)} landings a round,"
+        f" of {sum(cost) / len(cost):.0f} s, {max(cost):.0f} at most"
     )
     return wrong
 
@@ -104,8 +104,7 @@ def warn_of_landing(turns: Any) -> None:
 def main() -> int:
     os.chdir(TOP)
     turns = planted_turn()
-    wrong = [why for is_short in (False, True) for why in walked(turns, is_short)]
-    wrong += without_git(turns)
+    wrong = walked(turns) + without_git(turns)
     warn_of_landing(turns)
     for why in wrong:
         print(why)

@@ -45,7 +45,7 @@ pub fn order_values(a: &Value, b: &Value) -> Ordering
         (Value::Int(m), Value::Int(n)) => m.cmp(n),
         (Value::Int(_), _) => Ordering::Less,
         (Value::Text(_), Value::Null | Value::Int(_)) => Ordering::Greater,
-        (Value::Text(s), Value::Text(t)) => s.as_bytes().cmp(t.as_bytes()),
+        (Value::Text(s), Value::Text(t)) => s.as_str().cmp(t.as_str()),
         (Value::Text(_), Value::Bytes(_)) => Ordering::Less,
         (Value::Bytes(s), Value::Bytes(t)) => s.as_slice().cmp(t.as_slice()),
         (Value::Bytes(_), _) => Ordering::Greater,
@@ -53,7 +53,7 @@ pub fn order_values(a: &Value, b: &Value) -> Ordering
 }
 
 /// The order of two keys: part by part, a proper front of the other first.
-pub fn order_keys(a: &[Value], b: &[Value]) -> Ordering
+fn order_parts(a: &[Value], b: &[Value]) -> Ordering
     ensures { result ≡ values.key_cmp a.now b.now }
 {
     for (i, part) in a.iter().enumerate() {
@@ -69,6 +69,17 @@ pub fn order_keys(a: &[Value], b: &[Value]) -> Ordering
         Ordering::Less
     } else {
         Ordering::Equal
+    }
+}
+
+/// The order of two keys: part by part, a proper front of the other first. Most have one part.
+#[tactic(auto, using(crate::proofs::Orders::then_equal))]
+pub fn order_keys(a: &[Value], b: &[Value]) -> Ordering
+    ensures { result ≡ values.key_cmp a.now b.now }
+{
+    match (a, b) {
+        ([part], [other]) => order_values(part, other),
+        _ => order_parts(a, b),
     }
 }
 

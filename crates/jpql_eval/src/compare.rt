@@ -55,8 +55,8 @@ fn order_text<'a>(text: &Text, other: &Seen<'a>) -> Ordering
 {
     match other {
         Seen::Null | Seen::Int(_) => Ordering::Greater,
-        Seen::Text(other) => text.as_bytes().cmp(other.as_bytes()),
-        Seen::Made(other) => text.as_bytes().cmp(other.as_bytes()),
+        Seen::Text(other) => text.as_str().cmp(other.as_str()),
+        Seen::Made(other) => text.as_str().cmp(other.as_str()),
         Seen::Bytes(_) | Seen::Entity(_) => Ordering::Less,
     }
 }

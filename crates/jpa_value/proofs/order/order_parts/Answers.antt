@@ -3,7 +3,7 @@ use Rattle.std.proofs.lemmas.List.{drop_all}
 use Rattle.std.proofs.lemmas.Grind.{common_steps}
 use Rattle.jpa_value.specs.Value.{key_cmp}
 use Rattle.jpa_value.proofs.Orders.{ends_first}
-use Rattle.jpa_value.proofs.order.order_keys.Goals as goal
+use Rattle.jpa_value.proofs.order.order_parts.Goals as goal
 
 -- the first key ends, and the second goes on
 pub returns-then-a-b : goal.returns-then-a-b

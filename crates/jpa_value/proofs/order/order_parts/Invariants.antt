@@ -1,6 +1,6 @@
 use Rattle.std.proofs.Common.{◌≡◌, ◌≤◌, drop, length}
 use Rattle.jpa_value.specs.Value.{key_cmp}
-use Rattle.jpa_value.proofs.order.order_keys.Given as goal
+use Rattle.jpa_value.proofs.order.order_parts.Given as goal
 
 abbrev pub invariant-loop-i : goal.invariant-loop-i
 invariant-loop-i l = record {
