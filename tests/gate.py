@@ -28,7 +28,7 @@ class Copy(unittest.TestCase):
         room = tempfile.TemporaryDirectory()
         self.addCleanup(room.cleanup)
         self.top = Path(room.name)
-        for name in ("test", "tools/packages", "tests/shared.bash"):
+        for name in ("test", "tools/lanes", "tools/packages", "tests/shared.bash"):
             self.put(name, (TOP / name).read_text(encoding="utf-8"))
         self.put("tests/packages", "# none\n")
         self.put("tests/may-skip", "# some\ntests.few.*: there is no such thing here\n")
@@ -63,6 +63,22 @@ class Copy(unittest.TestCase):
         self.assertEqual((ran.stdout.splitlines()[-1], ran.returncode), (last, status), said)
         for line in told:
             self.assertIn(line, ran.stdout.splitlines())
+
+
+class Lanes(Copy):
+    def asked_for(self, **more: str) -> str:
+        """How many checks rt is asked to run side by side."""
+        self.put("bin/rt", "#!/bin/sh\necho checks: $RT_JOBS.\necho 3 passed, 0 failed\n")
+        told = self.ran("test", **more).stdout
+        return told.partition("checks: ")[2].partition(".")[0]
+
+    def test_at_most_one_a_processor(self) -> None:
+        lanes = int(self.asked_for())
+        self.assertGreaterEqual(lanes, 1)
+        self.assertLessEqual(lanes, len(os.sched_getaffinity(0)))
+
+    def test_who_runs_it_may_say_how_many(self) -> None:
+        self.assertEqual(self.asked_for(RT_JOBS="7"), "7")
 
 
 class Edits(Copy):
