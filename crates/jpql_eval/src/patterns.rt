@@ -71,7 +71,7 @@ fn first_mark(escape: Option<char>, c: char, after: &[char]) -> (Mark, &[char])
 fn marks(alloc: Global, escape: Option<char>, pattern: &[char]) -> Result<Vec<Mark>, AllocError>
     ensures { IfOk result (λ marks. marks.items ≡ texts.marks escape pattern.now) }
 {
-    let mut marks = Vec::new(alloc);
+    let mut marks = Vec::with_capacity(alloc, pattern.len())?;
     let mut rest = pattern;
     while let [c, after @ ..] = rest {
         let (mark, others) = first_mark(escape, *c, after);

@@ -191,11 +191,9 @@ covers_more front i spans span before covers k below member e rest out has far =
       | inr not_less ↦ covers member e rest parts.1 (has ∙ ap (λ n. Value.Text (take n front ++ rest)) (omega (arith, below, not_less))) far
     ]
 
-pub covers_all : (front : List ℕ) (spans : List Span) (span : Span) → CoversOthers front (length front) spans → CoversBegun front [] (span ∷ []) → CoversLike front (spans ++ span ∷ [])
-covers_all front spans span others covers = (
-  (λ i l member e rest out has far. others i l member e rest (out_before member e spans (span ∷ []) out).0 has far),
-  (λ member e rest out has far. covers member e rest (out_before member e spans (span ∷ []) out).1 has far),
-)
+-- what has its span keeps it beside others
+pub begun_with : (front next : List ℕ) (spans more : List Span) → CoversBegun front next spans → CoversBegun front next (spans ++ more)
+begun_with front next spans more covers member e rest out has far = covers member e rest (out_before member e spans more out).0 has far
 
 -- and so what lies in none of them begins otherwise
 pub none_begins : (front : List ℕ) (spans : List Span) (member : Member) (e : Entry) (t : List ℕ) → CoversLike front spans → lies_in_any member spans e ≡ false → own_value member e ≡ Value.Text t → MayBegin front t → ⊥

@@ -10,7 +10,7 @@ ghost use Rattle.jpql_run.specs.Spans.{AsksSpans};
 use crate::ends::is_own;
 use crate::known::constant;
 use crate::run::Run;
-use crate::spans::cut_at;
+use crate::spans::{alone, cut_at};
 use crate::tuple::Tuple;
 use jpa_model::Member;
 use jpa_ordered::{Cut, Span};
@@ -120,16 +120,17 @@ fn span_begun(alloc: Global, front: &[u8], next: &[u8]) -> Result<Span, AllocErr
     Ok(Span { from, to })
 }
 
-/// The spans of the texts that may be like a pattern with this front: those that begin with it, and
-/// behind them, byte by byte, those that differ from it by a byte behind ASCII.
+/// The spans of the texts that may be like a pattern with this front: those that begin with it, in
+/// which an object that is found mostly lies, and then, byte by byte, those that differ from it by a
+/// byte behind ASCII.
 fn spans_of_front(alloc: Global, front: &[u8]) -> Result<Vec<Span>, AllocError>
     ensures { IfOk result (λ all. CoversLike front.now all.items) }
 {
-    let mut all = Vec::new(alloc);
+    let first = span_begun(alloc, front, &[])?;
+    let mut all = alone(alloc, first)?;
     for i in 0..front.len() {
         all.push(span_begun(alloc, &front[..i], &[LAST])?)?;
     }
-    all.push(span_begun(alloc, front, &[])?)?;
     Ok(all)
 }
 

@@ -16,7 +16,7 @@ pub struct Object<'a> {
 }
 
 /// The object under an identity, if one stands there.
-pub fn object_of<'a>(set: &'a OpenSet, id: &'a Identity) -> Option<Object<'a>>
+pub fn object_of<'a>(set: &'a OpenSet, id: &Identity) -> Option<Object<'a>>
     ensures { option_map entry result
         ≡ option_map (λ x. (id.now, x)) (stored_at (opened.now set.now) id.now) }
 {
