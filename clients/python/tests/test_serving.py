@@ -95,7 +95,8 @@ class ServingTest(FolderTest):
         else:
             raise AssertionError("".join(self.heard))
         # What else it tells is read, so that it never waits for that.
-        threading.Thread(target=self.heard.extend, args=[server.stderr], daemon=True).start()
+        self.hearing = threading.Thread(target=self.heard.extend, args=[server.stderr], daemon=True)
+        self.hearing.start()
         return server
 
     def end(self, server: "subprocess.Popen[str]") -> None:
@@ -196,13 +197,20 @@ class Sockets(ServingTest):
             check=True, capture_output=True, timeout=SECONDS,
         )
         way = f"tcp:127.0.0.1:{self.free_port()}"
-        self.serve("--token-file", str(token), "--tls-cert", str(cert), "--tls-key", str(key),
-                   listen=way)
+        server = self.serve(
+            "--token-file", str(token), "--tls-cert", str(cert), "--tls-key", str(key), listen=way
+        )
         with karzhoul.connect(way, token="t" * 32, tls=str(cert), threads=True) as app:
             self.persist(app, "x" * 60_000)
             self.assertEqual(self.count(app), 1)
         with self.assertRaises(karzhoul.Disconnected):
             karzhoul.connect(way, token="t" * 32, tls=True)
+        server.terminate()
+        self.assertEqual(server.wait(SECONDS), 0)
+        self.hearing.join(SECONDS)
+        self.assertEqual(json.loads(self.heard[-1])["event"], "ended")
+        for line in self.heard:
+            json.loads(line)  # No word of the loop's own beside the log.
 
 
 class Ends(ServingTest):

@@ -142,12 +142,11 @@ class Connection(asyncio.BufferedProtocol):
                 self._is_paused = False
                 self._transport.resume_reading()
 
-    def eof_received(self) -> bool:
+    def eof_received(self) -> None:
         """It sends no more. What has come whole is still answered."""
         self.is_ended = True
         self._drop_coming()
         self._service.look_at_end(self)
-        return True
 
     def connection_lost(self, fault: Optional[Exception]) -> None:
         """It is gone."""

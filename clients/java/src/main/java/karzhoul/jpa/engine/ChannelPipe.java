@@ -1,41 +1,26 @@
 package karzhoul.jpa.engine;
 
 import java.io.IOException;
-import java.io.InputStream;
 import java.io.InterruptedIOException;
-import java.io.OutputStream;
 import java.nio.ByteBuffer;
 import java.nio.channels.SelectionKey;
 import java.nio.channels.Selector;
 import java.nio.channels.SocketChannel;
-import java.util.concurrent.TimeUnit;
 
 /**
- * A socket as two streams. The JDK shuts a channel whose thread is interrupted while it reads; this one is asked
+ * A socket. The JDK shuts a channel whose thread is interrupted while it reads; this one is asked
  * without waiting, and waited for by a selector: so a thread that is interrupted ends no connection that others share.
  */
 final class ChannelPipe implements Pipe {
     private final SocketChannel channel;
     private final Selector selector;
     private final SelectionKey key;
-    private final InputStream in = new In();
-    private final OutputStream out = new Out();
 
     ChannelPipe(SocketChannel channel) throws IOException {
         this.channel = channel;
         channel.configureBlocking(false);
         selector = Selector.open();
         key = channel.register(selector, SelectionKey.OP_READ);
-    }
-
-    @Override
-    public InputStream in() {
-        return in;
-    }
-
-    @Override
-    public OutputStream out() {
-        return out;
     }
 
     @Override
@@ -52,8 +37,8 @@ final class ChannelPipe implements Pipe {
         return channel.read(buffer);
     }
 
-    /** Reads what comes next; answers -1 at the end. */
-    int read(ByteBuffer buffer) throws IOException {
+    @Override
+    public int read(ByteBuffer buffer) throws IOException {
         boolean isInterrupted = false;
         try {
             for (;;) {
@@ -71,16 +56,12 @@ final class ChannelPipe implements Pipe {
     }
 
     @Override
-    public void awaitAlways(long millis) throws IOException {
-        long until = System.nanoTime() + TimeUnit.MILLISECONDS.toNanos(millis);
-        boolean isInterrupted = Thread.interrupted();
+    public void write(ByteBuffer bytes) throws IOException {
+        boolean isInterrupted = false;
         try {
-            for (;;) {
-                try {
-                    await(TimeUnit.NANOSECONDS.toMillis(until - System.nanoTime()));
-                    return;
-                } catch (InterruptedIOException e) {
-                    isInterrupted |= Thread.interrupted();
+            while (bytes.hasRemaining()) {
+                if (channel.write(bytes) == 0) {
+                    isInterrupted |= select(SelectionKey.OP_WRITE);
                 }
             }
         } finally {
@@ -91,11 +72,10 @@ final class ChannelPipe implements Pipe {
     }
 
     @Override
-    public void await(long millis) throws IOException {
-        long until = System.nanoTime() + TimeUnit.MILLISECONDS.toNanos(millis);
+    public void await(Deadline until) throws IOException {
         key.interestOps(SelectionKey.OP_READ);
         while (selector.selectNow() == 0) {
-            long left = TimeUnit.NANOSECONDS.toMillis(until - System.nanoTime());
+            long left = until.left();
             if (left <= 0) {
                 throw new IOException("nothing came in time");
             } else if (Thread.currentThread().isInterrupted()) {
@@ -123,42 +103,5 @@ final class ChannelPipe implements Pipe {
         selector.select();
         selector.selectedKeys().clear();
         return Thread.interrupted();
-    }
-
-    private final class In extends InputStream {
-        @Override
-        public int read() throws IOException {
-            byte[] one = new byte[1];
-            return read(one, 0, 1) < 0 ? -1 : one[0] & 255;
-        }
-
-        @Override
-        public int read(byte[] bytes, int from, int count) throws IOException {
-            return ChannelPipe.this.read(ByteBuffer.wrap(bytes, from, count));
-        }
-    }
-
-    private final class Out extends OutputStream {
-        @Override
-        public void write(int one) throws IOException {
-            write(new byte[] {(byte) one}, 0, 1);
-        }
-
-        @Override
-        public void write(byte[] bytes, int from, int count) throws IOException {
-            ByteBuffer buffer = ByteBuffer.wrap(bytes, from, count);
-            boolean isInterrupted = false;
-            try {
-                while (buffer.hasRemaining()) {
-                    if (channel.write(buffer) == 0) {
-                        isInterrupted |= select(SelectionKey.OP_WRITE);
-                    }
-                }
-            } finally {
-                if (isInterrupted) {
-                    Thread.currentThread().interrupt();
-                }
-            }
-        }
     }
 }

@@ -53,7 +53,7 @@ final class FileStart implements Start {
     }
 
     @Override
-    public Engine start() {
+    public Engine start(long millis) {
         if (described == null) {
             return engine(command);
         }

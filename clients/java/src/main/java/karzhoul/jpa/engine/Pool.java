@@ -12,7 +12,7 @@ import java.util.Set;
 import java.util.concurrent.TimeUnit;
 import java.util.concurrent.locks.Condition;
 import java.util.concurrent.locks.ReentrantLock;
-import java.util.function.Supplier;
+import java.util.function.LongFunction;
 import karzhoul.jpa.Karzhoul;
 
 /**
@@ -43,10 +43,13 @@ public final class Pool implements AutoCloseable {
     /** For how long a manager of a server is kept by who has objects and no transaction. */
     private static final long IDLE = TimeUnit.SECONDS.toNanos(1);
 
+    /** How many milliseconds a server is waited for at least that has been reached before. */
+    static final long LEAST = 5_000;
+
     /** How many milliseconds pass between two looks at a server that is ending. */
     private static final long LOOK = 50;
 
-    private final Supplier<Engine> starting;
+    private final LongFunction<Engine> starting;
     private final ReentrantLock lock = new ReentrantLock();
     private final Condition changed = lock.newCondition();
     private final Condition idled = lock.newCondition();
@@ -67,13 +70,17 @@ public final class Pool implements AutoCloseable {
     private long trips;
     private int programs = 1;
     private String refusal;
+    /** Whether a thread starts the program, or connects; and why the last one didn't reach the server. */
+    private boolean isStarting;
+    private NotServed unreached;
     private long high = HIGH;
     private long gate = HIGH;
     private boolean isClosed;
 
-    Pool(Supplier<Engine> starting) {
+    /** @param starting starts the program, or waits so many milliseconds for its server */
+    Pool(LongFunction<Engine> starting) {
         this.starting = starting;
-        engine = starting.get();
+        engine = starting.apply(ServerWay.PATIENCE);
         if (engine.isShared()) {
             Thread thread = new Thread(null, this::giveUpIdle, "karzhoul idle managers", 0, false);
             thread.setContextClassLoader(ClassLoader.getSystemClassLoader());
@@ -142,9 +149,11 @@ public final class Pool implements AutoCloseable {
         lock.lock();
         try {
             long start = System.nanoTime();
+            NotServed before = unreached;
             for (;;) {
+                awaitStart();
                 long passed = System.nanoTime() - start;
-                Session session = isReached(passed, waitMillis) && isAdmitted(passed) ? sessionFor(held) : null;
+                Session session = isReached(passed, waitMillis, before) && isAdmitted(passed) ? sessionFor(held) : null;
                 if (session != null) {
                     session.isBusy = true;
                     idle.remove(session);
@@ -270,32 +279,61 @@ public final class Pool implements AutoCloseable {
             isClosed = true;
             changed.signalAll();
             idled.signal();
+            awaitStart();
         } finally {
             lock.unlock();
         }
         engine.close();
     }
 
-    /** Whether the program runs, which is started again where it doesn't; a server may be starting meanwhile. */
-    private boolean isReached(long passed, long waitMillis) {
+    /**
+     * Whether the program runs, which is started again where it doesn't; a server may be starting meanwhile.
+     *
+     * @param before why it wasn't reached before the thread came: where its time is over, it has been tried since
+     */
+    private boolean isReached(long passed, long waitMillis, NotServed before) {
         if (isClosed) {
             throw new IllegalStateException("the entity manager factory is closed");
+        } else if (engine.isRunning()) {
+            return true;
+        } else if (unreached != before && passed > TimeUnit.MILLISECONDS.toNanos(waitMillis)) {
+            throw new NotServed(unreached.getMessage(), unreached);
         }
-        if (!engine.isRunning()) {
-            engine.close();
-            try {
-                Engine next = starting.get();
-                replaced();
-                engine = next;
-            } catch (NotServed e) {
-                if (passed > TimeUnit.MILLISECONDS.toNanos(waitMillis)) {
-                    throw e;
-                }
-                return false;
+        engine.close();
+        try {
+            long left = waitMillis - TimeUnit.NANOSECONDS.toMillis(passed);
+            Engine next = started(Math.min(ServerWay.PATIENCE, Math.max(LEAST, left)));
+            replaced();
+            engine = next;
+        } catch (NotServed e) {
+            unreached = e;
+            if (passed > TimeUnit.MILLISECONDS.toNanos(waitMillis)) {
+                throw e;
             }
-            forgetRun();
+            return false;
         }
+        forgetRun();
         return true;
+    }
+
+    /** Starts the program, while other threads let go what they have. */
+    private Engine started(long millis) {
+        isStarting = true;
+        lock.unlock();
+        try {
+            return starting.apply(millis);
+        } finally {
+            lock.lock();
+            isStarting = false;
+            changed.signalAll();
+        }
+    }
+
+    /** One thread at a time starts the program. */
+    private void awaitStart() {
+        while (isStarting) {
+            changed.awaitUninterruptibly();
+        }
     }
 
     private boolean isAdmitted(long passed) {

@@ -3,7 +3,6 @@ package karzhoul.jpa.engine;
 import jakarta.persistence.PersistenceException;
 import java.nio.file.Path;
 import java.util.Collection;
-import java.util.HashMap;
 import java.util.List;
 import java.util.Map;
 import java.util.Set;
@@ -27,23 +26,21 @@ public final class Program {
     public static final String SLOW = "karzhoul.slow";
 
     private static final String SCHEME = "karzhoul:";
-    private static final Map<String, Program> OPEN = new HashMap<>();
 
-    private final String store;
+    private final SharedStore shared;
     private final String mapping;
     private final String description;
     private final Start start;
     private final Set<Indexed> indexes;
     private final Pool pool;
-    private int users;
 
-    private Program(String store, UnitModel unit, Start start) {
-        this.store = store;
+    private Program(SharedStore shared, UnitModel unit, Start start) {
+        this.shared = shared;
         this.start = start;
         mapping = unit.mapping();
         description = unit.description();
         indexes = new CopyOnWriteArraySet<>(unit.indexes());
-        pool = new Pool(() -> indexed(start.start()));
+        pool = new Pool(millis -> indexed(start.start(millis)));
     }
 
     private Engine indexed(Engine engine) {
@@ -92,29 +89,29 @@ public final class Program {
     public static Program open(String url, String program, UnitModel unit, Map<String, Object> properties,
             Consumer<String> log) {
         String store = storeOf(url);
-        synchronized (OPEN) {
-            Program shared = OPEN.get(store);
-            if (shared == null) {
-                shared = start(store, program, unit, properties, log);
-                OPEN.put(store, shared);
-            } else if (!shared.mapping.equals(unit.mapping()) || !shared.description.equals(unit.description())) {
+        SharedStore shared = SharedStore.entered(store);
+        try {
+            Program its = shared.program(() -> start(shared, store, program, unit, properties, log));
+            if (!its.mapping.equals(unit.mapping()) || !its.description.equals(unit.description())) {
                 throw new PersistenceException(url + " is open in this JVM with another mapping: units that share a"
-                    + " store must have the same entities" + new Differences(shared.description, unit.description()).words());
+                    + " store must have the same entities" + new Differences(its.description, unit.description()).words());
             }
-            shared.alsoIndex(unit.indexes());
-            shared.users++;
-            return shared;
+            its.alsoIndex(unit.indexes());
+            return its;
+        } catch (RuntimeException | Error e) {
+            shared.leave();
+            throw e;
         }
     }
 
-    private static Program start(
-            String store, String executable, UnitModel unit, Map<String, Object> properties, Consumer<String> log) {
+    private static Program start(SharedStore shared, String store, String executable, UnitModel unit,
+            Map<String, Object> properties, Consumer<String> log) {
         Journal journal = new Journal(log, isSilent(properties), slow(properties));
         Start start = ServerAddress.isOne(store) ? new ServerStart(ServerAddress.of(store), journal, unit, properties)
             : new FileStart(store, executable, journal, unit, properties);
         Program program = null;
         try {
-            program = new Program(store, unit, start);
+            program = new Program(shared, unit, start);
             if (!program.pool.engine().isShared()) {
                 program.pool.giveBack(program.pool.enter(null, 0), false);
             }
@@ -180,16 +177,11 @@ public final class Program {
 
     /** Lets the program go: it ends with its last factory, and a store in memory with it. */
     public void close() {
-        synchronized (OPEN) {
-            if (--users > 0) {
-                return;
-            }
-            OPEN.remove(store);
-            end();
-        }
+        shared.leave();
     }
 
-    private void end() {
+    /** Ends it, and what was made for it. */
+    void end() {
         pool.close();
         start.end();
     }

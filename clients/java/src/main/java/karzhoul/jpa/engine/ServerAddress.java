@@ -19,7 +19,6 @@ import java.nio.file.Path;
 record ServerAddress(Path path, String host, int port) {
     private static final String UNIX = "unix:";
     private static final String TCP = "tcp:";
-    private static final int PATIENCE = 30_000;
     private static final int PORTS = 1 << 16;
 
     static boolean isOne(String store) {
@@ -48,13 +47,14 @@ record ServerAddress(Path path, String host, int port) {
     }
 
     /** A channel that is connected to it. Who is interrupted meanwhile connects, and stays interrupted. */
-    SocketChannel connected() throws IOException {
+    SocketChannel connected(Deadline until) throws IOException {
         boolean isInterrupted = Thread.interrupted();
         SocketChannel channel = path == null ? SocketChannel.open() : SocketChannel.open(StandardProtocolFamily.UNIX);
         try {
             if (path == null) {
                 channel.setOption(StandardSocketOptions.TCP_NODELAY, true);
-                channel.socket().connect(new InetSocketAddress(host, port), PATIENCE);
+                channel.setOption(StandardSocketOptions.SO_KEEPALIVE, true);        // a host may vanish without a word
+                channel.socket().connect(new InetSocketAddress(host, port), (int) Math.max(1, until.left()));
             } else {
                 channel.connect(UnixDomainSocketAddress.of(path));
             }

@@ -28,6 +28,9 @@ final class ServerConnection implements Transport {
 
     /** How it says that it handed nothing on of what a program had that ended. */
     private static final String NOT_HANDED_ON = "what was not committed is lost";
+
+    /** How many bytes it says at most of itself, and that is far more than it ever does. */
+    private static final int LONGEST = 1 << 24;
     private static final String ANSWERED = "\"ok\":";
 
     /** What is said of a server whose program has ended, whichever line found it so; and with what one says that has. */
@@ -37,20 +40,25 @@ final class ServerConnection implements Transport {
     private final ServerWay way;
     private final ServerAddress address;
     private final Pipe pipe;
+    private final InputStream in;
+    private final OutputStream out;
     private final Map<String, Object> served;
 
     /**
      * Connects, and hears what is served.
      *
-     * @throws NotServed where nobody serves there
+     * @param until how long the server is waited for
+     * @throws NotServed where nobody serves there, or answers in this time
      * @throws PersistenceException where the server doesn't want this one, or this one doesn't trust it
      */
-    ServerConnection(ServerWay way) {
+    ServerConnection(ServerWay way, Deadline until) {
         this.way = way;
         address = way.address();
-        pipe = way.connected();
+        pipe = way.connected(until);
+        in = PipeStreams.in(pipe);
+        out = PipeStreams.out(pipe);
         try {
-            served = said(ask("{\"serve\":\"hello\"" + way.token() + ",\"mapping\":true}"));
+            served = said(ask("{\"serve\":\"hello\"" + way.token() + ",\"mapping\":true}", until));
         } catch (IOException | RuntimeException e) {
             pipe.close();
             throw e instanceof PersistenceException refused ? refused
@@ -59,19 +67,21 @@ final class ServerConnection implements Transport {
     }
 
     /** The reply to a line, while none is under way. */
-    private String ask(String line) throws IOException {
-        pipe.out().write((line + "\n").getBytes(StandardCharsets.UTF_8));
-        return reply(pipe);
+    private String ask(String line, Deadline until) throws IOException {
+        out.write((line + "\n").getBytes(StandardCharsets.UTF_8));
+        return reply(until);
     }
 
-    private static String reply(Pipe pipe) throws IOException {
+    private String reply(Deadline until) throws IOException {
         ByteArrayOutputStream reply = new ByteArrayOutputStream();
         byte[] chunk = new byte[1 << 13];
         for (;;) {
-            pipe.awaitAlways(ServerWay.PATIENCE);
-            int count = pipe.in().read(chunk);
+            pipe.awaitAlways(until);
+            int count = in.read(chunk);
             if (count < 0) {
                 throw new EOFException("it ended the connection");
+            } else if (reply.size() > LONGEST) {
+                throw new IOException("it says more than a server does");
             }
             reply.write(chunk, 0, count);
             if (chunk[count - 1] == '\n') {
@@ -107,7 +117,7 @@ final class ServerConnection implements Transport {
     /** A manager isn't waited for from now on: a call that waited would keep those of other threads waiting. */
     void waitsNoMore() {
         try {
-            said(ask("{\"serve\":\"hello\",\"wait\":0}"));
+            said(ask("{\"serve\":\"hello\",\"wait\":0}", Deadline.in(ServerWay.PATIENCE)));
         } catch (IOException e) {
             throw ended(e, false);
         }
@@ -121,12 +131,13 @@ final class ServerConnection implements Transport {
      * @throws IOException where the server has ended, or the thread was interrupted
      */
     String turn(long millis) throws IOException {
-        ServerConnection other = new ServerConnection(way);
+        ServerConnection other = new ServerConnection(way, Deadline.in(Math.max(millis, Pool.LEAST)));
         try {
             String line = "{\"serve\":\"turn\",\"for\":\"" + served.get("key") + "\",\"wait\":" + millis / 1000.0 + "}\n";
-            other.pipe.out().write(line.getBytes(StandardCharsets.UTF_8));
-            other.pipe.await(millis + ServerWay.PATIENCE);
-            String reply = reply(other.pipe);
+            other.out.write(line.getBytes(StandardCharsets.UTF_8));
+            Deadline until = Deadline.in(millis + ServerWay.PATIENCE);
+            other.pipe.await(until);
+            String reply = other.reply(until);
             if (reply.contains(ANSWERED)) {
                 return null;
             }
@@ -173,12 +184,12 @@ final class ServerConnection implements Transport {
 
     @Override
     public OutputStream out() {
-        return pipe.out();
+        return out;
     }
 
     @Override
     public InputStream in() {
-        return pipe.in();
+        return in;
     }
 
     @Override

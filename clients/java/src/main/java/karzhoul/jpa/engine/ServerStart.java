@@ -31,16 +31,17 @@ final class ServerStart implements Start {
     }
 
     @Override
-    public Engine start() {
+    public Engine start(long millis) {
+        Deadline until = Deadline.in(millis);
         try {
-            return opened();
+            return opened(until);
         } catch (RollbackException another) {
-            return opened();            // which has described the new store meanwhile
+            return opened(until);       // which has described the new store meanwhile
         }
     }
 
-    private Engine opened() {
-        ServerConnection connection = new ServerConnection(way);
+    private Engine opened(Deadline until) {
+        ServerConnection connection = new ServerConnection(way, until);
         Engine engine = new Engine(connection, journal);
         try {
             checkServed(connection.served());

@@ -2,9 +2,12 @@ package karzhoul.jpa.engine;
 
 import jakarta.persistence.PersistenceException;
 import java.io.IOException;
+import java.net.UnknownHostException;
 import java.nio.file.Files;
 import java.nio.file.Path;
 import java.security.cert.CertificateException;
+import java.security.cert.CertificateExpiredException;
+import java.security.cert.CertificateNotYetValidException;
 import java.util.Map;
 import javax.net.ssl.SSLException;
 
@@ -19,7 +22,7 @@ record ServerWay(ServerAddress address, Path tokenFile, Trust trust) {
     /** The property that names the file with a server's token. */
     static final String TOKEN_FILE = "karzhoul.token.file";
 
-    /** How many milliseconds a server is waited for that has been connected to. */
+    /** How many milliseconds a server is waited for, where nobody says how long. */
     static final long PATIENCE = 30_000;
 
     /**
@@ -41,13 +44,16 @@ record ServerWay(ServerAddress address, Path tokenFile, Trust trust) {
     /**
      * Connects.
      *
-     * @throws NotServed where nobody listens there
+     * @param until how long the server is waited for
+     * @throws NotServed where nobody listens there, or answers in this time
      * @throws PersistenceException where who listens isn't trusted, or speaks no TLS
      */
-    Pipe connected() {
+    Pipe connected(Deadline until) {
         ChannelPipe pipe;
         try {
-            pipe = new ChannelPipe(address.connected());
+            pipe = new ChannelPipe(address.connected(until));
+        } catch (UnknownHostException e) {
+            throw new NotServed("nobody serves at " + address + ": its host isn't known", e);
         } catch (IOException | RuntimeException e) {
             throw new NotServed("nobody serves at " + address + ": " + (e.getMessage() == null ? e : e.getMessage()), e);
         }
@@ -55,7 +61,7 @@ record ServerWay(ServerAddress address, Path tokenFile, Trust trust) {
             return pipe;
         }
         try {
-            return new TlsPipe(pipe, trust.engine(address.host(), address.port()), PATIENCE);
+            return new TlsPipe(pipe, trust.engine(address.host(), address.port()), until);
         } catch (SSLException e) {
             pipe.close();
             throw new PersistenceException(refused(e), e);
@@ -69,13 +75,25 @@ record ServerWay(ServerAddress address, Path tokenFile, Trust trust) {
     }
 
     private String refused(SSLException fault) {
+        String why = distrust(fault);
+        return why != null ? "the server at " + address + " isn't trusted (" + Trust.CA + "): " + why
+            : "the server at " + address + " speaks no TLS that is understood: " + fault.getMessage() + "; without "
+                + Trust.CA + " none is spoken";
+    }
+
+    /** What is wrong with its certificate; null where it is something else. */
+    private static String distrust(SSLException fault) {
+        String why = null;
         for (Throwable cause = fault; cause != null; cause = cause.getCause()) {
-            if (cause instanceof CertificateException) {
-                return "the server at " + address + " isn't trusted (" + Trust.CA + "): " + cause.getMessage();
+            if (cause instanceof CertificateExpiredException) {
+                return "a certificate's time is over: " + cause.getMessage();
+            } else if (cause instanceof CertificateNotYetValidException) {
+                return "a certificate's time has not come: " + cause.getMessage();
+            } else if (why == null && cause instanceof CertificateException) {
+                why = cause.getMessage();
             }
         }
-        return "the server at " + address + " speaks no TLS that is understood: " + fault.getMessage() + "; without "
-            + Trust.CA + " none is spoken";
+        return why;
     }
 
     /** The member of the first line that shows the token. */

@@ -8,9 +8,10 @@ interface Start {
     /**
      * A program that has opened the store, as just begun.
      *
+     * @param millis how long a server is waited for; a file isn't
      * @throws PersistenceException where it can't be reached, or it refuses the mapping or the store
      */
-    Engine start();
+    Engine start(long millis);
 
     /**
      * Copies the store to a file, and opens the copy.

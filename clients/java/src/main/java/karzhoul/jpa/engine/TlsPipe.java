@@ -2,8 +2,6 @@ package karzhoul.jpa.engine;
 
 import java.io.EOFException;
 import java.io.IOException;
-import java.io.InputStream;
-import java.io.OutputStream;
 import java.nio.ByteBuffer;
 import java.security.cert.CertificateException;
 import java.security.cert.X509Certificate;
@@ -21,8 +19,6 @@ final class TlsPipe implements Pipe {
 
     private final ChannelPipe pipe;
     private final SSLEngine engine;
-    private final InputStream in = new In();
-    private final OutputStream out = new Out();
     /** What has come, and isn't deciphered; and what is, and wasn't read. Both stand ready to be read. */
     private ByteBuffer coming;
     private ByteBuffer plain;
@@ -31,11 +27,11 @@ final class TlsPipe implements Pipe {
     /**
      * Agrees with the server's end upon all that TLS needs.
      *
-     * @param millis how long an answer of the server is waited for
+     * @param until how long the server is waited for
      * @throws SSLException where the server isn't trusted, or speaks no TLS
-     * @throws IOException where it ends the connection, or doesn't answer in this time
+     * @throws IOException where it ends the connection, or hasn't agreed in this time
      */
-    TlsPipe(ChannelPipe pipe, SSLEngine engine, long millis) throws IOException {
+    TlsPipe(ChannelPipe pipe, SSLEngine engine, Deadline until) throws IOException {
         this.pipe = pipe;
         this.engine = engine;
         coming = ByteBuffer.allocate(engine.getSession().getPacketBufferSize()).flip();
@@ -44,11 +40,11 @@ final class TlsPipe implements Pipe {
         engine.beginHandshake();
         settle();
         while (engine.getHandshakeStatus() != HandshakeStatus.NOT_HANDSHAKING) {
-            if (!coming.hasRemaining()) {
-                pipe.awaitAlways(millis);
-            }
-            if (take(true) == Come.END) {
+            Come come = take(false);
+            if (come == Come.END) {
                 throw new EOFException("it ended the connection");
+            } else if (come == Come.NOTHING) {
+                pipe.awaitAlways(until);
             }
         }
         checkTime();
@@ -59,9 +55,7 @@ final class TlsPipe implements Pipe {
         try {
             ((X509Certificate) engine.getSession().getPeerCertificates()[0]).checkValidity();
         } catch (CertificateException e) {
-            SSLException refused = new SSLHandshakeException("the certificate's time is over, or has not come: " + e.getMessage());
-            refused.initCause(e);
-            throw refused;
+            throw (SSLException) new SSLHandshakeException(e.getMessage()).initCause(e);
         }
     }
 
@@ -85,7 +79,7 @@ final class TlsPipe implements Pipe {
             going = ByteBuffer.allocate(2 * going.capacity());
             return;                                     // who calls it does so again
         }
-        pipe.out().write(going.array(), 0, going.position());
+        pipe.write(going.flip());
         going.clear();
         if (result.getStatus() == SSLEngineResult.Status.CLOSED && bytes.hasRemaining()) {
             throw new EOFException("it ended the connection");
@@ -129,82 +123,52 @@ final class TlsPipe implements Pipe {
     }
 
     @Override
-    public InputStream in() {
-        return in;
+    public int read(ByteBuffer buffer) throws IOException {
+        while (!plain.hasRemaining()) {
+            if (take(true) == Come.END) {
+                return -1;
+            }
+        }
+        int count = Math.min(buffer.remaining(), plain.remaining());
+        buffer.put(plain.slice(plain.position(), count));
+        plain.position(plain.position() + count);
+        return count;
     }
 
     @Override
-    public OutputStream out() {
-        return out;
+    public void write(ByteBuffer bytes) throws IOException {
+        while (bytes.hasRemaining()) {
+            send(bytes);
+        }
     }
 
     @Override
     public boolean isQuiet() {
         try {
-            Come come = Come.SOMETHING;
-            while (!plain.hasRemaining() && come == Come.SOMETHING) {
-                come = take(false);                     // records of TLS itself, as its tickets, are none of the server's
-            }
-            return come == Come.NOTHING;
+            return come() == Come.NOTHING;
         } catch (IOException e) {
             return false;
         }
     }
 
     @Override
-    public void await(long millis) throws IOException {
-        if (!plain.hasRemaining() && !coming.hasRemaining()) {
-            pipe.await(millis);
+    public void await(Deadline until) throws IOException {
+        while (come() == Come.NOTHING) {
+            pipe.await(until);
         }
     }
 
-    @Override
-    public void awaitAlways(long millis) throws IOException {
-        if (!plain.hasRemaining() && !coming.hasRemaining()) {
-            pipe.awaitAlways(millis);
+    /** Deciphers what has come, up to something to read: a record of TLS itself, as a ticket, or half of one is none. */
+    private Come come() throws IOException {
+        Come come = Come.SOMETHING;
+        while (!plain.hasRemaining() && come == Come.SOMETHING) {
+            come = take(false);
         }
+        return come;
     }
 
     @Override
     public void close() {
         pipe.close();
-    }
-
-    private final class In extends InputStream {
-        @Override
-        public int read() throws IOException {
-            byte[] one = new byte[1];
-            return read(one, 0, 1) < 0 ? -1 : one[0] & 255;
-        }
-
-        @Override
-        public int read(byte[] bytes, int from, int count) throws IOException {
-            if (count == 0) {
-                return 0;
-            }
-            while (!plain.hasRemaining()) {
-                if (take(true) == Come.END) {
-                    return -1;
-                }
-            }
-            int read = Math.min(count, plain.remaining());
-            plain.get(bytes, from, read);
-            return read;
-        }
-    }
-
-    private final class Out extends OutputStream {
-        @Override
-        public void write(int one) throws IOException {
-            write(new byte[] {(byte) one}, 0, 1);
-        }
-
-        @Override
-        public void write(byte[] bytes, int from, int count) throws IOException {
-            ByteBuffer left = ByteBuffer.wrap(bytes, from, count);
-            while (left.hasRemaining()) {
-                send(left);
-            }
-        }
     }
 }

@@ -47,7 +47,7 @@ final class Trust {
             engine.setSSLParameters(parameters);
             return engine;
         } catch (IOException | GeneralSecurityException e) {
-            throw new PersistenceException("the certificates of " + CA + " can't be read: " + e, e);
+            throw new PersistenceException("the certificates of " + CA + " can't be read: " + given + ": " + e, e);
         }
     }
 
@@ -61,7 +61,7 @@ final class Trust {
             }
         }
         if (store.size() == 0) {
-            throw new IOException(given + " has no certificate");
+            throw new IOException("it has no certificate");
         }
         return store;
     }

@@ -19,7 +19,7 @@ import org.junit.jupiter.api.Test;
 
 /** The program's sixteen managers, and its runs. */
 class PoolTest {
-    private final Pool pool = new Pool(() -> new Engine(new ProcessTransport(List.of(Shop.program())), new Journal(null, true, 0)));
+    private final Pool pool = new Pool(millis -> new Engine(new ProcessTransport(List.of(Shop.program())), new Journal(null, true, 0)));
 
     @AfterEach
     void close() {

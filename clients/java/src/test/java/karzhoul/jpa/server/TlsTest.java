@@ -13,9 +13,12 @@ import java.nio.charset.StandardCharsets;
 import java.nio.file.Files;
 import java.nio.file.Path;
 import java.time.Duration;
+import java.util.ArrayList;
 import java.util.List;
 import java.util.Map;
 import java.util.concurrent.CompletableFuture;
+import java.util.concurrent.ExecutorService;
+import java.util.concurrent.Executors;
 import java.util.concurrent.TimeUnit;
 import karzhoul.jpa.context.Factory;
 import org.junit.jupiter.api.BeforeEach;
@@ -36,15 +39,8 @@ class TlsTest {
         token = Files.writeString(folder.resolve("token"), "t".repeat(32) + "\n");
     }
 
-    /** A certificate of this host, signed by itself, as NAME.pem beside NAME.key. */
     private Path certificate(String name, String host) throws Exception {
-        Path certificate = folder.resolve(name + ".pem");
-        Process made = new ProcessBuilder("openssl", "req", "-x509", "-newkey", "rsa:2048", "-nodes", "-days", "2",
-            "-subj", "/CN=karzhoul", "-addext", "subjectAltName=" + host, "-keyout", folder.resolve(name + ".key").toString(),
-            "-out", certificate.toString()).redirectErrorStream(true).start();
-        String said = new String(made.getInputStream().readAllBytes(), StandardCharsets.UTF_8);
-        assertEquals(0, made.waitFor(), said);
-        return certificate;
+        return Certificates.of(folder, name, host);
     }
 
     private Serving serving(Path certificate) throws IOException {
@@ -52,9 +48,8 @@ class TlsTest {
         try (ServerSocket socket = new ServerSocket(0)) {
             port = socket.getLocalPort();
         }
-        String key = certificate.toString().replace(".pem", ".key");
         return new Serving(folder, "tcp:127.0.0.1:" + port, "", List.of("--language", "wide", "--token-file", token.toString(),
-            "--tls-cert", certificate.toString(), "--tls-key", key), Counter.class);
+            "--tls-cert", certificate.toString(), "--tls-key", Certificates.key(certificate).toString()), Counter.class);
     }
 
     private Factory factory(Serving server, Object trusted) {
@@ -116,6 +111,57 @@ class TlsTest {
         try (Serving server = serving(certificate)) {
             String said = refused(server, certificate);
             assertTrue(said.contains(" isn't trusted (karzhoul.tls.ca): ") && said.contains("127.0.0.1"), said);
+        }
+    }
+
+    /** Also where that very certificate is trusted. */
+    @Test
+    void aCertificateWhoseTimeIsOverIsntTrusted() throws Exception {
+        Path authority = certificate("authority", "DNS:authority.example");
+        Path signed = Certificates.expired(folder, "signed", "IP:127.0.0.1", authority);
+        Path alone = Certificates.expired(folder, "alone", "IP:127.0.0.1", null);
+        for (Path certificate : List.of(signed, alone)) {
+            try (Serving server = serving(certificate)) {
+                String said = refused(server, certificate == signed ? authority : alone);
+                assertTrue(said.startsWith("the server at " + server.url().substring("karzhoul:".length())
+                    + " isn't trusted (karzhoul.tls.ca): a certificate's time is over: NotAfter: "), said);
+            }
+        }
+    }
+
+    @Test
+    void threadsThatOpenAndCloseFactories() throws Exception {
+        Path certificate = certificate("server", "IP:127.0.0.1");
+        try (Serving server = serving(certificate)) {
+            List<CompletableFuture<Void>> all = new ArrayList<>();
+            ExecutorService threads = Executors.newFixedThreadPool(8);
+            for (int i = 0; i < 8; i++) {
+                int first = 10 * i;
+                all.add(CompletableFuture.runAsync(() -> {
+                    for (int id = first; id < first + 4; id++) {
+                        store(server, certificate, id);
+                    }
+                }, threads));
+            }
+            for (CompletableFuture<Void> each : all) {
+                each.get(120, TimeUnit.SECONDS);
+            }
+            threads.shutdown();
+            try (Factory factory = factory(server, certificate)) {
+                EntityManager em = factory.createEntityManager();
+                assertEquals(32L, em.createQuery("SELECT COUNT(c) FROM Counter c").getSingleResult());
+                em.close();
+            }
+        }
+    }
+
+    private void store(Serving server, Path certificate, int id) {
+        try (Factory factory = factory(server, certificate)) {
+            EntityManager em = factory.createEntityManager();
+            em.getTransaction().begin();
+            em.persist(new Counter(id));
+            em.getTransaction().commit();
+            em.close();
         }
     }
 
