@@ -2,22 +2,15 @@
 
 from __future__ import annotations
 
-import difflib
-from typing import Any, Iterable, Mapping, Type, Union
+from typing import Any, Mapping, Type, Union
 
 from .entities import Entity
 from .lines import spelled
+from .meant import meant
 
 # The flags of the code of a generator, a coroutine and an asynchronous generator, as `inspect` has
 # them.
 _DOES_NOTHING = 0x20 | 0x80 | 0x200
-
-
-def meant(word: str, known: Iterable[str]) -> str:
-    """The question which known word was meant, after a word that isn't known; nothing where none is
-    near."""
-    near = difflib.get_close_matches(word, list(known), n=1)
-    return f": did you mean {near[0]!r}?" if near else ""
 
 
 def entity_named(

@@ -9,7 +9,8 @@ from .entities import Entity
 from .factory import EntityManagerFactory
 from .jpql_check import check
 from .rows import Names
-from .show import grid, value_text
+from .show import grid
+from .texts import value_text
 from .unit import EntityDescription, Member, MemberKind
 
 STATEMENTS = ("SELECT", "UPDATE", "DELETE")

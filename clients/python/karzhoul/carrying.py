@@ -11,7 +11,7 @@ from contextlib import contextmanager
 from pathlib import Path
 from typing import Any, Callable, Dict, Iterator, List, Mapping, Optional, TextIO
 
-from .arguments import meant
+from .meant import meant
 from .asked import Statement, mistakes_in
 from .dumping import Stored
 from .factory import EntityManagerFactory

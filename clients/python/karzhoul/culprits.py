@@ -19,7 +19,7 @@ from .entities import Entity
 from .lines import LifecycleEvent
 from .places import Place
 from .refusals import EntityNotFound, KarzhoulError, Refused
-from .show import value_text
+from .texts import value_text
 from .unit import EntityDescription, Member, MemberKind, entities_of
 
 if TYPE_CHECKING:

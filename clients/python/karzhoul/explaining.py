@@ -7,7 +7,7 @@ import json
 from itertools import islice
 from typing import TYPE_CHECKING, Any, Callable, Dict, Iterable, Iterator, Mapping, Optional
 
-from .arguments import meant
+from .meant import meant
 from .culprits import Culprits
 from .jpql_check import BYTES, INT, TEXT, Kind, Kinds, check
 from .line_check import faults_of_line

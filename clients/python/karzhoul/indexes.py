@@ -6,7 +6,7 @@ import json
 from typing import TYPE_CHECKING, Any, Dict, Iterable, List, Mapping, NamedTuple, Optional, Type
 from typing import Union
 
-from .arguments import meant
+from .meant import meant
 from .lines import line_of, text_spelled
 from .refusals import Misused
 from .unit import MemberKind, entities_of

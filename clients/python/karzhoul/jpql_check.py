@@ -12,7 +12,7 @@ from typing import (
 )
 
 from . import jpql
-from .arguments import meant
+from .meant import meant
 from .jpql import Block, Bulk, LanguageName, Node, Source, Statement, Token
 from .jpql_words import syntax_told, unserved
 from .unit import EntityDescription, Member, MemberKind

@@ -11,7 +11,6 @@ from .finding import find_program
 from .printed import mapping_file, printed
 from .program import Program
 from .refusals import KarzhoulError, ProgramEnded
-from .spelling import said_value
 
 if TYPE_CHECKING:
     from .factory import EntityManagerFactory
@@ -49,4 +48,5 @@ def _said(value: Any) -> str:
     no store is asked."""
     if isinstance(value, Entity):
         return "null"
-    return json.dumps(said_value(value), ensure_ascii=False, separators=(",", ":"))
+    said = {"hex": value.hex()} if isinstance(value, bytes) else value
+    return json.dumps(said, ensure_ascii=False, separators=(",", ":"))

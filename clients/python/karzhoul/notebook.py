@@ -8,7 +8,7 @@ from typing import TYPE_CHECKING, Any, Dict, List, Mapping, Optional, Sequence
 from .diagram import diagram
 from .entities import Entity
 from .refusals import KarzhoulError
-from .show import value_text
+from .texts import value_text
 from .unit import EntityDescription, MemberKind, entities_of, shown_entities
 
 if TYPE_CHECKING:

@@ -28,7 +28,8 @@ from .records import bare
 from .refusals import KarzhoulError, Misused, Refused, StoreFault
 from .refusals import Mapping as MappingRefused
 from .rows import Names
-from .show import grid, value_text
+from .show import grid
+from .texts import value_text
 from .spelling import row_of_cells, said_value, value_cell
 from .unit import entities_of
 

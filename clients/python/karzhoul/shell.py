@@ -18,7 +18,7 @@ from .lines import CALLS, FlushModeType, LifecycleEvent, LockModeType, spelled, 
 from .refusals import (
     KarzhoulError, NoSuchObject, ProgramEnded, Refused, Rollback, TransactionRequired,
 )
-from .show import value_text
+from .texts import value_text
 from .unit import MemberKind, entities_of
 
 HISTORY = Path.home() / ".karzhoul_history"

@@ -4,13 +4,13 @@ never by the store's cells."""
 from __future__ import annotations
 
 import html
-import json
 from dataclasses import dataclass
 from typing import Any, Dict, List, Sequence, Tuple
 
 from .diagram import diagram
 from .entities import Entity
 from .factory import EntityManagerFactory
+from .texts import value_text
 from .unit import EntityDescription, shown_entities
 
 Identity = Tuple[str, Tuple[Any, ...]]
@@ -82,19 +82,6 @@ class _Reader:
 
 def _order(key: Sequence[Any]) -> List[Tuple[str, Any]]:
     return [(type(part).__name__, part) for part in key]
-
-
-def value_text(value: Any) -> str:
-    """A value as a reader sees it."""
-    if value is None:
-        return "null"
-    if isinstance(value, bytes):
-        return f"x'{value.hex()}'"
-    if isinstance(value, str):
-        return value if value.isprintable() else json.dumps(value, ensure_ascii=False)[1:-1]
-    if isinstance(value, list):
-        return "[" + ", ".join(map(value_text, value)) + "]"
-    return str(value)
 
 
 # ---- as text

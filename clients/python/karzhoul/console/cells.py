@@ -7,7 +7,7 @@ import re
 from typing import Any, List, NamedTuple, Optional, Tuple, Union
 
 from ..jpql_check import BYTES, INT, TEXT, Kind
-from ..show import value_text
+from ..texts import value_text
 
 Plain = Union[None, int, str, bytes]
 Cell = Optional[List[str]]

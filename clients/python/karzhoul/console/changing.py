@@ -9,7 +9,7 @@ from ..entities import Attribute, Entity
 from ..factory import EntityManagerFactory
 from ..managers import EntityManager
 from ..refusals import KarzhoulError, ProgramEnded, Restarted
-from ..show import value_text
+from ..texts import value_text
 from ..transactions import is_of_callback
 from ..unit import EntityDescription, Member, MemberKind
 from .answers import Answer, Declined, refusal_of

@@ -5,7 +5,7 @@ from __future__ import annotations
 from dataclasses import dataclass, field
 from typing import Any, Dict, Optional, Set, Tuple
 
-from ..arguments import meant
+from ..meant import meant
 from ..converters import column_value, value_of
 from ..strict_json import Value
 from .findings import Fault, Path, Teller

@@ -5,7 +5,7 @@ from __future__ import annotations
 from dataclasses import dataclass, field
 from typing import Any, Dict, Iterator, List, Mapping, Optional, Sequence, Set, Tuple, Union
 
-from ..arguments import meant
+from ..meant import meant
 from ..classes.embedded import Embedded
 from ..classes.types import StoredType
 from ..classes.types import Unfit as UnfitValue

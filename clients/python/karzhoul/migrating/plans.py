@@ -7,7 +7,7 @@ from dataclasses import dataclass, field
 from types import ModuleType
 from typing import Any, Callable, Collection, Dict, Iterator, List, Mapping, NamedTuple, Optional
 
-from ..arguments import meant
+from ..meant import meant
 from ..classes.declared import Member as ClassMember
 from ..classes.fields import MISSING
 from ..converters import value_of
