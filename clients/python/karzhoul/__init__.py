@@ -24,7 +24,7 @@ from .classes.values import WrongValue
 from .connecting import connect
 from .entities import Collection, EmbeddedId, Entity, Event
 from .factory import EntityManagerFactory, open
-from .lines import FlushModeType, LifecycleEvent, LockModeType
+from .wire.lines import FlushModeType, LifecycleEvent, LockModeType
 from .managers import EntityManager
 from .refusals import (
     BadLine, Busy, Damaged, Disconnected, EntityExists, EntityNotFound, GivenUp, IllegalArgument,
@@ -33,7 +33,7 @@ from .refusals import (
     OptimisticLock, OutOfMemory, Overflow, Persistence, ProgramEnded, ProgramNotFound, QueryLimit,
     Refused, Restarted, Rollback, StoreFault, StoreInMemory, TextLimit, TransactionRequired,
 )
-from .tally import Statistics
+from .wire.tally import Statistics
 from .transactions import Attempt, EntityTransaction
 
 __version__ = "0.2.0"

@@ -5,7 +5,7 @@ from __future__ import annotations
 from typing import Any, Mapping, Type, Union
 
 from .entities import Entity
-from .lines import spelled
+from .wire.lines import spelled
 from .meant import meant
 
 # The flags of the code of a generator, a coroutine and an asynchronous generator, as `inspect` has

@@ -19,17 +19,17 @@ from typing import (
 from .arguments import check_callback
 from .kinds import Classes
 from .entities import E, Entity, Event
-from .lines import LifecycleEvent, line_of, text_spelled
+from .wire.lines import LifecycleEvent, line_of, text_spelled
 from .pending import BEFORE, Due
 from .program import Exchange, Program, of_before
 from .refusals import BadLine, IllegalState, KarzhoulError, NotServed, Refused, Restarted
 from .refusing import manager_of
-from .replies import (
+from .wire.replies import (
     NULL, are_null, are_silent, is_of_reply, is_restart, loaded_in, numbers_of, objects_in, said_of,
 )
 from .runs import Run
 from .shown import VALUES, Shown
-from .tally import Tally
+from .wire.tally import Tally
 
 # A callback, the event that it is to be told, and the run and the line of the call that told it.
 _Untold = Tuple[Callable[[Event], None], Event, Run, bytes]

@@ -16,7 +16,7 @@ from typing import (
 from .concern import Concern
 from .converters import column_value, value_of
 from .entities import Entity
-from .lines import LifecycleEvent
+from .wire.lines import LifecycleEvent
 from .places import Place
 from .refusals import EntityNotFound, KarzhoulError, Refused
 from .texts import value_text

@@ -16,7 +16,7 @@ from .classes.fields import (
     many_to_one, money, naive, one_to_many, one_to_one, typed, version,
 )
 from .foresight import Foresight
-from .lines import LifecycleEvent, line_of, text_spelled
+from .wire.lines import LifecycleEvent, line_of, text_spelled
 from .misfits import misfit, unknown
 
 if TYPE_CHECKING:

@@ -21,7 +21,7 @@ from .kinds import Classes
 from .entities import Attribute, E, Entity, check_names, classes_of
 from .finding import find_program
 from .indexes import Indexes, index_lines
-from .lines import line_of
+from .wire.lines import line_of
 from .managers import EntityManager
 from .memory import MemoryStore, room_words
 from .pausing import MOST_ATTEMPTS
@@ -34,7 +34,7 @@ from .refusals import (
 from .refusals import Mapping as MappingRefused
 from .retrying import Retry
 from .runs import Run
-from .tally import Statistics
+from .wire.tally import Statistics
 
 if TYPE_CHECKING:
     from .classes.binding import Binding

@@ -7,7 +7,7 @@ from typing import TYPE_CHECKING, Any, Dict, Iterable, List, Mapping, NamedTuple
 from typing import Union
 
 from .meant import meant
-from .lines import line_of, text_spelled
+from .wire.lines import line_of, text_spelled
 from .refusals import Misused
 from .unit import MemberKind, entities_of
 

@@ -7,8 +7,8 @@ from typing import Dict, Iterator, List, Optional
 
 from .meant import meant
 from .jpql import LANGUAGES, LanguageName
-from .lines import CALLS, OPTIONAL, OWN_CALLS, FlushModeType, LockModeType
-from .strict_json import NoJson, Value, read
+from .wire.lines import CALLS, OPTIONAL, OWN_CALLS, FlushModeType, LockModeType
+from .wire.strict_json import NoJson, Value, read
 
 _KNOWN = {**CALLS, **OWN_CALLS}
 _NUMBERS = {"em", "object", "member", "first", "max"}

@@ -6,7 +6,7 @@ from typing import Any, Callable, Dict, Iterator, List, Mapping, Optional, Seque
 
 from .dumping import Stored
 from .factory import EntityManagerFactory
-from .lines import LifecycleEvent
+from .wire.lines import LifecycleEvent
 from .plans import Plan, Terms
 from .records import GREATEST, Key, Next, Record, Shape, named, shapes_of
 from .refusals import Limit, ObjectLimit, OutOfMemory, Persistence, Refused, StoreFault

@@ -13,7 +13,7 @@ from .concern import Concern
 from .entities import E, EmbeddedId, Entity
 from .fetching import fetched
 from .interrupts import begin_of_block, carried_out, end_of_block, guard, unguard
-from .lines import (
+from .wire.lines import (
     GREATEST, LEAST, FlushModeType, LifecycleEvent, LockModeType, line_of, spelled, text_spelled,
 )
 from .misfits import misfit

@@ -11,7 +11,7 @@ from __future__ import annotations
 from typing import TYPE_CHECKING, Callable, FrozenSet, Iterator, List, Optional, Set, Tuple, TypeVar
 
 from .entities import Event
-from .lines import LifecycleEvent, line_of
+from .wire.lines import LifecycleEvent, line_of
 from .refusals import NoSuchManager, TransactionRequired
 
 if TYPE_CHECKING:

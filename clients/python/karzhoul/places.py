@@ -19,7 +19,7 @@ from typing import TYPE_CHECKING, Deque, Dict, List, Optional
 from weakref import ref
 
 from .refusals import NoFreeManager
-from .tally import MOST_OBJECTS
+from .wire.tally import MOST_OBJECTS
 
 if TYPE_CHECKING:
     from .factory import EntityManagerFactory

@@ -15,11 +15,11 @@ from weakref import ref
 from .concern import Noted
 from .kinds import Classes
 from .entities import E, Entity, Event
-from .lines import LifecycleEvent, spelled, text_spelled
+from .wire.lines import LifecycleEvent, spelled, text_spelled
 from .misfits import misfit
 from .refusals import BadLine, NotServed, Refused, Restarted
 from .refusing import note_written, refusal_told
-from .replies import object_in, objects_in, rows_of_values_in, said_of, values_in
+from .wire.replies import object_in, objects_in, rows_of_values_in, said_of, values_in
 from .shown import OVER, VALUES, Epoch, Known, Owner, Shown
 
 if TYPE_CHECKING:

@@ -14,7 +14,7 @@ from .asked import STATEMENTS, Statement, Teller, mistakes_in, statement_of, wor
 from .concern import Concern
 from .entities import Entity, Event
 from .factory import EntityManagerFactory
-from .lines import CALLS, FlushModeType, LifecycleEvent, LockModeType, spelled, text_spelled
+from .wire.lines import CALLS, FlushModeType, LifecycleEvent, LockModeType, spelled, text_spelled
 from .refusals import (
     KarzhoulError, NoSuchObject, ProgramEnded, Refused, Rollback, TransactionRequired,
 )

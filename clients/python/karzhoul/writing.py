@@ -8,7 +8,7 @@ from typing import Any, Dict, Iterator, List, Optional, Sequence, Tuple
 
 from .entities import Entity
 from .factory import EntityManagerFactory
-from .lines import FlushModeType, LockModeType, line_of, spelled, text_spelled
+from .wire.lines import FlushModeType, LockModeType, line_of, spelled, text_spelled
 from .records import Key, Record, Shape, Value, shapes_of
 from .refusals import KarzhoulError, Refused
 

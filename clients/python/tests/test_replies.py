@@ -7,7 +7,7 @@ import random
 import unittest
 from typing import Any, Dict, List
 
-from karzhoul.replies import loaded_in, rows_of_values_in
+from karzhoul.wire.replies import loaded_in, rows_of_values_in
 
 TEXTS = [
     "", "Ada", 'a"b', "a\\", '\\"', "é\n", ']},{"entity":"Item","values":[', '"values":[', "]}]}",

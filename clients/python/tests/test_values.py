@@ -382,7 +382,7 @@ class Between(ManagerTest):
             nonlocal left, ran
             if event not in ("call", "c_return") or ran:
                 return
-            if os.path.dirname(frame.f_code.co_filename) != package:
+            if not frame.f_code.co_filename.startswith(package + os.sep):
                 return
             left -= 1
             if left == 0:

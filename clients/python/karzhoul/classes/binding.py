@@ -9,7 +9,7 @@ from weakref import WeakKeyDictionary, WeakSet
 
 from ..entities import Attribute, Entity, Event, check_names
 from ..indexes import WHY_NOT, Known, index_line
-from ..lines import LifecycleEvent
+from ..wire.lines import LifecycleEvent
 from ..unit import MemberKind
 from . import types
 from .checks import chain

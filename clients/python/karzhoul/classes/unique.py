@@ -20,7 +20,7 @@ from typing import Tuple
 from ..concern import Noted
 from ..entities import Entity
 from ..jpql import Bulk, read, tokens_of
-from ..lines import line_of, text_spelled
+from ..wire.lines import line_of, text_spelled
 from ..refusals import KarzhoulError, NotUnique, OptimisticLock, Refused, Rollback
 from .checks import chain, member_of
 from .declared import Member, Model

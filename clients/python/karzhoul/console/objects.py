@@ -7,7 +7,7 @@ from typing import Any, Dict, List, Mapping, Optional, Sequence
 from ..asked import titles_of
 from ..entities import Entity
 from ..factory import EntityManagerFactory
-from ..lines import spelled
+from ..wire.lines import spelled
 from ..managers import EntityManager
 from ..unit import EntityDescription, Member, MemberKind
 from .answers import Answer

@@ -9,7 +9,7 @@ from typing import Any, Dict, Iterator, List, Mapping, Optional, Sequence
 
 from ..factory import EntityManagerFactory
 from ..jpql import Unreadable, parameters_of, statement_of
-from ..lines import line_of, spelled, text_spelled
+from ..wire.lines import line_of, spelled, text_spelled
 from ..lookups import lookups_of
 from ..managers import EntityManager
 from ..refusals import Misused, ProgramEnded, Restarted

@@ -10,10 +10,10 @@ from __future__ import annotations
 from typing import Any, Callable, Dict, Iterator, List, Mapping, NamedTuple, Optional, Protocol
 from typing import Set, Tuple, Union
 
-from ..lines import spelled, text_spelled
+from ..wire.lines import spelled, text_spelled
 from ..loading import MOST_UNUSED
 from ..records import GREATEST, Key, bare, named
-from ..tally import MOST_OBJECTS
+from ..wire.tally import MOST_OBJECTS
 from ..unit import Member
 from .bringing import Brought
 from .feeding import About, Feed

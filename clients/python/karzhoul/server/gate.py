@@ -13,7 +13,7 @@ from collections import deque
 from typing import TYPE_CHECKING, Deque, Optional, Protocol
 
 from ..places import MOST
-from ..tally import MOST_OBJECTS
+from ..wire.tally import MOST_OBJECTS
 
 if TYPE_CHECKING:
     from .connection import Connection

@@ -11,7 +11,7 @@ from collections import Counter
 from dataclasses import dataclass
 from typing import Dict, Iterable, List, Mapping, Optional, Sequence, Tuple
 
-from .refusals import Refused
+from ..refusals import Refused
 
 LOGGER = logging.getLogger("karzhoul")
 MOST_OBJECTS = 1_000_000

@@ -28,7 +28,7 @@ _LOADS, _LOADS_BETWEEN = b'{"events":[["PostLoad",', b'],["PostLoad",'
 _ROWS, _ROWS_BETWEEN, _ROWS_END = b']],"ok":[{"object":', b'},{"object":', b"}]}"
 _decode = json.JSONDecoder().raw_decode
 # Where the code is that reads replies.
-_READERS = {os.path.dirname(__file__), os.path.dirname(json.__file__)}
+_READERS = (os.path.dirname(os.path.dirname(__file__)), os.path.dirname(json.__file__))
 
 
 def are_silent(replies: List[bytes]) -> bool:
@@ -160,7 +160,7 @@ def is_of_reply(fault: Exception) -> bool:
     while trace is not None and trace.tb_next is not None:
         trace = trace.tb_next
     place = os.path.dirname(trace.tb_frame.f_code.co_filename) if trace is not None else ""
-    return place in _READERS
+    return place.startswith(_READERS)
 
 
 def is_restart(line: str) -> bool:
