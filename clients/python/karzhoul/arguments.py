@@ -6,7 +6,7 @@ from typing import Any, Mapping, Type, Union
 
 from .entities import Entity
 from .wire.lines import spelled
-from .meant import meant
+from .mapping.meant import meant
 
 # The flags of the code of a generator, a coroutine and an asynchronous generator, as `inspect` has
 # them.

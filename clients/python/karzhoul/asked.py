@@ -11,7 +11,7 @@ from .jpql_check import check
 from .rows import Names
 from .show import grid
 from .texts import value_text
-from .unit import EntityDescription, Member, MemberKind
+from .mapping.unit import EntityDescription, Member, MemberKind
 
 STATEMENTS = ("SELECT", "UPDATE", "DELETE")
 KEYWORDS = (

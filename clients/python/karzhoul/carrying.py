@@ -11,12 +11,12 @@ from contextlib import contextmanager
 from pathlib import Path
 from typing import Any, Callable, Dict, Iterator, List, Mapping, Optional, TextIO
 
-from .meant import meant
+from .mapping.meant import meant
 from .asked import Statement, mistakes_in
 from .dumping import Stored
 from .factory import EntityManagerFactory
-from .given import mapping_data
-from .linter import lint
+from .mapping.given import mapping_data
+from .mapping.linter import lint
 from .loading import HEARD, HEARD_OF_CHANGES, Loader
 from .plans import Plan, Terms, checked
 from .progress import Progress
@@ -24,7 +24,7 @@ from .records import Key, Shape, bare, shapes_of
 from .refusals import KarzhoulError, Misused, ProgramEnded, Refused
 from .sources import RowFault, Source
 from .spelling import FORMAT, Begun, Ended, cells_of, columns_of, line_of_item, row_of_cells
-from .unit import OWN_ENTITIES
+from .mapping.unit import OWN_ENTITIES
 
 WRONG, FAILED, INTERRUPTED = 1, 4, 130
 # Opens the program for a command, over this mapping and this database.

@@ -19,14 +19,14 @@ from .classes.mapping import FORMS
 from .console import command as browsing
 from .exporting import command as going
 from .finding import find_program
-from .given import WrongMapping, given_of, mapping_data
+from .mapping.given import WrongMapping, given_of, mapping_data
 from .jpql import LanguageName
-from .linter import lint
+from .mapping.linter import lint
 from .migrating import command as bringing_over
 from .opening import why_unopened
 from .refusals import Damaged, KarzhoulError, Misused
 from .refusals import Mapping as MappingRefused
-from .schema import mapping_schema
+from .mapping.schema import mapping_schema
 from .server import command as serving
 
 _MIGRATE = """With --from it brings a database over from the mapping or the classes that it was

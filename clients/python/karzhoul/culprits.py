@@ -14,13 +14,13 @@ from typing import (
 )
 
 from .concern import Concern
-from .converters import column_value, value_of
+from .mapping.converters import column_value, value_of
 from .entities import Entity
 from .wire.lines import LifecycleEvent
 from .places import Place
 from .refusals import EntityNotFound, KarzhoulError, Refused
 from .texts import value_text
-from .unit import EntityDescription, Member, MemberKind, entities_of
+from .mapping.unit import EntityDescription, Member, MemberKind, entities_of
 
 if TYPE_CHECKING:
     from .factory import EntityManagerFactory

@@ -10,7 +10,7 @@ from .entities import Entity
 from .factory import EntityManagerFactory
 from .records import GREATEST, Key, Next, Record, Shape, Unfit, Value, shapes_of
 from .refusals import Persistence
-from .unit import Member, entities_of
+from .mapping.unit import Member, entities_of
 
 # A query has at most eight variables.
 _LINKS_AT_A_TIME = 7

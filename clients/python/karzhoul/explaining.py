@@ -7,13 +7,13 @@ import json
 from itertools import islice
 from typing import TYPE_CHECKING, Any, Callable, Dict, Iterable, Iterator, Mapping, Optional
 
-from .meant import meant
+from .mapping.meant import meant
 from .culprits import Culprits
 from .jpql_check import BYTES, INT, TEXT, Kind, Kinds, check
 from .line_check import faults_of_line
 from .meanings import meaning
 from .refusals import BadLine, KarzhoulError, Refused, Rollback, StoreFault
-from .unit import EntityDescription, MemberKind, entities_of
+from .mapping.unit import EntityDescription, MemberKind, entities_of
 
 if TYPE_CHECKING:
     from .factory import EntityManagerFactory

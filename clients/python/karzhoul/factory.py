@@ -20,7 +20,7 @@ from .jpql import LANGUAGES, LanguageName
 from .kinds import Classes
 from .entities import Attribute, E, Entity, check_names, classes_of
 from .finding import find_program
-from .indexes import Indexes, index_lines
+from .mapping.indexes import Indexes, index_lines
 from .wire.lines import line_of
 from .managers import EntityManager
 from .memory import MemoryStore, room_words
@@ -142,7 +142,7 @@ def _opened(
         if store is not None:
             store.close()
         if isinstance(fault, MappingRefused):
-            from .linter import lint
+            from .mapping.linter import lint
 
             fault.faults = faults or tuple(map(str, lint(said).findings))
         raise

@@ -12,10 +12,10 @@ from typing import (
 )
 
 from . import jpql
-from .meant import meant
+from .mapping.meant import meant
 from .jpql import Block, Bulk, LanguageName, Node, Source, Statement, Token
 from .jpql_words import syntax_told, unserved
-from .unit import EntityDescription, Member, MemberKind
+from .mapping.unit import EntityDescription, Member, MemberKind
 
 SYNTAX, TYPING, PARAMETER = (f"IllegalArgument({why})" for why in ("syntax", "typing", "parameter"))
 _NO_ORDER = "objects have no order: ORDER BY takes a member of theirs, as p.id"

@@ -9,7 +9,7 @@ from itertools import chain
 from typing import Any, Iterable, List, Mapping, Optional, Type
 
 from . import jpql
-from .converters import MOST_BYTES
+from .mapping.converters import MOST_BYTES
 from .refusals import (
     MOST_LINE_BYTES, Limit, LineLimit, ManagerLimit, ObjectLimit, QueryLimit, TextLimit,
 )

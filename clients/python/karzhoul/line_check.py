@@ -5,7 +5,7 @@ from __future__ import annotations
 import re
 from typing import Dict, Iterator, List, Optional
 
-from .meant import meant
+from .mapping.meant import meant
 from .jpql import LANGUAGES, LanguageName
 from .wire.lines import CALLS, OPTIONAL, OWN_CALLS, FlushModeType, LockModeType
 from .wire.strict_json import NoJson, Value, read

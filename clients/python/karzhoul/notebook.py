@@ -9,7 +9,7 @@ from .diagram import diagram
 from .entities import Entity
 from .refusals import KarzhoulError
 from .texts import value_text
-from .unit import EntityDescription, MemberKind, entities_of, shown_entities
+from .mapping.unit import EntityDescription, MemberKind, entities_of, shown_entities
 
 if TYPE_CHECKING:
     from .factory import EntityManagerFactory

@@ -13,7 +13,7 @@ from .misfits import misfit, misfit_of
 from .refusals import NoResult, Refused
 from .rewriting import ByKey, by_key, counting, is_list, with_lists
 from .rows import Names, Page, Row, Rows, as_row, as_rows
-from .unit import entities_of
+from .mapping.unit import entities_of
 from .warned import warn
 
 if TYPE_CHECKING:

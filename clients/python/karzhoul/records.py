@@ -10,7 +10,7 @@ from dataclasses import dataclass, field
 from typing import Any, Collection, Dict, Iterator, List, Mapping, Optional, Tuple, Union
 
 from .texts import value_text
-from .unit import EntityDescription, Member, MemberKind, entities_of
+from .mapping.unit import EntityDescription, Member, MemberKind, entities_of
 
 Value = Union[None, int, str, bytes]
 Key = Tuple[Value, ...]

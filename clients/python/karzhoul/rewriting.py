@@ -7,7 +7,7 @@ from typing import Any, Collection, Dict, Iterable, List, Mapping, NamedTuple, O
 from typing import Sequence, Set, Tuple
 
 from . import jpql
-from .meant import meant
+from .mapping.meant import meant
 from .entities import EmbeddedId, Entity
 from .jpql import Block, LanguageName, Node, read
 

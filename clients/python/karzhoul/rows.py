@@ -6,7 +6,7 @@ from functools import cached_property
 from typing import TYPE_CHECKING, Any, Callable, Dict, List, Optional, Sequence, Tuple
 
 from . import jpql
-from .meant import meant
+from .mapping.meant import meant
 from .refusals import NonUniqueResult, NoResult
 
 if TYPE_CHECKING:

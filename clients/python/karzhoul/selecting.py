@@ -18,10 +18,10 @@ from .asked import titles_of
 from .entities import Entity
 from .factory import open as opened
 from .finding import find_program
-from .given import given_of, mapping_data
+from .mapping.given import given_of, mapping_data
 from .jpql import LanguageName
 from .jpql_check import BYTES, INT, TEXT, Kind, check
-from .linter import lint
+from .mapping.linter import lint
 from .opening import why_unopened
 from .printed import printed
 from .records import bare
@@ -31,7 +31,7 @@ from .rows import Names
 from .show import grid
 from .texts import value_text
 from .spelling import row_of_cells, said_value, value_cell
-from .unit import entities_of
+from .mapping.unit import entities_of
 
 WRONG, REFUSED = 1, 3
 _QUERY = """Prints the rows that a SELECT finds in a store, as a table. docs/QUERIES.md has the

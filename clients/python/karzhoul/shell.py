@@ -19,7 +19,7 @@ from .refusals import (
     KarzhoulError, NoSuchObject, ProgramEnded, Refused, Rollback, TransactionRequired,
 )
 from .texts import value_text
-from .unit import MemberKind, entities_of
+from .mapping.unit import MemberKind, entities_of
 
 HISTORY = Path.home() / ".karzhoul_history"
 COMMANDS = ("help", "entities", "show", "history", "manager", "quit")

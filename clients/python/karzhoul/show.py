@@ -11,7 +11,7 @@ from .diagram import diagram
 from .entities import Entity
 from .factory import EntityManagerFactory
 from .texts import value_text
-from .unit import EntityDescription, shown_entities
+from .mapping.unit import EntityDescription, shown_entities
 
 Identity = Tuple[str, Tuple[Any, ...]]
 

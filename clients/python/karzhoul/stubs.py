@@ -12,7 +12,7 @@ import keyword
 from typing import TYPE_CHECKING, Any, Dict, Generic, Iterator, List, Mapping, Set, Tuple, TypeVar
 
 from .entities import EmbeddedId, Entity
-from .unit import EntityDescription, Member, MemberKind, entities_of
+from .mapping.unit import EntityDescription, Member, MemberKind, entities_of
 
 Got = TypeVar("Got", covariant=True)
 Given = TypeVar("Given", contravariant=True)

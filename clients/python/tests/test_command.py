@@ -24,7 +24,7 @@ from karzhoul import show
 from karzhoul.command import main
 from karzhoul.diagram import diagram
 from karzhoul.shell import Shell, members_of, usage
-from karzhoul.unit import entities_of
+from karzhoul.mapping.unit import entities_of
 
 from .support import HERE, PERSONS, PROGRAM, FolderTest, examples, needs_program, played
 

@@ -10,7 +10,7 @@ from typing import Dict, Iterator, List, Optional, Tuple
 from karzhoul import jpql
 from karzhoul.jpql import LanguageName
 from karzhoul.jpql_check import BYTES, INT, TEXT, Kind, Kinds, QueryFinding, check
-from karzhoul.unit import entities_of
+from karzhoul.mapping.unit import entities_of
 
 from .support import TOP
 

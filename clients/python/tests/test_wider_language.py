@@ -15,7 +15,7 @@ from karzhoul import jpql
 from karzhoul.jpql_check import INT, TEXT, Kinds, check
 from karzhoul.line_check import faults_of_line
 from karzhoul.rewriting import counting
-from karzhoul.unit import entities_of
+from karzhoul.mapping.unit import entities_of
 
 from .classed import ClassesTest
 from .support import PERSONS, PROGRAM, TOP, FolderTest, counted, needs_program

@@ -8,9 +8,9 @@ from typing import Tuple, Type, Union
 from weakref import WeakKeyDictionary, WeakSet
 
 from ..entities import Attribute, Entity, Event, check_names
-from ..indexes import WHY_NOT, Known, index_line
+from ..mapping.indexes import WHY_NOT, Known, index_line
 from ..wire.lines import LifecycleEvent
-from ..unit import MemberKind
+from ..mapping.unit import MemberKind
 from . import types
 from .checks import chain
 from .declared import CALLBACKS, KINDS, TO_MANY, Declared, Member, Model

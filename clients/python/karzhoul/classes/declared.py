@@ -8,7 +8,7 @@ from types import ModuleType
 from typing import Any, ClassVar, Dict, Iterable, Iterator, List, Optional, Tuple, Type, Union
 
 from ..entities import Entity
-from ..unit import OWN_ENTITIES
+from ..mapping.unit import OWN_ENTITIES
 from . import types
 from .annotations import Annotated, Scope, Unread, own_annotations
 from .embedded import Embedded, Part, check_optional, is_embedded, parts_of

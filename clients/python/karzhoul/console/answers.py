@@ -8,7 +8,7 @@ from ..entities import Entity
 from ..jpql import LanguageName
 from ..jpql_check import Kinds, QueryFinding, check
 from ..refusals import Refused
-from ..unit import EntityDescription
+from ..mapping.unit import EntityDescription
 
 Answer = Dict[str, Any]
 

@@ -11,7 +11,7 @@ from ..managers import EntityManager
 from ..refusals import KarzhoulError, ProgramEnded, Restarted
 from ..texts import value_text
 from ..transactions import is_of_callback
-from ..unit import EntityDescription, Member, MemberKind
+from ..mapping.unit import EntityDescription, Member, MemberKind
 from .answers import Answer, Declined, refusal_of
 from .cells import Reference, Unread, reference_of, said_reference, value_of
 from .objects import Objects

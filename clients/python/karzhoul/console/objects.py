@@ -9,7 +9,7 @@ from ..entities import Entity
 from ..factory import EntityManagerFactory
 from ..wire.lines import spelled
 from ..managers import EntityManager
-from ..unit import EntityDescription, Member, MemberKind
+from ..mapping.unit import EntityDescription, Member, MemberKind
 from .answers import Answer
 from .cells import Plain, Reference, Unread, cell_of, kind_of, said_reference
 

@@ -15,7 +15,7 @@ from ..managers import EntityManager
 from ..refusals import Misused, ProgramEnded, Restarted
 from ..rows import Names
 from ..spelling import row_of_cells
-from ..unit import EntityDescription, entities_of, shown_entities
+from ..mapping.unit import EntityDescription, entities_of, shown_entities
 from .answers import Answer, Declined, declined, mistakes_of, refusal_of, said_mistake
 from .cells import Plain, Reference, Unread, kind_of, value_of
 from .changing import Changes, tell_lost

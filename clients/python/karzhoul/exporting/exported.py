@@ -13,7 +13,7 @@ from typing import Any, Dict, Iterator, List, Mapping, Optional, Sequence, Tuple
 
 from .. import factory
 from ..classes.mapping import FORMS
-from ..converters import value_of
+from ..mapping.converters import value_of
 from ..dumping import Stored
 from ..migrating.sides import Side, mapped
 from ..migration import outlook

@@ -10,7 +10,7 @@ from ..dumping import tops_in_order
 from ..migrating.bringing import Brought
 from ..migrating.plans import Led
 from ..records import Key, Shape, Unfit, Value, fitting, named
-from ..unit import Member
+from ..mapping.unit import Member
 from .dialects import quoted
 from .sqlite import columns_of
 from .tables import KEY, LINK, OWNER, TARGET, VALUE, VERSION, Column, Table, Tables

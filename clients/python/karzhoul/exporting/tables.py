@@ -11,7 +11,7 @@ from ..classes.unique import Uniques
 from ..migrating.forms import plain_type
 from ..migrating.sides import Side
 from ..records import Shape
-from ..unit import Member
+from ..mapping.unit import Member
 from .naming import Names, collisions
 
 CLASS, KEY, VERSION, VALUE, LINK = "class", "key", "version", "value", "link"

@@ -14,7 +14,7 @@ from .. import factory
 from ..classes.mapping import FORMS
 from ..dumping import Stored
 from ..finding import find_program
-from ..given import WrongMapping
+from ..mapping.given import WrongMapping
 from ..migration import outlook
 from ..progress import Progress
 from ..records import bare

@@ -4,7 +4,7 @@ from __future__ import annotations
 
 from typing import Any, List, Mapping, NamedTuple
 
-from ..meant import meant
+from ..mapping.meant import meant
 from ..classes.types import StoredType
 from ..factory import EntityManagerFactory
 from ..managers import EntityManager

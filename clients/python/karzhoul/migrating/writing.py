@@ -14,7 +14,7 @@ from ..wire.lines import spelled, text_spelled
 from ..loading import MOST_UNUSED
 from ..records import GREATEST, Key, bare, named
 from ..wire.tally import MOST_OBJECTS
-from ..unit import Member
+from ..mapping.unit import Member
 from .bringing import Brought
 from .feeding import About, Feed
 from .plans import Led

@@ -10,10 +10,10 @@ from typing import Any, Optional, Sequence, Tuple
 
 from ..factory import open as opened, started
 from ..finding import find_program
-from ..given import WrongMapping, given_of
-from ..indexes import index_lines, named_in_words
+from ..mapping.given import WrongMapping, given_of
+from ..mapping.indexes import index_lines, named_in_words
 from ..jpql import LanguageName
-from ..linter import lint
+from ..mapping.linter import lint
 from ..program import Exchange, Program
 from ..refusals import Misused
 from .address import address_of

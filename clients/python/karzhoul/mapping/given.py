@@ -10,7 +10,7 @@ from pathlib import Path
 from types import ModuleType
 from typing import Union
 
-from .refusals import KarzhoulError
+from ..refusals import KarzhoulError
 
 Given = Union[str, ModuleType]
 
@@ -44,8 +44,8 @@ def mapping_data(word: str) -> bytes:
     given = given_of(word)
     if isinstance(given, str):
         return Path(given).read_bytes()
-    from .classes.changes import make
-    from .classes.faults import DeclarationError
+    from ..classes.changes import make
+    from ..classes.faults import DeclarationError
 
     try:
         return json.dumps(make(given).mapping).encode()

@@ -7,7 +7,7 @@ from typing import Any, Dict, Optional, Set, Tuple
 
 from ..meant import meant
 from ..converters import column_value, value_of
-from ..wire.strict_json import Value
+from ...wire.strict_json import Value
 from .findings import Fault, Path, Teller
 from .reading import VALUES, Unit, at, has, members, plain_of, text
 

@@ -5,7 +5,7 @@ from __future__ import annotations
 from dataclasses import dataclass
 from typing import Dict, Mapping, Tuple
 
-from ..wire.strict_json import Value
+from ...wire.strict_json import Value
 from .findings import Fault, Path, Teller
 from .reading import VALUES, members, plain_of
 

@@ -7,12 +7,12 @@ from typing import TYPE_CHECKING, Any, Dict, Iterable, List, Mapping, NamedTuple
 from typing import Union
 
 from .meant import meant
-from .wire.lines import line_of, text_spelled
-from .refusals import Misused
+from ..wire.lines import line_of, text_spelled
+from ..refusals import Misused
 from .unit import MemberKind, entities_of
 
 if TYPE_CHECKING:
-    from .classes.binding import Binding
+    from ..classes.binding import Binding
 
 Indexes = Union[Mapping[str, Iterable[str]], Mapping[Type[Any], Iterable[str]]]
 """Names of members by the name of their entity, or by its class: `{"Title": ["name"]}`."""

@@ -8,7 +8,7 @@ import re
 from dataclasses import dataclass, field
 from typing import List, Optional, Tuple, Union
 
-from ..wire.strict_json import Lines, Value
+from ...wire.strict_json import Lines, Value
 
 Path = Tuple[Union[str, int], ...]
 

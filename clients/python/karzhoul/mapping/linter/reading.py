@@ -7,7 +7,7 @@ from dataclasses import dataclass
 from typing import Dict, Iterator, List, Optional, Tuple
 
 from ..converters import Plain
-from ..wire.strict_json import Value
+from ...wire.strict_json import Value
 from .findings import Path
 
 VALUES = 'an integer of 64 bits, a text, or bytes as {"hex":"0aff"}'

@@ -7,7 +7,7 @@ It refuses exactly what the program refuses, with the same word: `json`, `shape`
 
 from __future__ import annotations
 
-from ..wire.strict_json import Lines, NoJson, read, text_of
+from ...wire.strict_json import Lines, NoJson, read, text_of
 from .findings import Fault, Finding, Path, Report, Teller, path_text
 from .functions import made_by, tell_thrown, tell_unknown, warn_of_lost
 from .reading import Unit
