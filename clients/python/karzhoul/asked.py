@@ -7,7 +7,7 @@ from typing import Any, Dict, List, Mapping, NamedTuple, Optional, Sequence
 
 from .entities import Entity
 from .factory import EntityManagerFactory
-from .jpql_check import check
+from .jpql.check import check
 from .rows import Names
 from .show import grid
 from .texts import value_text

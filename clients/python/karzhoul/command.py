@@ -20,7 +20,7 @@ from .console import command as browsing
 from .exporting import command as going
 from .finding import find_program
 from .mapping.given import WrongMapping, given_of, mapping_data
-from .jpql import LanguageName
+from .jpql.statements import LanguageName
 from .mapping.linter import lint
 from .migrating import command as bringing_over
 from .opening import why_unopened

@@ -9,7 +9,7 @@ from typing import TYPE_CHECKING, Any, Callable, Dict, Iterable, Iterator, Mappi
 
 from .mapping.meant import meant
 from .culprits import Culprits
-from .jpql_check import BYTES, INT, TEXT, Kind, Kinds, check
+from .jpql.check import BYTES, INT, TEXT, Kind, Kinds, check
 from .line_check import faults_of_line
 from .meanings import meaning
 from .refusals import BadLine, KarzhoulError, Refused, Rollback, StoreFault

@@ -16,7 +16,7 @@ from typing import (
 from .arguments import entity_named
 from .begun import Begun
 from .calls import Calls
-from .jpql import LANGUAGES, LanguageName
+from .jpql.statements import LANGUAGES, LanguageName
 from .kinds import Classes
 from .entities import Attribute, E, Entity, check_names, classes_of
 from .finding import find_program

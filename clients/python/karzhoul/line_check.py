@@ -6,7 +6,7 @@ import re
 from typing import Dict, Iterator, List, Optional
 
 from .mapping.meant import meant
-from .jpql import LANGUAGES, LanguageName
+from .jpql.statements import LANGUAGES, LanguageName
 from .wire.lines import CALLS, OPTIONAL, OWN_CALLS, FlushModeType, LockModeType
 from .wire.strict_json import NoJson, Value, read
 

@@ -7,7 +7,7 @@ from typing import Optional, Tuple, Type, Union
 
 from .arguments import check_query, item_class, parameter_name, row_limit
 from .concern import Concern
-from .jpql_check import check
+from .jpql.check import check
 from .wire.lines import line_of, text_spelled
 from .misfits import misfit, misfit_of
 from .refusals import NoResult, Refused

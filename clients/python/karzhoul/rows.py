@@ -5,12 +5,12 @@ from __future__ import annotations
 from functools import cached_property
 from typing import TYPE_CHECKING, Any, Callable, Dict, List, Optional, Sequence, Tuple
 
-from . import jpql
+from .jpql import statements as jpql
 from .mapping.meant import meant
 from .refusals import NonUniqueResult, NoResult
 
 if TYPE_CHECKING:
-    from .jpql import Item
+    from .jpql.statements import Item
 
 
 class Names:

@@ -19,8 +19,8 @@ from .entities import Entity
 from .factory import open as opened
 from .finding import find_program
 from .mapping.given import given_of, mapping_data
-from .jpql import LanguageName
-from .jpql_check import BYTES, INT, TEXT, Kind, check
+from .jpql.statements import LanguageName
+from .jpql.check import BYTES, INT, TEXT, Kind, check
 from .mapping.linter import lint
 from .opening import why_unopened
 from .printed import printed

@@ -11,8 +11,8 @@ from decimal import Decimal
 from typing import Any, Dict, List
 
 import karzhoul
-from karzhoul import jpql
-from karzhoul.jpql_check import INT, TEXT, Kinds, check
+from karzhoul.jpql import statements as jpql
+from karzhoul.jpql.check import INT, TEXT, Kinds, check
 from karzhoul.line_check import faults_of_line
 from karzhoul.rewriting import counting
 from karzhoul.mapping.unit import entities_of

@@ -19,7 +19,7 @@ from typing import Tuple
 
 from ..concern import Noted
 from ..entities import Entity
-from ..jpql import Bulk, read, tokens_of
+from ..jpql.statements import Bulk, read, tokens_of
 from ..wire.lines import line_of, text_spelled
 from ..refusals import KarzhoulError, NotUnique, OptimisticLock, Refused, Rollback
 from .checks import chain, member_of

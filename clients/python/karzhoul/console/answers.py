@@ -5,8 +5,8 @@ from __future__ import annotations
 from typing import Any, Dict, Mapping, Sequence
 
 from ..entities import Entity
-from ..jpql import LanguageName
-from ..jpql_check import Kinds, QueryFinding, check
+from ..jpql.statements import LanguageName
+from ..jpql.check import Kinds, QueryFinding, check
 from ..refusals import Refused
 from ..mapping.unit import EntityDescription
 

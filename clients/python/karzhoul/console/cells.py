@@ -6,7 +6,7 @@ from __future__ import annotations
 import re
 from typing import Any, List, NamedTuple, Optional, Tuple, Union
 
-from ..jpql_check import BYTES, INT, TEXT, Kind
+from ..jpql.check import BYTES, INT, TEXT, Kind
 from ..texts import value_text
 
 Plain = Union[None, int, str, bytes]

@@ -10,7 +10,7 @@ from typing import List, Optional
 from ..connecting import connect
 from ..factory import EntityManagerFactory, open as opened
 from ..mapping.given import given_of, mapping_data
-from ..jpql import LanguageName
+from ..jpql.statements import LanguageName
 from ..migration import outlook
 from ..refusals import Misused
 

@@ -8,7 +8,7 @@ from contextlib import contextmanager
 from typing import Any, Dict, Iterator, List, Mapping, Optional, Sequence
 
 from ..factory import EntityManagerFactory
-from ..jpql import Unreadable, parameters_of, statement_of
+from ..jpql.statements import Unreadable, parameters_of, statement_of
 from ..wire.lines import line_of, spelled, text_spelled
 from ..lookups import lookups_of
 from ..managers import EntityManager

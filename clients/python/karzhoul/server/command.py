@@ -12,7 +12,7 @@ from ..factory import open as opened, started
 from ..finding import find_program
 from ..mapping.given import WrongMapping, given_of
 from ..mapping.indexes import index_lines, named_in_words
-from ..jpql import LanguageName
+from ..jpql.statements import LanguageName
 from ..mapping.linter import lint
 from ..program import Exchange, Program
 from ..refusals import Misused

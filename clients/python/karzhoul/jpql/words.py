@@ -6,7 +6,7 @@ from __future__ import annotations
 import difflib
 from typing import Dict, List, Optional, Sequence, Tuple
 
-from .jpql import AGGREGATES, LANGUAGES, LanguageName, Token, Unreadable
+from .statements import AGGREGATES, LANGUAGES, LanguageName, Token, Unreadable
 
 _CASE = "CASE isn't served: COALESCE and NULLIF are"
 _DATES = "dates and times aren't served: store whole numbers or texts"
