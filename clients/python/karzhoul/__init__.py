@@ -22,7 +22,7 @@ from .classes.fields import (
 )
 from .classes.values import WrongValue
 from .connecting import connect
-from .entities import Collection, EmbeddedId, Entity, Event
+from .objects.entities import Collection, EmbeddedId, Entity, Event
 from .factory import EntityManagerFactory, open
 from .wire.lines import FlushModeType, LifecycleEvent, LockModeType
 from .managers import EntityManager

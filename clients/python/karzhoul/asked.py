@@ -5,7 +5,7 @@ from __future__ import annotations
 import re
 from typing import Any, Dict, List, Mapping, NamedTuple, Optional, Sequence
 
-from .entities import Entity
+from .objects.entities import Entity
 from .factory import EntityManagerFactory
 from .jpql.check import check
 from .rows import Names

@@ -16,9 +16,9 @@ from typing import (
     Union,
 )
 
-from .arguments import check_callback
-from .kinds import Classes
-from .entities import E, Entity, Event
+from .objects.arguments import check_callback
+from .objects.kinds import Classes
+from .objects.entities import E, Entity, Event
 from .wire.lines import LifecycleEvent, line_of, text_spelled
 from .pending import BEFORE, Due
 from .program import Exchange, Program, of_before
@@ -28,7 +28,7 @@ from .wire.replies import (
     NULL, are_null, are_silent, is_of_reply, is_restart, loaded_in, numbers_of, objects_in, said_of,
 )
 from .runs import Run
-from .shown import VALUES, Shown
+from .objects.shown import VALUES, Shown
 from .wire.tally import Tally
 
 # A callback, the event that it is to be told, and the run and the line of the call that told it.

@@ -20,7 +20,7 @@ from typing import (
 )
 
 from . import program as programs
-from .entities import Entity
+from .objects.entities import Entity
 from .factory import EntityManagerFactory, are_classes
 from .places import Places
 from .program import Exchange, Program, ended_within

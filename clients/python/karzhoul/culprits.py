@@ -13,9 +13,9 @@ from typing import (
     TYPE_CHECKING, Any, Dict, Iterable, Iterator, List, Mapping, Optional, Sequence, Set, Tuple,
 )
 
-from .concern import Concern
+from .objects.concern import Concern
 from .mapping.converters import column_value, value_of
-from .entities import Entity
+from .objects.entities import Entity
 from .wire.lines import LifecycleEvent
 from .places import Place
 from .refusals import EntityNotFound, KarzhoulError, Refused

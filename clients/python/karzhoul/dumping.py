@@ -6,7 +6,7 @@ from __future__ import annotations
 import heapq
 from typing import Any, Dict, Iterable, Iterator, List, Mapping, Optional, Sequence, Set, Tuple
 
-from .entities import Entity
+from .objects.entities import Entity
 from .factory import EntityManagerFactory
 from .records import GREATEST, Key, Next, Record, Shape, Unfit, Value, shapes_of
 from .refusals import Persistence

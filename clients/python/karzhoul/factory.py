@@ -13,12 +13,12 @@ from typing import (
     Type, TypeVar, Union, overload,
 )
 
-from .arguments import entity_named
+from .objects.arguments import entity_named
 from .begun import Begun
 from .calls import Calls
 from .jpql.statements import LANGUAGES, LanguageName
-from .kinds import Classes
-from .entities import Attribute, E, Entity, check_names, classes_of
+from .objects.kinds import Classes
+from .objects.entities import Attribute, E, Entity, check_names, classes_of
 from .finding import find_program
 from .mapping.indexes import Indexes, index_lines
 from .wire.lines import line_of

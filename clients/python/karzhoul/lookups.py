@@ -6,7 +6,7 @@ import json
 import os
 from typing import TYPE_CHECKING, Any, Dict, Iterator, List, Mapping, Sequence, Tuple
 
-from .entities import Entity
+from .objects.entities import Entity
 from .finding import find_program
 from .printed import mapping_file, printed
 from .program import Program

@@ -9,14 +9,14 @@ from typing import (
 )
 from weakref import ref
 
-from .concern import Concern
-from .entities import E, EmbeddedId, Entity
-from .fetching import fetched
+from .objects.concern import Concern
+from .objects.entities import E, EmbeddedId, Entity
+from .objects.fetching import fetched
 from .interrupts import begin_of_block, carried_out, end_of_block, guard, unguard
 from .wire.lines import (
     GREATEST, LEAST, FlushModeType, LifecycleEvent, LockModeType, line_of, spelled, text_spelled,
 )
-from .misfits import misfit
+from .objects.misfits import misfit
 from .pending import Due, Pending
 from .queries import Queries
 from .refusals import KarzhoulError, NoSuchManager, ProgramEnded, Refused, Restarted

@@ -6,7 +6,7 @@ import html
 from typing import TYPE_CHECKING, Any, Dict, List, Mapping, Optional, Sequence
 
 from .diagram import diagram
-from .entities import Entity
+from .objects.entities import Entity
 from .refusals import KarzhoulError
 from .texts import value_text
 from .mapping.unit import EntityDescription, MemberKind, entities_of, shown_entities

@@ -10,7 +10,7 @@ from __future__ import annotations
 
 from typing import TYPE_CHECKING, Callable, FrozenSet, Iterator, List, Optional, Set, Tuple, TypeVar
 
-from .entities import Event
+from .objects.entities import Event
 from .wire.lines import LifecycleEvent, line_of
 from .refusals import NoSuchManager, TransactionRequired
 

@@ -7,8 +7,8 @@ import re
 from typing import TYPE_CHECKING, Any, ClassVar, Dict, Optional, Sequence, Tuple, Type
 
 if TYPE_CHECKING:
-    from .concern import Concern
-    from .entities import Entity, Event
+    from .objects.concern import Concern
+    from .objects.entities import Entity, Event
     from .factory import EntityManagerFactory
     from .runs import Run
 

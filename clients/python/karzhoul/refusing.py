@@ -6,12 +6,12 @@ from __future__ import annotations
 import re
 from typing import TYPE_CHECKING, Any, Iterable, Mapping, Optional, Sequence, Tuple, Type
 
-from .concern import Noted
+from .objects.concern import Noted
 from .limits import told_apart
 from .refusals import MARKING, REFUSALS, BadLine, Limit, Refused, StoreFault
 
 if TYPE_CHECKING:
-    from .entities import Event
+    from .objects.entities import Event
     from .runs import Run
 
 _WRITTEN = {"PostPersist", "PostUpdate", "PostRemove"}

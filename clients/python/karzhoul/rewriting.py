@@ -8,7 +8,7 @@ from typing import Sequence, Set, Tuple
 
 from .jpql import statements as jpql
 from .mapping.meant import meant
-from .entities import EmbeddedId, Entity
+from .objects.entities import EmbeddedId, Entity
 from .jpql.statements import Block, LanguageName, Node, read
 
 _SINGLE = (str, bytes, bytearray, memoryview, Mapping, Entity, EmbeddedId)

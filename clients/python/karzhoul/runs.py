@@ -12,15 +12,15 @@ from typing import (
 )
 from weakref import ref
 
-from .concern import Noted
-from .kinds import Classes
-from .entities import E, Entity, Event
+from .objects.concern import Noted
+from .objects.kinds import Classes
+from .objects.entities import E, Entity, Event
 from .wire.lines import LifecycleEvent, spelled, text_spelled
-from .misfits import misfit
+from .objects.misfits import misfit
 from .refusals import BadLine, NotServed, Refused, Restarted
 from .refusing import note_written, refusal_told
 from .wire.replies import object_in, objects_in, rows_of_values_in, said_of, values_in
-from .shown import OVER, VALUES, Epoch, Known, Owner, Shown
+from .objects.shown import OVER, VALUES, Epoch, Known, Owner, Shown
 
 if TYPE_CHECKING:
     from .factory import EntityManagerFactory

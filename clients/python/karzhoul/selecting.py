@@ -15,7 +15,7 @@ from pathlib import Path
 from typing import Any, Dict, Iterator, List, Mapping, Optional, Sequence, Tuple
 
 from .asked import titles_of
-from .entities import Entity
+from .objects.entities import Entity
 from .factory import open as opened
 from .finding import find_program
 from .mapping.given import given_of, mapping_data

@@ -11,8 +11,8 @@ from pathlib import Path
 from typing import Any, Callable, Dict, Iterable, Iterator, List, Optional, Sequence, Tuple
 
 from .asked import STATEMENTS, Statement, Teller, mistakes_in, statement_of, words_within
-from .concern import Concern
-from .entities import Entity, Event
+from .objects.concern import Concern
+from .objects.entities import Entity, Event
 from .factory import EntityManagerFactory
 from .wire.lines import CALLS, FlushModeType, LifecycleEvent, LockModeType, spelled, text_spelled
 from .refusals import (

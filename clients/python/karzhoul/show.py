@@ -8,7 +8,7 @@ from dataclasses import dataclass
 from typing import Any, Dict, List, Sequence, Tuple
 
 from .diagram import diagram
-from .entities import Entity
+from .objects.entities import Entity
 from .factory import EntityManagerFactory
 from .texts import value_text
 from .mapping.unit import EntityDescription, shown_entities

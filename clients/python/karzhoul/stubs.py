@@ -11,7 +11,7 @@ from __future__ import annotations
 import keyword
 from typing import TYPE_CHECKING, Any, Dict, Generic, Iterator, List, Mapping, Set, Tuple, TypeVar
 
-from .entities import EmbeddedId, Entity
+from .objects.entities import EmbeddedId, Entity
 from .mapping.unit import EntityDescription, Member, MemberKind, entities_of
 
 Got = TypeVar("Got", covariant=True)

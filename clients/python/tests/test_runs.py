@@ -14,7 +14,7 @@ from unittest import mock
 
 import karzhoul
 from karzhoul import LifecycleEvent, Restarted
-from karzhoul.foresight import Foresight
+from karzhoul.objects.foresight import Foresight
 from karzhoul.program import Exchange, Program
 from karzhoul.runs import Run
 

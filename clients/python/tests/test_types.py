@@ -205,7 +205,7 @@ class TypedClasses(unittest.TestCase):
         )
         wanted = [
             "shop.Customer", "int", "Union[str, None]", "str",
-            "karzhoul.entities.Collection[shop.Order]",
+            "karzhoul.objects.entities.Collection[shop.Order]",
             "shop.Customer",
         ]
         wanted += [

@@ -17,7 +17,8 @@ from typing import Any, Callable, Dict, List, Optional
 from unittest import mock
 
 import karzhoul
-from karzhoul import Entity, FlushModeType, LifecycleEvent, LockModeType, shown
+from karzhoul import Entity, FlushModeType, LifecycleEvent, LockModeType
+from karzhoul.objects import shown
 from karzhoul.refusals import KarzhoulError
 from karzhoul.runs import Run
 

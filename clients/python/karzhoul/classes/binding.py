@@ -7,7 +7,7 @@ from typing import TYPE_CHECKING, Any, Callable, Dict, Iterator, List, Mapping, 
 from typing import Tuple, Type, Union
 from weakref import WeakKeyDictionary, WeakSet
 
-from ..entities import Attribute, Entity, Event, check_names
+from ..objects.entities import Attribute, Entity, Event, check_names
 from ..mapping.indexes import WHY_NOT, Known, index_line
 from ..wire.lines import LifecycleEvent
 from ..mapping.unit import MemberKind

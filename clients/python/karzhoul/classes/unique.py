@@ -17,8 +17,8 @@ from operator import attrgetter
 from typing import TYPE_CHECKING, Any, Dict, Iterable, Iterator, List, Optional, Sequence, Set
 from typing import Tuple
 
-from ..concern import Noted
-from ..entities import Entity
+from ..objects.concern import Noted
+from ..objects.entities import Entity
 from ..jpql.statements import Bulk, read, tokens_of
 from ..wire.lines import line_of, text_spelled
 from ..refusals import KarzhoulError, NotUnique, OptimisticLock, Refused, Rollback

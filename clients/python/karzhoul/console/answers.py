@@ -4,7 +4,7 @@ from __future__ import annotations
 
 from typing import Any, Dict, Mapping, Sequence
 
-from ..entities import Entity
+from ..objects.entities import Entity
 from ..jpql.statements import LanguageName
 from ..jpql.check import Kinds, QueryFinding, check
 from ..refusals import Refused

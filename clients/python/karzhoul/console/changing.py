@@ -5,7 +5,7 @@ from __future__ import annotations
 
 from typing import Any, Callable, Dict, List, Mapping, NamedTuple, Optional
 
-from ..entities import Attribute, Entity
+from ..objects.entities import Attribute, Entity
 from ..factory import EntityManagerFactory
 from ..managers import EntityManager
 from ..refusals import KarzhoulError, ProgramEnded, Restarted

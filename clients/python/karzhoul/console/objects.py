@@ -5,7 +5,7 @@ from __future__ import annotations
 from typing import Any, Dict, List, Mapping, Optional, Sequence
 
 from ..asked import titles_of
-from ..entities import Entity
+from ..objects.entities import Entity
 from ..factory import EntityManagerFactory
 from ..wire.lines import spelled
 from ..managers import EntityManager

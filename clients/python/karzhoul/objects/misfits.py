@@ -43,7 +43,7 @@ def unknown(
     kind: str, name: str, known: Iterable[str], sort: str = "attribute"
 ) -> AttributeError:
     """A name that is no attribute of a class, with the one that is meant."""
-    from .mapping.meant import meant
+    from ..mapping.meant import meant
 
     names = list(known)
     near = meant(name, names) or f"; it has {', '.join(names)}"

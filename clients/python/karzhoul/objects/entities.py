@@ -11,19 +11,19 @@ from typing import (
     Union, overload,
 )
 
-from .classes.fields import (
+from ..classes.fields import (
     by_value, dataclass_transform, embedded, field, generated, json_text, key, many_to_many,
     many_to_one, money, naive, one_to_many, one_to_one, typed, version,
 )
 from .foresight import Foresight
-from .wire.lines import LifecycleEvent, line_of, text_spelled
+from ..wire.lines import LifecycleEvent, line_of, text_spelled
 from .misfits import misfit, unknown
 
 if TYPE_CHECKING:
-    from .classes.binding import Binding
-    from .factory import EntityManagerFactory
-    from .managers import EntityManager
-    from .runs import Run
+    from ..classes.binding import Binding
+    from ..factory import EntityManagerFactory
+    from ..managers import EntityManager
+    from ..runs import Run
     from .shown import Shown
 
 E = TypeVar("E", bound="Entity")
@@ -106,7 +106,7 @@ class Entity:
 
     def __init__(self, /, **values: Any) -> None:
         if self._karzhoul_said is not None:
-            from .classes.binding import fill
+            from ..classes.binding import fill
 
             fill(self, values)
             return
@@ -117,7 +117,7 @@ class Entity:
         """The lines that give a new object its values, as its constructor does, and what is to be
         set behind them."""
         if self._karzhoul_said is not None:
-            from .classes.binding import filling
+            from ..classes.binding import filling
 
             return filling(self, values)
         lines: List[bytes] = []
@@ -162,13 +162,13 @@ class Entity:
         return _named(self, self._karzhoul_factory.key_at_hand(self))
 
     def _repr_html_(self) -> str:
-        from .notebook import object_html
+        from ..notebook import object_html
 
         return object_html(self)
 
 
 def _new_declared(kind: Type[Entity], /, *given: Any, **values: Any) -> Any:
-    from .classes.binding import new_of
+    from ..classes.binding import new_of
 
     return new_of(kind, *given, **values)
 
@@ -411,7 +411,7 @@ class Collection(MutableSequence[E]):
         return f"<{self._name} of {self._entity!r}>"
 
     def _repr_html_(self) -> Optional[str]:
-        from .notebook import rows_html
+        from ..notebook import rows_html
 
         # In a pipeline nothing is asked.
         is_quiet = self._entity._karzhoul_factory.turn is None
