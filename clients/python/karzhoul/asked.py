@@ -10,7 +10,7 @@ from .factory import EntityManagerFactory
 from .jpql.check import check
 from .rows import Names
 from .show import grid
-from .texts import value_text
+from .explain.texts import value_text
 from .mapping.unit import EntityDescription, Member, MemberKind
 
 STATEMENTS = ("SELECT", "UPDATE", "DELETE")

@@ -23,7 +23,7 @@ from .wire.lines import LifecycleEvent, line_of, text_spelled
 from .pending import BEFORE, Due
 from .program import Exchange, Program, of_before
 from .refusals import BadLine, IllegalState, KarzhoulError, NotServed, Refused, Restarted
-from .refusing import manager_of
+from .explain.refusing import manager_of
 from .wire.replies import (
     NULL, are_null, are_silent, is_of_reply, is_restart, loaded_in, numbers_of, objects_in, said_of,
 )

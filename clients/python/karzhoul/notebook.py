@@ -8,7 +8,7 @@ from typing import TYPE_CHECKING, Any, Dict, List, Mapping, Optional, Sequence
 from .diagram import diagram
 from .objects.entities import Entity
 from .refusals import KarzhoulError
-from .texts import value_text
+from .explain.texts import value_text
 from .mapping.unit import EntityDescription, MemberKind, entities_of, shown_entities
 
 if TYPE_CHECKING:

@@ -9,7 +9,7 @@ from __future__ import annotations
 from dataclasses import dataclass, field
 from typing import Any, Collection, Dict, Iterator, List, Mapping, Optional, Tuple, Union
 
-from .texts import value_text
+from .explain.texts import value_text
 from .mapping.unit import EntityDescription, Member, MemberKind, entities_of
 
 Value = Union[None, int, str, bytes]

@@ -18,7 +18,7 @@ from .objects.entities import E, Entity, Event
 from .wire.lines import LifecycleEvent, spelled, text_spelled
 from .objects.misfits import misfit
 from .refusals import BadLine, NotServed, Refused, Restarted
-from .refusing import note_written, refusal_told
+from .explain.refusing import note_written, refusal_told
 from .wire.replies import object_in, objects_in, rows_of_values_in, said_of, values_in
 from .objects.shown import OVER, VALUES, Epoch, Known, Owner, Shown
 

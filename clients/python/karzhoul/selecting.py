@@ -29,7 +29,7 @@ from .refusals import KarzhoulError, Misused, Refused, StoreFault
 from .refusals import Mapping as MappingRefused
 from .rows import Names
 from .show import grid
-from .texts import value_text
+from .explain.texts import value_text
 from .spelling import row_of_cells, said_value, value_cell
 from .mapping.unit import entities_of
 

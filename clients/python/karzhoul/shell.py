@@ -18,7 +18,7 @@ from .wire.lines import CALLS, FlushModeType, LifecycleEvent, LockModeType, spel
 from .refusals import (
     KarzhoulError, NoSuchObject, ProgramEnded, Refused, Rollback, TransactionRequired,
 )
-from .texts import value_text
+from .explain.texts import value_text
 from .mapping.unit import MemberKind, entities_of
 
 HISTORY = Path.home() / ".karzhoul_history"

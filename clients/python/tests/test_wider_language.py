@@ -13,7 +13,7 @@ from typing import Any, Dict, List
 import karzhoul
 from karzhoul.jpql import statements as jpql
 from karzhoul.jpql.check import INT, TEXT, Kinds, check
-from karzhoul.line_check import faults_of_line
+from karzhoul.explain.line_check import faults_of_line
 from karzhoul.rewriting import counting
 from karzhoul.mapping.unit import entities_of
 

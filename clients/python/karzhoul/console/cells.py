@@ -7,7 +7,7 @@ import re
 from typing import Any, List, NamedTuple, Optional, Tuple, Union
 
 from ..jpql.check import BYTES, INT, TEXT, Kind
-from ..texts import value_text
+from ..explain.texts import value_text
 
 Plain = Union[None, int, str, bytes]
 Cell = Optional[List[str]]

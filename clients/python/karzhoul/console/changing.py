@@ -9,7 +9,7 @@ from ..objects.entities import Attribute, Entity
 from ..factory import EntityManagerFactory
 from ..managers import EntityManager
 from ..refusals import KarzhoulError, ProgramEnded, Restarted
-from ..texts import value_text
+from ..explain.texts import value_text
 from ..transactions import is_of_callback
 from ..mapping.unit import EntityDescription, Member, MemberKind
 from .answers import Answer, Declined, refusal_of

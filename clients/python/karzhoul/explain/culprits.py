@@ -13,17 +13,17 @@ from typing import (
     TYPE_CHECKING, Any, Dict, Iterable, Iterator, List, Mapping, Optional, Sequence, Set, Tuple,
 )
 
-from .objects.concern import Concern
-from .mapping.converters import column_value, value_of
-from .objects.entities import Entity
-from .wire.lines import LifecycleEvent
-from .places import Place
-from .refusals import EntityNotFound, KarzhoulError, Refused
+from ..objects.concern import Concern
+from ..mapping.converters import column_value, value_of
+from ..objects.entities import Entity
+from ..wire.lines import LifecycleEvent
+from ..places import Place
+from ..refusals import EntityNotFound, KarzhoulError, Refused
 from .texts import value_text
-from .mapping.unit import EntityDescription, Member, MemberKind, entities_of
+from ..mapping.unit import EntityDescription, Member, MemberKind, entities_of
 
 if TYPE_CHECKING:
-    from .factory import EntityManagerFactory
+    from ..factory import EntityManagerFactory
 
 Key = Tuple[Any, ...]
 # What a member that can't be read is, and what a link to an object that is gone is.

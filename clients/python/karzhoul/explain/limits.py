@@ -8,9 +8,9 @@ from contextlib import suppress
 from itertools import chain
 from typing import Any, Iterable, List, Mapping, Optional, Type
 
-from .jpql import statements as jpql
-from .mapping.converters import MOST_BYTES
-from .refusals import (
+from ..jpql import statements as jpql
+from ..mapping.converters import MOST_BYTES
+from ..refusals import (
     MOST_LINE_BYTES, Limit, LineLimit, ManagerLimit, ObjectLimit, QueryLimit, TextLimit,
 )
 

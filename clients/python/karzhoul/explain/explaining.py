@@ -7,16 +7,16 @@ import json
 from itertools import islice
 from typing import TYPE_CHECKING, Any, Callable, Dict, Iterable, Iterator, Mapping, Optional
 
-from .mapping.meant import meant
+from ..mapping.meant import meant
 from .culprits import Culprits
-from .jpql.check import BYTES, INT, TEXT, Kind, Kinds, check
+from ..jpql.check import BYTES, INT, TEXT, Kind, Kinds, check
 from .line_check import faults_of_line
 from .meanings import meaning
-from .refusals import BadLine, KarzhoulError, Refused, Rollback, StoreFault
-from .mapping.unit import EntityDescription, MemberKind, entities_of
+from ..refusals import BadLine, KarzhoulError, Refused, Rollback, StoreFault
+from ..mapping.unit import EntityDescription, MemberKind, entities_of
 
 if TYPE_CHECKING:
-    from .factory import EntityManagerFactory
+    from ..factory import EntityManagerFactory
 
 # So many lines are told, and so many characters of each.
 _MOST, _LONGEST = 10, 500

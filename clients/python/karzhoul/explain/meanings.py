@@ -4,7 +4,7 @@ from __future__ import annotations
 
 from typing import Dict, Optional, Type
 
-from .refusals import Damaged, IllegalArgument, IllegalState, Limit, Persistence, Refused
+from ..refusals import Damaged, IllegalArgument, IllegalState, Limit, Persistence, Refused
 
 # By the detail.
 _MEANINGS: Dict[Type[Refused], Dict[str, str]] = {

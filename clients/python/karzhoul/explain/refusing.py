@@ -6,13 +6,13 @@ from __future__ import annotations
 import re
 from typing import TYPE_CHECKING, Any, Iterable, Mapping, Optional, Sequence, Tuple, Type
 
-from .objects.concern import Noted
+from ..objects.concern import Noted
 from .limits import told_apart
-from .refusals import MARKING, REFUSALS, BadLine, Limit, Refused, StoreFault
+from ..refusals import MARKING, REFUSALS, BadLine, Limit, Refused, StoreFault
 
 if TYPE_CHECKING:
-    from .objects.entities import Event
-    from .runs import Run
+    from ..objects.entities import Event
+    from ..runs import Run
 
 _WRITTEN = {"PostPersist", "PostUpdate", "PostRemove"}
 _COMMIT, _MERGE = b'{"call":"commit"', b'{"call":"merge"'

@@ -5,10 +5,10 @@ from __future__ import annotations
 import re
 from typing import Dict, Iterator, List, Optional
 
-from .mapping.meant import meant
-from .jpql.statements import LANGUAGES, LanguageName
-from .wire.lines import CALLS, OPTIONAL, OWN_CALLS, FlushModeType, LockModeType
-from .wire.strict_json import NoJson, Value, read
+from ..mapping.meant import meant
+from ..jpql.statements import LANGUAGES, LanguageName
+from ..wire.lines import CALLS, OPTIONAL, OWN_CALLS, FlushModeType, LockModeType
+from ..wire.strict_json import NoJson, Value, read
 
 _KNOWN = {**CALLS, **OWN_CALLS}
 _NUMBERS = {"em", "object", "member", "first", "max"}
