@@ -8,7 +8,7 @@ from typing import Any, Dict, List, Mapping, NamedTuple, Optional, Sequence
 from .objects.entities import Entity
 from .factory import EntityManagerFactory
 from .jpql.check import check
-from .rows import Names
+from .queries.rows import Names
 from .show import grid
 from .explain.texts import value_text
 from .mapping.unit import EntityDescription, Member, MemberKind

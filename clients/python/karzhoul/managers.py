@@ -18,7 +18,7 @@ from .wire.lines import (
 )
 from .objects.misfits import misfit
 from .pending import Due, Pending
-from .queries import Queries
+from .queries.queries import Queries
 from .refusals import KarzhoulError, NoSuchManager, ProgramEnded, Refused, Restarted
 from .transactions import Attempt, EntityTransaction, attempts
 from .warned import warn

@@ -27,7 +27,7 @@ from .printed import printed
 from .records import bare
 from .refusals import KarzhoulError, Misused, Refused, StoreFault
 from .refusals import Mapping as MappingRefused
-from .rows import Names
+from .queries.rows import Names
 from .show import grid
 from .explain.texts import value_text
 from .spelling import row_of_cells, said_value, value_cell

@@ -9,8 +9,8 @@ from typing import Any, Callable, List
 from unittest import mock
 
 import karzhoul
-from karzhoul.rewriting import counting, with_lists
-from karzhoul.rows import Names, Row, Rows
+from karzhoul.queries.rewriting import counting, with_lists
+from karzhoul.queries.rows import Names, Row, Rows
 
 from .support import ORDERS, ManagerTest, counted, needs_program
 

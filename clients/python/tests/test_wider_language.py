@@ -14,7 +14,7 @@ import karzhoul
 from karzhoul.jpql import statements as jpql
 from karzhoul.jpql.check import INT, TEXT, Kinds, check
 from karzhoul.explain.line_check import faults_of_line
-from karzhoul.rewriting import counting
+from karzhoul.queries.rewriting import counting
 from karzhoul.mapping.unit import entities_of
 
 from .classed import ClassesTest

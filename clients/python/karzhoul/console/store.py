@@ -10,10 +10,10 @@ from typing import Any, Dict, Iterator, List, Mapping, Optional, Sequence
 from ..factory import EntityManagerFactory
 from ..jpql.statements import Unreadable, parameters_of, statement_of
 from ..wire.lines import line_of, spelled, text_spelled
-from ..lookups import lookups_of
+from ..queries.lookups import lookups_of
 from ..managers import EntityManager
 from ..refusals import Misused, ProgramEnded, Restarted
-from ..rows import Names
+from ..queries.rows import Names
 from ..spelling import row_of_cells
 from ..mapping.unit import EntityDescription, entities_of, shown_entities
 from .answers import Answer, Declined, declined, mistakes_of, refusal_of, said_mistake

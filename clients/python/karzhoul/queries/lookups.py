@@ -6,14 +6,14 @@ import json
 import os
 from typing import TYPE_CHECKING, Any, Dict, Iterator, List, Mapping, Sequence, Tuple
 
-from .objects.entities import Entity
-from .finding import find_program
-from .printed import mapping_file, printed
-from .program import Program
-from .refusals import KarzhoulError, ProgramEnded
+from ..objects.entities import Entity
+from ..finding import find_program
+from ..printed import mapping_file, printed
+from ..program import Program
+from ..refusals import KarzhoulError, ProgramEnded
 
 if TYPE_CHECKING:
-    from .factory import EntityManagerFactory
+    from ..factory import EntityManagerFactory
 
 
 def lookups_of(factory: EntityManagerFactory, text: str, values: Mapping[str, Any]) -> List[str]:

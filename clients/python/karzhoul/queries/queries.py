@@ -5,22 +5,22 @@ from __future__ import annotations
 from typing import TYPE_CHECKING, Any, Dict, FrozenSet, Iterator, List, Mapping, NamedTuple
 from typing import Optional, Tuple, Type, Union
 
-from .objects.arguments import check_query, item_class, parameter_name, row_limit
-from .objects.concern import Concern
-from .jpql.check import check
-from .wire.lines import line_of, text_spelled
-from .objects.misfits import misfit, misfit_of
-from .refusals import NoResult, Refused
+from ..objects.arguments import check_query, item_class, parameter_name, row_limit
+from ..objects.concern import Concern
+from ..jpql.check import check
+from ..wire.lines import line_of, text_spelled
+from ..objects.misfits import misfit, misfit_of
+from ..refusals import NoResult, Refused
 from .rewriting import ByKey, by_key, counting, is_list, with_lists
 from .rows import Names, Page, Row, Rows, as_row, as_rows
-from .mapping.unit import entities_of
-from .warned import warn
+from ..mapping.unit import entities_of
+from ..warned import warn
 
 if TYPE_CHECKING:
-    from .classes.unique import Keeper
-    from .factory import EntityManagerFactory
-    from .pending import Due, Pending
-    from .runs import Run
+    from ..classes.unique import Keeper
+    from ..factory import EntityManagerFactory
+    from ..pending import Due, Pending
+    from ..runs import Run
 
 # By name, or by number for ?1.
 Params = Optional[Union[Mapping[str, Any], Mapping[int, Any]]]

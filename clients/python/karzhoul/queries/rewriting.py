@@ -6,10 +6,10 @@ from __future__ import annotations
 from typing import Any, Collection, Dict, Iterable, List, Mapping, NamedTuple, Optional
 from typing import Sequence, Set, Tuple
 
-from .jpql import statements as jpql
-from .mapping.meant import meant
-from .objects.entities import EmbeddedId, Entity
-from .jpql.statements import Block, LanguageName, Node, read
+from ..jpql import statements as jpql
+from ..mapping.meant import meant
+from ..objects.entities import EmbeddedId, Entity
+from ..jpql.statements import Block, LanguageName, Node, read
 
 _SINGLE = (str, bytes, bytearray, memoryview, Mapping, Entity, EmbeddedId)
 

@@ -5,12 +5,12 @@ from __future__ import annotations
 from functools import cached_property
 from typing import TYPE_CHECKING, Any, Callable, Dict, List, Optional, Sequence, Tuple
 
-from .jpql import statements as jpql
-from .mapping.meant import meant
-from .refusals import NonUniqueResult, NoResult
+from ..jpql import statements as jpql
+from ..mapping.meant import meant
+from ..refusals import NonUniqueResult, NoResult
 
 if TYPE_CHECKING:
-    from .jpql.statements import Item
+    from ..jpql.statements import Item
 
 
 class Names:
@@ -99,7 +99,7 @@ class Row(List[Any]):
         return self._names.fields
 
     def _repr_html_(self) -> str:
-        from .notebook import row_html
+        from ..notebook import row_html
 
         return row_html(self, self._fields)
 
@@ -160,7 +160,7 @@ class Rows(List[Any]):
         return self._names.fields
 
     def _repr_html_(self) -> str:
-        from .notebook import rows_html
+        from ..notebook import rows_html
 
         return rows_html(self, self._fields, self._note())
 
