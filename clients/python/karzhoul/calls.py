@@ -21,7 +21,7 @@ from .objects.kinds import Classes
 from .objects.entities import E, Entity, Event
 from .wire.lines import LifecycleEvent, line_of, text_spelled
 from .pending import BEFORE, Due
-from .program import Exchange, Program, of_before
+from .store.program import Exchange, Program, of_before
 from .refusals import BadLine, IllegalState, KarzhoulError, NotServed, Refused, Restarted
 from .explain.refusing import manager_of
 from .wire.replies import (

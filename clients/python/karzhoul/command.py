@@ -13,17 +13,18 @@ from contextlib import closing
 from pathlib import Path
 from typing import Any, List, Mapping, Optional, Sequence, Union
 
-from . import beginnings, carrying, factory, migration, selecting, show, stubs
+from . import beginnings, carrying, factory, selecting, show, stubs
+from .store import migration
 from .classes import printing
 from .classes.mapping import FORMS
 from .console import command as browsing
 from .exporting import command as going
-from .finding import find_program
+from .store.finding import find_program
 from .mapping.given import WrongMapping, given_of, mapping_data
 from .jpql.statements import LanguageName
 from .mapping.linter import lint
 from .migrating import command as bringing_over
-from .opening import why_unopened
+from .store.opening import why_unopened
 from .refusals import Damaged, KarzhoulError, Misused
 from .refusals import Mapping as MappingRefused
 from .mapping.schema import mapping_schema

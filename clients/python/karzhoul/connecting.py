@@ -19,11 +19,11 @@ from typing import (
     Union,
 )
 
-from . import program as programs
+from .store import program as programs
 from .objects.entities import Entity
 from .factory import EntityManagerFactory, are_classes
 from .places import Places
-from .program import Exchange, Program, ended_within
+from .store.program import Exchange, Program, ended_within
 from .refusals import (
     Disconnected, GivenUp, KarzhoulError, NoFreeManager, ProgramEnded, ProgramNotFound, Restarted,
 )

@@ -19,15 +19,15 @@ from .calls import Calls
 from .jpql.statements import LANGUAGES, LanguageName
 from .objects.kinds import Classes
 from .objects.entities import Attribute, E, Entity, check_names, classes_of
-from .finding import find_program
+from .store.finding import find_program
 from .mapping.indexes import Indexes, index_lines
 from .wire.lines import line_of
 from .managers import EntityManager
-from .memory import MemoryStore, room_words
+from .store.memory import MemoryStore, room_words
 from .pausing import MOST_ATTEMPTS
 from .places import Place, Places
-from .printed import mapping_file
-from .program import Program, Words
+from .store.printed import mapping_file
+from .store.program import Program, Words
 from .refusals import (
     BadLine, KarzhoulError, Limit, ProgramEnded, ProgramNotFound, Refused, Restarted, StoreFault,
 )
@@ -168,7 +168,7 @@ def started(
     killed its program still takes a moment to end."""
     if store is not None:
         return _started_at_once(program, said, db, store, language)
-    from .opening import Held, held_by
+    from .store.opening import Held, held_by
 
     until, held = time.monotonic() + PATIENCE, Held.BY_OTHERS
     while True:
@@ -218,7 +218,7 @@ def _store_in_memory() -> MemoryStore:
 def _why_unopened(db: Words, store: Optional[MemoryStore]) -> str:
     if store is not None:
         return room_words(store.folder)
-    from .opening import why_unopened
+    from .store.opening import why_unopened
 
     return f"{os.fspath(db)} can't be opened: {why_unopened(Path(db))}"
 

@@ -17,13 +17,13 @@ from typing import Any, Dict, Iterator, List, Mapping, Optional, Sequence, Tuple
 from .asked import titles_of
 from .objects.entities import Entity
 from .factory import open as opened
-from .finding import find_program
+from .store.finding import find_program
 from .mapping.given import given_of, mapping_data
 from .jpql.statements import LanguageName
 from .jpql.check import BYTES, INT, TEXT, Kind, check
 from .mapping.linter import lint
-from .opening import why_unopened
-from .printed import printed
+from .store.opening import why_unopened
+from .store.printed import printed
 from .records import bare
 from .refusals import KarzhoulError, Misused, Refused, StoreFault
 from .refusals import Mapping as MappingRefused

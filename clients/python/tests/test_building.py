@@ -95,7 +95,7 @@ class Wheels(FolderTest):
             "PYTHONPATH": str(there),
             "KARZHOUL_PROGRAM": str(there / "bin" / "jpa"),
         }
-        code = "from karzhoul.finding import find_program; print(find_program())"
+        code = "from karzhoul.store.finding import find_program; print(find_program())"
         found = subprocess.run(
             [sys.executable, "-c", code], cwd=self.place, env=env, capture_output=True, text=True
         )

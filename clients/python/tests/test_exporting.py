@@ -19,7 +19,7 @@ from karzhoul import dumping, factory
 from karzhoul.command import main
 from karzhoul.exporting.naming import snake
 from karzhoul.exporting.rows import Row, Rows
-from karzhoul.program import Program
+from karzhoul.store.program import Program
 from karzhoul.records import Record
 
 from .carried import CARRIED, Carrying, cells

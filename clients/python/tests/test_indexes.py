@@ -14,7 +14,7 @@ from unittest import mock
 
 import karzhoul
 from karzhoul.command import main
-from karzhoul.program import Exchange, Program
+from karzhoul.store.program import Exchange, Program
 
 from .classed import ClassesTest
 from .served import Here

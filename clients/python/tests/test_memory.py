@@ -16,8 +16,8 @@ from typing import Any, Callable, Iterator, List, Tuple
 from unittest import mock
 
 import karzhoul
-from karzhoul import memory
-from karzhoul.memory import MemoryStore
+from karzhoul.store import memory
+from karzhoul.store.memory import MemoryStore
 
 from .support import HERE, PERSONS, PROGRAM, FolderTest, needs_program, present
 

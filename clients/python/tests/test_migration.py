@@ -11,7 +11,7 @@ from typing import Any, Dict, Iterator, List, Optional, Tuple
 from unittest import mock
 
 import karzhoul
-from karzhoul.migration import outlook
+from karzhoul.store.migration import outlook
 
 from .support import PERSONS, PROGRAM, TOP, FolderTest, needs_program, needs_revision_2
 from .test_command import alone

@@ -12,7 +12,8 @@ from pathlib import Path
 from unittest import mock
 
 import karzhoul
-from karzhoul import factory, opening
+from karzhoul import factory
+from karzhoul.store import opening
 
 from .support import FLAT, HERE, PROGRAM, FolderTest, needs_program
 

@@ -15,7 +15,7 @@ from unittest import mock
 import karzhoul
 from karzhoul import LifecycleEvent, Restarted
 from karzhoul.objects.foresight import Foresight
-from karzhoul.program import Exchange, Program
+from karzhoul.store.program import Exchange, Program
 from karzhoul.runs import Run
 
 from .steps import interrupted_at_step

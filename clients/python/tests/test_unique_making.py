@@ -29,7 +29,7 @@ here, folder, name, db, lock, program, left = sys.argv[1:]
 sys.path[:0] = [here, folder]
 import karzhoul
 from karzhoul.classes import unique
-from karzhoul.program import Program
+from karzhoul.store.program import Program
 unique._AT_ONCE, left, replies = 5, [int(left)], Program.replies
 def counted(self, *words, **more):
     left[0] -= 1

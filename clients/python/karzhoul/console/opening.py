@@ -11,7 +11,7 @@ from ..connecting import connect
 from ..factory import EntityManagerFactory, open as opened
 from ..mapping.given import given_of, mapping_data
 from ..jpql.statements import LanguageName
-from ..migration import outlook
+from ..store.migration import outlook
 from ..refusals import Misused
 
 

@@ -16,7 +16,7 @@ from ..classes.mapping import FORMS
 from ..mapping.converters import value_of
 from ..dumping import Stored
 from ..migrating.sides import Side, mapped
-from ..migration import outlook
+from ..store.migration import outlook
 from ..progress import Progress
 from ..records import bare
 from ..refusals import KarzhoulError, Misused

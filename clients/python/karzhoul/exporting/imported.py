@@ -10,7 +10,7 @@ from pathlib import Path
 from typing import Dict, Iterator, List, Optional
 
 from ..classes import lock as locks
-from ..finding import find_program
+from ..store.finding import find_program
 from ..migrating.bringing import MOST_FAULTS
 from ..migrating.feeding import Feed
 from ..migrating.judging import judge

@@ -13,9 +13,9 @@ from typing import Any, Dict, Iterator, List, Optional
 from .. import factory
 from ..classes.mapping import FORMS
 from ..dumping import Stored
-from ..finding import find_program
+from ..store.finding import find_program
 from ..mapping.given import WrongMapping
-from ..migration import outlook
+from ..store.migration import outlook
 from ..progress import Progress
 from ..records import bare
 from ..refusals import Damaged, KarzhoulError, Misused

@@ -7,9 +7,9 @@ import os
 from typing import TYPE_CHECKING, Any, Dict, Iterator, List, Mapping, Sequence, Tuple
 
 from ..objects.entities import Entity
-from ..finding import find_program
-from ..printed import mapping_file, printed
-from ..program import Program
+from ..store.finding import find_program
+from ..store.printed import mapping_file, printed
+from ..store.program import Program
 from ..refusals import KarzhoulError, ProgramEnded
 
 if TYPE_CHECKING:

@@ -9,7 +9,7 @@ from pathlib import Path
 from typing import Any, BinaryIO, Dict, Iterator, List
 
 from ..factory import started
-from ..program import Words
+from ..store.program import Words
 from ..refusals import KarzhoulError
 from .way import Way
 

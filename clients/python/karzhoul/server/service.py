@@ -10,7 +10,7 @@ from collections import deque
 from typing import Any, Callable, Coroutine, Deque, Dict, List, Optional, Set, Tuple
 
 from ..places import MOST
-from ..program import Program
+from ..store.program import Program
 from ..refusals import KarzhoulError
 from .connection import Connection, Manager
 from .counts import Counts

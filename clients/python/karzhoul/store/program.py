@@ -20,10 +20,10 @@ from typing import (
     IO, TYPE_CHECKING, Any, ContextManager, Iterator, List, Optional, Sequence, Set, Tuple, Union,
 )
 
-from .refusals import GivenUp, KarzhoulError, ProgramEnded, ProgramNotFound, Restarted, refusal_of
+from ..refusals import GivenUp, KarzhoulError, ProgramEnded, ProgramNotFound, Restarted, refusal_of
 
 if TYPE_CHECKING:
-    from .runs import Run
+    from ..runs import Run
 
 _PATIENCE = 2.0
 _CHUNK = (1 << 16,)

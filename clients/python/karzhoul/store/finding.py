@@ -10,9 +10,9 @@ from pathlib import Path
 from typing import Optional, Set
 
 from .program import Words
-from .refusals import ProgramNotFound
+from ..refusals import ProgramNotFound
 
-_PACKAGE = Path(__file__).resolve().parent
+_PACKAGE = Path(__file__).resolve().parents[1]
 # What was said on standard error, so that each is said once.
 _said: Set[str] = set()
 

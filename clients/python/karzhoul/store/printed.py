@@ -8,7 +8,7 @@ from contextlib import contextmanager
 from pathlib import Path
 from typing import Iterator, Sequence
 
-from .refusals import Limit, ProgramEnded, QueryLimit, refusal_of
+from ..refusals import Limit, ProgramEnded, QueryLimit, refusal_of
 
 
 def printed(words: Sequence[str]) -> Iterator[str]:

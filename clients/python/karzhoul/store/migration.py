@@ -17,7 +17,7 @@ from pathlib import Path
 from typing import Any, Dict, Iterator, List, Mapping, Optional, Tuple
 from urllib.parse import quote
 
-from .mapping.converters import Plain, column_value, is_converter, value_of
+from ..mapping.converters import Plain, column_value, is_converter, value_of
 from .damage import Column, damage, row_columns
 
 Cells = Dict[int, bytes]
