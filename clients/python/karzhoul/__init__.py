@@ -23,9 +23,9 @@ from .classes.fields import (
 from .classes.values import WrongValue
 from .connecting import connect
 from .objects.entities import Collection, EmbeddedId, Entity, Event
-from .factory import EntityManagerFactory, open
+from .session.factory import EntityManagerFactory, open
 from .wire.lines import FlushModeType, LifecycleEvent, LockModeType
-from .managers import EntityManager
+from .session.managers import EntityManager
 from .refusals import (
     BadLine, Busy, Damaged, Disconnected, EntityExists, EntityNotFound, GivenUp, IllegalArgument,
     IllegalState, KarzhoulError, Limit, LineLimit, Listener, ManagerLimit, Mapping, NoFreeManager,
@@ -34,7 +34,7 @@ from .refusals import (
     Refused, Restarted, Rollback, StoreFault, StoreInMemory, TextLimit, TransactionRequired,
 )
 from .wire.tally import Statistics
-from .transactions import Attempt, EntityTransaction
+from .session.transactions import Attempt, EntityTransaction
 
 __version__ = "0.2.0"
 

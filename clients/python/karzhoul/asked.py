@@ -6,7 +6,7 @@ import re
 from typing import Any, Dict, List, Mapping, NamedTuple, Optional, Sequence
 
 from .objects.entities import Entity
-from .factory import EntityManagerFactory
+from .session.factory import EntityManagerFactory
 from .jpql.check import check
 from .queries.rows import Names
 from .show import grid

@@ -14,7 +14,7 @@ from typing import Any, Callable, Dict, Iterator, List, Mapping, Optional, TextI
 from .mapping.meant import meant
 from .asked import Statement, mistakes_in
 from .dumping import Stored
-from .factory import EntityManagerFactory
+from .session.factory import EntityManagerFactory
 from .mapping.given import mapping_data
 from .mapping.linter import lint
 from .loading import HEARD, HEARD_OF_CHANGES, Loader

@@ -21,8 +21,8 @@ from typing import (
 
 from .store import program as programs
 from .objects.entities import Entity
-from .factory import EntityManagerFactory, are_classes
-from .places import Places
+from .session.factory import EntityManagerFactory, are_classes
+from .session.places import Places
 from .store.program import Exchange, Program, ended_within
 from .refusals import (
     Disconnected, GivenUp, KarzhoulError, NoFreeManager, ProgramEnded, ProgramNotFound, Restarted,
@@ -30,7 +30,7 @@ from .refusals import (
 from .server.way import Tls, Way
 
 if TYPE_CHECKING:
-    from .runs import Run
+    from .session.runs import Run
 
 _REFUSED = b'{"error":{"name":"'
 # What a server itself says of a connection, beside the refusals of the program.

@@ -7,7 +7,7 @@ import heapq
 from typing import Any, Dict, Iterable, Iterator, List, Mapping, Optional, Sequence, Set, Tuple
 
 from .objects.entities import Entity
-from .factory import EntityManagerFactory
+from .session.factory import EntityManagerFactory
 from .records import GREATEST, Key, Next, Record, Shape, Unfit, Value, shapes_of
 from .refusals import Persistence
 from .mapping.unit import Member, entities_of

@@ -5,7 +5,7 @@ from __future__ import annotations
 from typing import Any, Callable, Dict, Iterator, List, Mapping, Optional, Sequence, Tuple
 
 from .dumping import Stored
-from .factory import EntityManagerFactory
+from .session.factory import EntityManagerFactory
 from .wire.lines import LifecycleEvent
 from .plans import Plan, Terms
 from .records import GREATEST, Key, Next, Record, Shape, named, shapes_of

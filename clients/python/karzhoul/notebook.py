@@ -12,7 +12,7 @@ from .explain.texts import value_text
 from .mapping.unit import EntityDescription, MemberKind, entities_of, shown_entities
 
 if TYPE_CHECKING:
-    from .factory import EntityManagerFactory
+    from .session.factory import EntityManagerFactory
 
 # So many rows are shown, and so many characters of a value.
 MOST_ROWS, MOST_LETTERS = 100, 200

@@ -9,8 +9,8 @@ from typing import TYPE_CHECKING, Any, ClassVar, Dict, Optional, Sequence, Tuple
 if TYPE_CHECKING:
     from .objects.concern import Concern
     from .objects.entities import Entity, Event
-    from .factory import EntityManagerFactory
-    from .runs import Run
+    from .session.factory import EntityManagerFactory
+    from .session.runs import Run
 
 
 class KarzhoulError(Exception):

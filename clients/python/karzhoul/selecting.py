@@ -16,7 +16,7 @@ from typing import Any, Dict, Iterator, List, Mapping, Optional, Sequence, Tuple
 
 from .asked import titles_of
 from .objects.entities import Entity
-from .factory import open as opened
+from .session.factory import open as opened
 from .store.finding import find_program
 from .mapping.given import given_of, mapping_data
 from .jpql.statements import LanguageName

@@ -13,7 +13,7 @@ from typing import Any, Callable, Dict, Iterable, Iterator, List, Optional, Sequ
 from .asked import STATEMENTS, Statement, Teller, mistakes_in, statement_of, words_within
 from .objects.concern import Concern
 from .objects.entities import Entity, Event
-from .factory import EntityManagerFactory
+from .session.factory import EntityManagerFactory
 from .wire.lines import CALLS, FlushModeType, LifecycleEvent, LockModeType, spelled, text_spelled
 from .refusals import (
     KarzhoulError, NoSuchObject, ProgramEnded, Refused, Rollback, TransactionRequired,

@@ -9,7 +9,7 @@ from typing import Any, Dict, List, Sequence, Tuple
 
 from .diagram import diagram
 from .objects.entities import Entity
-from .factory import EntityManagerFactory
+from .session.factory import EntityManagerFactory
 from .explain.texts import value_text
 from .mapping.unit import EntityDescription, shown_entities
 

@@ -7,7 +7,7 @@ from dataclasses import dataclass
 from typing import Any, Dict, Iterator, List, Optional, Sequence, Tuple
 
 from .objects.entities import Entity
-from .factory import EntityManagerFactory
+from .session.factory import EntityManagerFactory
 from .wire.lines import FlushModeType, LockModeType, line_of, spelled, text_spelled
 from .records import Key, Record, Shape, Value, shapes_of
 from .refusals import KarzhoulError, Refused

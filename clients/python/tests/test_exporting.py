@@ -15,7 +15,8 @@ from functools import partial
 from typing import Any, List, Sequence
 from unittest import mock
 
-from karzhoul import dumping, factory
+from karzhoul import dumping
+from karzhoul.session import factory
 from karzhoul.command import main
 from karzhoul.exporting.naming import snake
 from karzhoul.exporting.rows import Row, Rows

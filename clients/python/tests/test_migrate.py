@@ -20,7 +20,8 @@ from typing import Any, List, NamedTuple, Optional, Sequence, Tuple
 from unittest import mock
 
 import karzhoul
-from karzhoul import DeclarationError, NotBroughtOver, factory
+from karzhoul import DeclarationError, NotBroughtOver
+from karzhoul.session import factory
 from karzhoul.command import main
 from karzhoul.migrating.feeding import Feed
 

@@ -12,7 +12,7 @@ from pathlib import Path
 from unittest import mock
 
 import karzhoul
-from karzhoul import factory
+from karzhoul.session import factory
 from karzhoul.store import opening
 
 from .support import FLAT, HERE, PROGRAM, FolderTest, needs_program
@@ -41,7 +41,7 @@ class Opening(FolderTest):
             held = f"(process {app.program.pid}), which this process started"
             self.fails("another program has it open, and one at a time has a file: ", held)
             words = (
-                "import karzhoul, karzhoul.factory\nkarzhoul.factory.PATIENCE = 0\n"
+                "import karzhoul, karzhoul.session.factory\nkarzhoul.session.factory.PATIENCE = 0\n"
                 f"karzhoul.open({str(FLAT)!r}, {str(self.db)!r})"
             )
             env = {**os.environ, "PYTHONPATH": str(HERE.parent), "KARZHOUL_PROGRAM": str(PROGRAM)}

@@ -16,7 +16,7 @@ import karzhoul
 from karzhoul import LifecycleEvent, Restarted
 from karzhoul.objects.foresight import Foresight
 from karzhoul.store.program import Exchange, Program
-from karzhoul.runs import Run
+from karzhoul.session.runs import Run
 
 from .steps import interrupted_at_step
 from .support import HERE, PERSONS, PROGRAM, FolderTest, needs_program, present

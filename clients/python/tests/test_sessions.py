@@ -19,7 +19,7 @@ from unittest import mock
 
 import karzhoul
 from karzhoul import Event, LifecycleEvent
-from karzhoul.runs import Run
+from karzhoul.session.runs import Run
 
 from .support import HERE, ORDERS, PERSONS, PROGRAM, ManagerTest, ProgramTest, needs_program, played
 

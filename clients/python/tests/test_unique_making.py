@@ -11,7 +11,8 @@ from typing import Any
 from unittest import mock
 
 import karzhoul
-from karzhoul import NotUnique, factory
+from karzhoul import NotUnique
+from karzhoul.session import factory
 
 from .classed import ClassesTest
 from .support import HERE, PROGRAM, needs_program

@@ -14,7 +14,8 @@ from typing import Any, List
 from unittest import mock
 
 import karzhoul
-from karzhoul import NotUnique, factory
+from karzhoul import NotUnique
+from karzhoul.session import factory
 
 from .classed import ClassesTest
 from .support import PROGRAM, needs_program

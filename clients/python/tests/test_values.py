@@ -20,7 +20,7 @@ import karzhoul
 from karzhoul import Entity, FlushModeType, LifecycleEvent, LockModeType
 from karzhoul.objects import shown
 from karzhoul.refusals import KarzhoulError
-from karzhoul.runs import Run
+from karzhoul.session.runs import Run
 
 from .steps import interrupted_at_step
 from .support import ORDERS, PROGRAM, ManagerTest, counted, needs_program, present

@@ -19,7 +19,7 @@ from .fields import MISSING
 from .values import WrongValue, from_stored, to_stored
 
 if TYPE_CHECKING:
-    from ..factory import EntityManagerFactory
+    from ..session.factory import EntityManagerFactory
 
 _OPEN: WeakKeyDictionary[type, WeakSet[EntityManagerFactory]] = WeakKeyDictionary()
 

@@ -28,8 +28,8 @@ from .lock import Lock, root_of
 from .mapping import UNIQUE, unique_link
 
 if TYPE_CHECKING:
-    from ..managers import EntityManager
-    from ..pending import Due
+    from ..session.managers import EntityManager
+    from ..session.pending import Due
 
 # A longer value is told by its digest.
 _LONGEST = 500

@@ -8,7 +8,7 @@ from pathlib import Path
 from typing import List, Optional
 
 from ..connecting import connect
-from ..factory import EntityManagerFactory, open as opened
+from ..session.factory import EntityManagerFactory, open as opened
 from ..mapping.given import given_of, mapping_data
 from ..jpql.statements import LanguageName
 from ..store.migration import outlook

@@ -7,11 +7,11 @@ import threading
 from contextlib import contextmanager
 from typing import Any, Dict, Iterator, List, Mapping, Optional, Sequence
 
-from ..factory import EntityManagerFactory
+from ..session.factory import EntityManagerFactory
 from ..jpql.statements import Unreadable, parameters_of, statement_of
 from ..wire.lines import line_of, spelled, text_spelled
 from ..queries.lookups import lookups_of
-from ..managers import EntityManager
+from ..session.managers import EntityManager
 from ..refusals import Misused, ProgramEnded, Restarted
 from ..queries.rows import Names
 from ..spelling import row_of_cells

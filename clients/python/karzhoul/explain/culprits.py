@@ -17,13 +17,13 @@ from ..objects.concern import Concern
 from ..mapping.converters import column_value, value_of
 from ..objects.entities import Entity
 from ..wire.lines import LifecycleEvent
-from ..places import Place
+from ..session.places import Place
 from ..refusals import EntityNotFound, KarzhoulError, Refused
 from .texts import value_text
 from ..mapping.unit import EntityDescription, Member, MemberKind, entities_of
 
 if TYPE_CHECKING:
-    from ..factory import EntityManagerFactory
+    from ..session.factory import EntityManagerFactory
 
 Key = Tuple[Any, ...]
 # What a member that can't be read is, and what a link to an object that is gone is.

@@ -16,7 +16,7 @@ from ..refusals import BadLine, KarzhoulError, Refused, Rollback, StoreFault
 from ..mapping.unit import EntityDescription, MemberKind, entities_of
 
 if TYPE_CHECKING:
-    from ..factory import EntityManagerFactory
+    from ..session.factory import EntityManagerFactory
 
 # So many lines are told, and so many characters of each.
 _MOST, _LONGEST = 10, 500

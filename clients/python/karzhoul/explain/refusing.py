@@ -12,7 +12,7 @@ from ..refusals import MARKING, REFUSALS, BadLine, Limit, Refused, StoreFault
 
 if TYPE_CHECKING:
     from ..objects.entities import Event
-    from ..runs import Run
+    from ..session.runs import Run
 
 _WRITTEN = {"PostPersist", "PostUpdate", "PostRemove"}
 _COMMIT, _MERGE = b'{"call":"commit"', b'{"call":"merge"'

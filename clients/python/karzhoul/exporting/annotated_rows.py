@@ -6,7 +6,7 @@ from typing import Any, Callable, Dict, Iterator, List, Mapping, NoReturn, Optio
 
 from ..classes.types import Unfit
 from ..dumping import Stored
-from ..factory import EntityManagerFactory
+from ..session.factory import EntityManagerFactory
 from ..progress import Progress
 from ..records import Key, Record, Value
 from ..refusals import KarzhoulError

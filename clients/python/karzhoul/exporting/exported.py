@@ -11,7 +11,7 @@ from dataclasses import replace
 from pathlib import Path
 from typing import Any, Dict, Iterator, List, Mapping, Optional, Sequence, Tuple
 
-from .. import factory
+from ..session import factory
 from ..classes.mapping import FORMS
 from ..mapping.converters import value_of
 from ..dumping import Stored

@@ -10,7 +10,7 @@ from pathlib import Path
 from types import ModuleType
 from typing import Any, Dict, Iterator, List, Optional
 
-from .. import factory
+from ..session import factory
 from ..classes.mapping import FORMS
 from ..dumping import Stored
 from ..store.finding import find_program

@@ -5,7 +5,7 @@ from __future__ import annotations
 from pathlib import Path
 from typing import Mapping, Optional
 
-from .. import factory
+from ..session import factory
 from ..classes.changes import settle
 from ..classes.mapping import UNIQUE
 from ..refusals import KarzhoulError

@@ -6,8 +6,8 @@ from typing import Any, List, Mapping, NamedTuple
 
 from ..mapping.meant import meant
 from ..classes.types import StoredType
-from ..factory import EntityManagerFactory
-from ..managers import EntityManager
+from ..session.factory import EntityManagerFactory
+from ..session.managers import EntityManager
 from ..records import Key, Record, Shape, named
 from .names import shown, stored_name, whole
 from .sides import Place, Side

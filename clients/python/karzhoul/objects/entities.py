@@ -21,9 +21,9 @@ from .misfits import misfit, unknown
 
 if TYPE_CHECKING:
     from ..classes.binding import Binding
-    from ..factory import EntityManagerFactory
-    from ..managers import EntityManager
-    from ..runs import Run
+    from ..session.factory import EntityManagerFactory
+    from ..session.managers import EntityManager
+    from ..session.runs import Run
     from .shown import Shown
 
 E = TypeVar("E", bound="Entity")

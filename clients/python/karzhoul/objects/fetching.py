@@ -7,7 +7,7 @@ from typing import TYPE_CHECKING, Any, Dict, List, Optional, Sequence, Type
 from .entities import Entity
 
 if TYPE_CHECKING:
-    from ..factory import EntityManagerFactory
+    from ..session.factory import EntityManagerFactory
 
 
 def fetched(

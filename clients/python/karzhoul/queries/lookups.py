@@ -13,7 +13,7 @@ from ..store.program import Program
 from ..refusals import KarzhoulError, ProgramEnded
 
 if TYPE_CHECKING:
-    from ..factory import EntityManagerFactory
+    from ..session.factory import EntityManagerFactory
 
 
 def lookups_of(factory: EntityManagerFactory, text: str, values: Mapping[str, Any]) -> List[str]:

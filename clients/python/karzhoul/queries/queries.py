@@ -14,13 +14,13 @@ from ..refusals import NoResult, Refused
 from .rewriting import ByKey, by_key, counting, is_list, with_lists
 from .rows import Names, Page, Row, Rows, as_row, as_rows
 from ..mapping.unit import entities_of
-from ..warned import warn
+from ..session.warned import warn
 
 if TYPE_CHECKING:
     from ..classes.unique import Keeper
-    from ..factory import EntityManagerFactory
-    from ..pending import Due, Pending
-    from ..runs import Run
+    from ..session.factory import EntityManagerFactory
+    from ..session.pending import Due, Pending
+    from ..session.runs import Run
 
 # By name, or by number for ?1.
 Params = Optional[Union[Mapping[str, Any], Mapping[int, Any]]]

@@ -9,7 +9,7 @@ import time
 from collections import deque
 from typing import Any, Callable, Coroutine, Deque, Dict, List, Optional, Set, Tuple
 
-from ..places import MOST
+from ..session.places import MOST
 from ..store.program import Program
 from ..refusals import KarzhoulError
 from .connection import Connection, Manager

@@ -23,7 +23,7 @@ from typing import (
 from ..refusals import GivenUp, KarzhoulError, ProgramEnded, ProgramNotFound, Restarted, refusal_of
 
 if TYPE_CHECKING:
-    from ..runs import Run
+    from ..session.runs import Run
 
 _PATIENCE = 2.0
 _CHUNK = (1 << 16,)

@@ -18,8 +18,8 @@ from collections import deque
 from typing import TYPE_CHECKING, Deque, Dict, List, Optional
 from weakref import ref
 
-from .refusals import NoFreeManager
-from .wire.tally import MOST_OBJECTS
+from ..refusals import NoFreeManager
+from ..wire.tally import MOST_OBJECTS
 
 if TYPE_CHECKING:
     from .factory import EntityManagerFactory

@@ -17,7 +17,7 @@ import time
 from types import CodeType, FrameType
 from typing import Callable, Optional, Set, TypeVar
 
-from .refusals import KarzhoulError
+from ..refusals import KarzhoulError
 
 F = TypeVar("F", bound=Callable[..., object])
 

@@ -9,22 +9,22 @@ from typing import (
 )
 from weakref import ref
 
-from .objects.concern import Concern
-from .objects.entities import E, EmbeddedId, Entity
-from .objects.fetching import fetched
+from ..objects.concern import Concern
+from ..objects.entities import E, EmbeddedId, Entity
+from ..objects.fetching import fetched
 from .interrupts import begin_of_block, carried_out, end_of_block, guard, unguard
-from .wire.lines import (
+from ..wire.lines import (
     GREATEST, LEAST, FlushModeType, LifecycleEvent, LockModeType, line_of, spelled, text_spelled,
 )
-from .objects.misfits import misfit
+from ..objects.misfits import misfit
 from .pending import Due, Pending
-from .queries.queries import Queries
-from .refusals import KarzhoulError, NoSuchManager, ProgramEnded, Refused, Restarted
+from ..queries.queries import Queries
+from ..refusals import KarzhoulError, NoSuchManager, ProgramEnded, Refused, Restarted
 from .transactions import Attempt, EntityTransaction, attempts
 from .warned import warn
 
 if TYPE_CHECKING:
-    from .classes.unique import Keeper
+    from ..classes.unique import Keeper
     from .places import Place
     from .runs import Run
 
@@ -57,7 +57,7 @@ class EntityManager(Queries, AbstractContextManager["EntityManager"]):
         # What keeps its objects' values unique, where that is asked for.
         self.keeper: Optional[Keeper] = None
         if run.factory.uniques is not None:
-            from .classes.unique import Keeper
+            from ..classes.unique import Keeper
 
             self.keeper = Keeper(self, run.factory.uniques)
         # Whether it is closed as its transaction ends.

@@ -8,7 +8,7 @@ import warnings
 from types import FrameType
 from typing import Optional, Type
 
-_PACKAGE = os.path.dirname(__file__) + os.sep
+_PACKAGE = os.path.dirname(os.path.dirname(__file__)) + os.sep
 
 
 def warn(told: str, kind: Type[Warning]) -> None:

@@ -13,33 +13,33 @@ from typing import (
     Type, TypeVar, Union, overload,
 )
 
-from .objects.arguments import entity_named
+from ..objects.arguments import entity_named
 from .begun import Begun
 from .calls import Calls
-from .jpql.statements import LANGUAGES, LanguageName
-from .objects.kinds import Classes
-from .objects.entities import Attribute, E, Entity, check_names, classes_of
-from .store.finding import find_program
-from .mapping.indexes import Indexes, index_lines
-from .wire.lines import line_of
+from ..jpql.statements import LANGUAGES, LanguageName
+from ..objects.kinds import Classes
+from ..objects.entities import Attribute, E, Entity, check_names, classes_of
+from ..store.finding import find_program
+from ..mapping.indexes import Indexes, index_lines
+from ..wire.lines import line_of
 from .managers import EntityManager
-from .store.memory import MemoryStore, room_words
+from ..store.memory import MemoryStore, room_words
 from .pausing import MOST_ATTEMPTS
 from .places import Place, Places
-from .store.printed import mapping_file
-from .store.program import Program, Words
-from .refusals import (
+from ..store.printed import mapping_file
+from ..store.program import Program, Words
+from ..refusals import (
     BadLine, KarzhoulError, Limit, ProgramEnded, ProgramNotFound, Refused, Restarted, StoreFault,
 )
-from .refusals import Mapping as MappingRefused
+from ..refusals import Mapping as MappingRefused
 from .retrying import Retry
 from .runs import Run
-from .wire.tally import Statistics
+from ..wire.tally import Statistics
 
 if TYPE_CHECKING:
-    from .classes.binding import Binding
-    from .classes.conversions import Conversions
-    from .classes.unique import Uniques
+    from ..classes.binding import Binding
+    from ..classes.conversions import Conversions
+    from ..classes.unique import Uniques
 
 T = TypeVar("T")
 PATIENCE = 10.0
@@ -88,7 +88,7 @@ def open(
     if language is not None and language not in LANGUAGES:
         raise ValueError(f"language is \"profile\" or \"wide\", and not {language!r}")
     if are_classes(mapping):
-        from .classes.changes import open_classes
+        from ..classes.changes import open_classes
 
         def start(said: Mapping[str, Any], binding: Optional[Binding]) -> EntityManagerFactory:
             # Without a binding it is opened for what is done before, which looks nothing up.
@@ -142,7 +142,7 @@ def _opened(
         if store is not None:
             store.close()
         if isinstance(fault, MappingRefused):
-            from .mapping.linter import lint
+            from ..mapping.linter import lint
 
             fault.faults = faults or tuple(map(str, lint(said).findings))
         raise
@@ -168,7 +168,7 @@ def started(
     killed its program still takes a moment to end."""
     if store is not None:
         return _started_at_once(program, said, db, store, language)
-    from .store.opening import Held, held_by
+    from ..store.opening import Held, held_by
 
     until, held = time.monotonic() + PATIENCE, Held.BY_OTHERS
     while True:
@@ -218,7 +218,7 @@ def _store_in_memory() -> MemoryStore:
 def _why_unopened(db: Words, store: Optional[MemoryStore]) -> str:
     if store is not None:
         return room_words(store.folder)
-    from .store.opening import why_unopened
+    from ..store.opening import why_unopened
 
     return f"{os.fspath(db)} can't be opened: {why_unopened(Path(db))}"
 
@@ -262,9 +262,9 @@ class EntityManagerFactory(Calls, AbstractContextManager["EntityManagerFactory"]
         """From now on new objects of its classes are its own, their methods hear of events, and
         what is unique is kept so."""
         assert self.binding is not None
-        from .classes.conversions import Conversions
+        from ..classes.conversions import Conversions
 
-        from .classes.mapping import UNIQUE
+        from ..classes.mapping import UNIQUE
 
         self.uniques = uniques
         if uniques is not None:
@@ -452,7 +452,7 @@ class EntityManagerFactory(Calls, AbstractContextManager["EntityManagerFactory"]
         return Retry(self, most).answer(work)
 
     def _repr_html_(self) -> str:
-        from .notebook import mapping_html
+        from ..notebook import mapping_html
 
         return mapping_html(self.mapping)
 

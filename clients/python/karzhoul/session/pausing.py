@@ -6,7 +6,7 @@ from __future__ import annotations
 import random
 import time
 
-from .refusals import KarzhoulError
+from ..refusals import KarzhoulError
 
 # How often work is done at most, where nothing else is said. Of eight threads that change one
 # object, each attempt is the first to commit about once in eight times where they are in step, and

@@ -10,9 +10,9 @@ from __future__ import annotations
 
 from typing import TYPE_CHECKING, Callable, FrozenSet, Iterator, List, Optional, Set, Tuple, TypeVar
 
-from .objects.entities import Event
-from .wire.lines import LifecycleEvent, line_of
-from .refusals import NoSuchManager, TransactionRequired
+from ..objects.entities import Event
+from ..wire.lines import LifecycleEvent, line_of
+from ..refusals import NoSuchManager, TransactionRequired
 
 if TYPE_CHECKING:
     from .managers import EntityManager

@@ -8,7 +8,7 @@ from typing import TYPE_CHECKING, Optional, Type
 from .interrupts import begin_of_block, end_of_block
 from .managers import EntityManager
 from .places import Place
-from .refusals import Busy, OptimisticLock, Refused, Rollback
+from ..refusals import Busy, OptimisticLock, Refused, Rollback
 from .transactions import is_of_callback
 
 if TYPE_CHECKING:
