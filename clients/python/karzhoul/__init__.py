@@ -21,7 +21,7 @@ from .classes.fields import (
     one_to_many, one_to_one, typed, validates, version,
 )
 from .classes.values import WrongValue
-from .connecting import connect
+from .server.connecting import connect
 from .objects.entities import Collection, EmbeddedId, Entity, Event
 from .session.factory import EntityManagerFactory, open
 from .wire.lines import FlushModeType, LifecycleEvent, LockModeType

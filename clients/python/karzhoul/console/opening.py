@@ -7,7 +7,7 @@ import json
 from pathlib import Path
 from typing import List, Optional
 
-from ..connecting import connect
+from ..server.connecting import connect
 from ..session.factory import EntityManagerFactory, open as opened
 from ..mapping.given import given_of, mapping_data
 from ..jpql.statements import LanguageName

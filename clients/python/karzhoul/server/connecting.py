@@ -19,18 +19,18 @@ from typing import (
     Union,
 )
 
-from .store import program as programs
-from .objects.entities import Entity
-from .session.factory import EntityManagerFactory, are_classes
-from .session.places import Places
-from .store.program import Exchange, Program, ended_within
-from .refusals import (
+from ..store import program as programs
+from ..objects.entities import Entity
+from ..session.factory import EntityManagerFactory, are_classes
+from ..session.places import Places
+from ..store.program import Exchange, Program, ended_within
+from ..refusals import (
     Disconnected, GivenUp, KarzhoulError, NoFreeManager, ProgramEnded, ProgramNotFound, Restarted,
 )
-from .server.way import Tls, Way
+from .way import Tls, Way
 
 if TYPE_CHECKING:
-    from .session.runs import Run
+    from ..session.runs import Run
 
 _REFUSED = b'{"error":{"name":"'
 # What a server itself says of a connection, beside the refusals of the program.
@@ -328,7 +328,7 @@ def connect(
         return start(None, None)
     if not are_classes(classes):
         raise TypeError("classes are given in a list, or as their module")
-    from .classes.changes import open_classes
+    from ..classes.changes import open_classes
 
     return open_classes(classes, lock, True, start)
 
