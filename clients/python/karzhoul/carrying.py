@@ -12,7 +12,7 @@ from pathlib import Path
 from typing import Any, Callable, Dict, Iterator, List, Mapping, Optional, TextIO
 
 from .mapping.meant import meant
-from .asked import Statement, mistakes_in
+from .showing.asked import Statement, mistakes_in
 from .dumping import Stored
 from .session.factory import EntityManagerFactory
 from .mapping.given import mapping_data

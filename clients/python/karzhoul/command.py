@@ -13,7 +13,8 @@ from contextlib import closing
 from pathlib import Path
 from typing import Any, List, Mapping, Optional, Sequence, Union
 
-from . import beginnings, carrying, selecting, show, stubs
+from . import beginnings, carrying, selecting, stubs
+from .showing import tables as show
 from .session import factory
 from .store import migration
 from .classes import printing

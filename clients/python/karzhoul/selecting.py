@@ -14,7 +14,7 @@ from functools import cached_property
 from pathlib import Path
 from typing import Any, Dict, Iterator, List, Mapping, Optional, Sequence, Tuple
 
-from .asked import titles_of
+from .showing.asked import titles_of
 from .objects.entities import Entity
 from .session.factory import open as opened
 from .store.finding import find_program
@@ -28,7 +28,7 @@ from .records import bare
 from .refusals import KarzhoulError, Misused, Refused, StoreFault
 from .refusals import Mapping as MappingRefused
 from .queries.rows import Names
-from .show import grid
+from .showing.tables import grid
 from .explain.texts import value_text
 from .spelling import row_of_cells, said_value, value_cell
 from .mapping.unit import entities_of

@@ -10,7 +10,7 @@ from contextlib import contextmanager, suppress
 from pathlib import Path
 from typing import Any, Callable, Dict, Iterable, Iterator, List, Optional, Sequence, Tuple
 
-from .asked import STATEMENTS, Statement, Teller, mistakes_in, statement_of, words_within
+from .showing.asked import STATEMENTS, Statement, Teller, mistakes_in, statement_of, words_within
 from .objects.concern import Concern
 from .objects.entities import Entity, Event
 from .session.factory import EntityManagerFactory

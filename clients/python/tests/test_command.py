@@ -20,9 +20,9 @@ from unittest import mock
 from xml.etree import ElementTree
 
 import karzhoul
-from karzhoul import show
+from karzhoul.showing import tables as show
 from karzhoul.command import main
-from karzhoul.diagram import diagram
+from karzhoul.showing.diagram import diagram
 from karzhoul.shell import Shell, members_of, usage
 from karzhoul.mapping.unit import entities_of
 
@@ -180,7 +180,7 @@ class Show(WithStore):
             opened.append(app)
             raise KeyboardInterrupt
 
-        with mock.patch("karzhoul.show.tables", interrupted):
+        with mock.patch("karzhoul.showing.tables.tables", interrupted):
             self.assertEqual(self.over("show", self.db), (130, "", "karzhoul: interrupted\n"))
         self.assertIsNotNone(opened[0].program.fault)
         self.assertEqual(self.over("show", self.db)[0], 0)

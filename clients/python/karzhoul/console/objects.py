@@ -4,7 +4,7 @@ from __future__ import annotations
 
 from typing import Any, Dict, List, Mapping, Optional, Sequence
 
-from ..asked import titles_of
+from ..showing.asked import titles_of
 from ..objects.entities import Entity
 from ..session.factory import EntityManagerFactory
 from ..wire.lines import spelled

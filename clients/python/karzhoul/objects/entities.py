@@ -162,7 +162,7 @@ class Entity:
         return _named(self, self._karzhoul_factory.key_at_hand(self))
 
     def _repr_html_(self) -> str:
-        from ..notebook import object_html
+        from ..showing.notebook import object_html
 
         return object_html(self)
 
@@ -411,7 +411,7 @@ class Collection(MutableSequence[E]):
         return f"<{self._name} of {self._entity!r}>"
 
     def _repr_html_(self) -> Optional[str]:
-        from ..notebook import rows_html
+        from ..showing.notebook import rows_html
 
         # In a pipeline nothing is asked.
         is_quiet = self._entity._karzhoul_factory.turn is None

@@ -99,7 +99,7 @@ class Row(List[Any]):
         return self._names.fields
 
     def _repr_html_(self) -> str:
-        from ..notebook import row_html
+        from ..showing.notebook import row_html
 
         return row_html(self, self._fields)
 
@@ -160,7 +160,7 @@ class Rows(List[Any]):
         return self._names.fields
 
     def _repr_html_(self) -> str:
-        from ..notebook import rows_html
+        from ..showing.notebook import rows_html
 
         return rows_html(self, self._fields, self._note())
 

@@ -452,7 +452,7 @@ class EntityManagerFactory(Calls, AbstractContextManager["EntityManagerFactory"]
         return Retry(self, most).answer(work)
 
     def _repr_html_(self) -> str:
-        from ..notebook import mapping_html
+        from ..showing.notebook import mapping_html
 
         return mapping_html(self.mapping)
 

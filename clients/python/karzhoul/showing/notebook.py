@@ -6,13 +6,13 @@ import html
 from typing import TYPE_CHECKING, Any, Dict, List, Mapping, Optional, Sequence
 
 from .diagram import diagram
-from .objects.entities import Entity
-from .refusals import KarzhoulError
-from .explain.texts import value_text
-from .mapping.unit import EntityDescription, MemberKind, entities_of, shown_entities
+from ..objects.entities import Entity
+from ..refusals import KarzhoulError
+from ..explain.texts import value_text
+from ..mapping.unit import EntityDescription, MemberKind, entities_of, shown_entities
 
 if TYPE_CHECKING:
-    from .session.factory import EntityManagerFactory
+    from ..session.factory import EntityManagerFactory
 
 # So many rows are shown, and so many characters of a value.
 MOST_ROWS, MOST_LETTERS = 100, 200

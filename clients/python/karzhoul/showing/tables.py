@@ -8,10 +8,10 @@ from dataclasses import dataclass
 from typing import Any, Dict, List, Sequence, Tuple
 
 from .diagram import diagram
-from .objects.entities import Entity
-from .session.factory import EntityManagerFactory
-from .explain.texts import value_text
-from .mapping.unit import EntityDescription, shown_entities
+from ..objects.entities import Entity
+from ..session.factory import EntityManagerFactory
+from ..explain.texts import value_text
+from ..mapping.unit import EntityDescription, shown_entities
 
 Identity = Tuple[str, Tuple[Any, ...]]
 

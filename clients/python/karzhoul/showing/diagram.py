@@ -6,7 +6,7 @@ import html
 from dataclasses import dataclass
 from typing import Dict, List, Sequence
 
-from .mapping.unit import EntityDescription, Member, MemberKind
+from ..mapping.unit import EntityDescription, Member, MemberKind
 
 _WIDTH, _LINE, _HEAD, _GAP, _MARGIN, _LETTER = 230, 20, 28, 90, 12, 7
 _ACROSS = 3
