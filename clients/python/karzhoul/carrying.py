@@ -13,17 +13,17 @@ from typing import Any, Callable, Dict, Iterator, List, Mapping, Optional, TextI
 
 from .mapping.meant import meant
 from .showing.asked import Statement, mistakes_in
-from .dumping import Stored
+from .records.dumping import Stored
 from .session.factory import EntityManagerFactory
 from .mapping.given import mapping_data
 from .mapping.linter import lint
-from .loading import HEARD, HEARD_OF_CHANGES, Loader
-from .plans import Plan, Terms, checked
-from .progress import Progress
-from .records import Key, Shape, bare, shapes_of
+from .records.loading import HEARD, HEARD_OF_CHANGES, Loader
+from .records.plans import Plan, Terms, checked
+from .records.progress import Progress
+from .records.records import Key, Shape, bare, shapes_of
 from .refusals import KarzhoulError, Misused, ProgramEnded, Refused
-from .sources import RowFault, Source
-from .spelling import FORMAT, Begun, Ended, cells_of, columns_of, line_of_item, row_of_cells
+from .records.sources import RowFault, Source
+from .records.spelling import FORMAT, Begun, Ended, cells_of, columns_of, line_of_item, row_of_cells
 from .mapping.unit import OWN_ENTITIES
 
 WRONG, FAILED, INTERRUPTED = 1, 4, 130

@@ -24,13 +24,13 @@ from .jpql.check import BYTES, INT, TEXT, Kind, check
 from .mapping.linter import lint
 from .store.opening import why_unopened
 from .store.printed import printed
-from .records import bare
+from .records.records import bare
 from .refusals import KarzhoulError, Misused, Refused, StoreFault
 from .refusals import Mapping as MappingRefused
 from .queries.rows import Names
 from .showing.tables import grid
 from .explain.texts import value_text
-from .spelling import row_of_cells, said_value, value_cell
+from .records.spelling import row_of_cells, said_value, value_cell
 from .mapping.unit import entities_of
 
 WRONG, REFUSED = 1, 3

@@ -9,11 +9,11 @@ import unittest
 from unittest import mock
 
 import karzhoul
-from karzhoul import dumping, loading
-from karzhoul.dumping import tops_in_order
-from karzhoul.progress import Progress
-from karzhoul.records import shapes_of
-from karzhoul.writing import Writer
+from karzhoul.records import dumping, loading
+from karzhoul.records.dumping import tops_in_order
+from karzhoul.records.progress import Progress
+from karzhoul.records.records import shapes_of
+from karzhoul.records.writing import Writer
 
 from .carried import CARRIED, Carrying, cells
 from .support import needs_program

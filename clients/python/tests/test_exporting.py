@@ -15,13 +15,13 @@ from functools import partial
 from typing import Any, List, Sequence
 from unittest import mock
 
-from karzhoul import dumping
+from karzhoul.records import dumping
 from karzhoul.session import factory
 from karzhoul.command import main
 from karzhoul.exporting.naming import snake
 from karzhoul.exporting.rows import Row, Rows
 from karzhoul.store.program import Program
-from karzhoul.records import Record
+from karzhoul.records.records import Record
 
 from .carried import CARRIED, Carrying, cells
 from .exports import Exporting, files_of_at_most, rows_of

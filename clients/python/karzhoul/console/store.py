@@ -14,7 +14,7 @@ from ..queries.lookups import lookups_of
 from ..session.managers import EntityManager
 from ..refusals import Misused, ProgramEnded, Restarted
 from ..queries.rows import Names
-from ..spelling import row_of_cells
+from ..records.spelling import row_of_cells
 from ..mapping.unit import EntityDescription, entities_of, shown_entities
 from .answers import Answer, Declined, declined, mistakes_of, refusal_of, said_mistake
 from .cells import Plain, Reference, Unread, kind_of, value_of

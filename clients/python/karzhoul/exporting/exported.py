@@ -14,11 +14,11 @@ from typing import Any, Dict, Iterator, List, Mapping, Optional, Sequence, Tuple
 from ..session import factory
 from ..classes.mapping import FORMS
 from ..mapping.converters import value_of
-from ..dumping import Stored
+from ..records.dumping import Stored
 from ..migrating.sides import Side, mapped
 from ..store.migration import outlook
-from ..progress import Progress
-from ..records import bare
+from ..records.progress import Progress
+from ..records.records import bare
 from ..refusals import KarzhoulError, Misused
 from . import annotated_rows
 from .annotated import Annotated, annotated

@@ -18,7 +18,7 @@ from ..migrating.places import is_whole
 from ..migrating.sides import mapped
 from ..migrating.singles import Singles
 from ..migrating.writing import NewStore, carrying
-from ..progress import Progress
+from ..records.progress import Progress
 from ..refusals import Damaged, KarzhoulError, ProgramEnded
 from .exported import WRONG, check_new, side_of, stopped
 from .naming import Names, given_names

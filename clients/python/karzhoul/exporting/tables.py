@@ -10,7 +10,7 @@ from ..classes.types import Plainly, StoredType
 from ..classes.unique import Uniques
 from ..migrating.forms import plain_type
 from ..migrating.sides import Side
-from ..records import Shape
+from ..records.records import Shape
 from ..mapping.unit import Member
 from .naming import Names, collisions
 

@@ -10,7 +10,7 @@ from ..classes.embedded import Embedded
 from ..classes.types import StoredType
 from ..classes.types import Unfit as UnfitValue
 from ..classes.values import WrongValue
-from ..records import Key, Record, Shape, Unfit, Value, fitting, key_fitting, named
+from ..records.records import Key, Record, Shape, Unfit, Value, fitting, key_fitting, named
 from ..mapping.unit import Member
 from .forms import plain_type
 from .names import check_whole, flattened

@@ -12,12 +12,12 @@ from typing import Any, Dict, Iterator, List, Optional
 
 from ..session import factory
 from ..classes.mapping import FORMS
-from ..dumping import Stored
+from ..records.dumping import Stored
 from ..store.finding import find_program
 from ..mapping.given import WrongMapping
 from ..store.migration import outlook
-from ..progress import Progress
-from ..records import bare
+from ..records.progress import Progress
+from ..records.records import bare
 from ..refusals import Damaged, KarzhoulError, Misused
 from ..refusals import Mapping as MappingRefused
 from .bringing import MOST_FAULTS, Bringer

@@ -13,7 +13,7 @@ from typing import Any, Deque, Dict, List, Mapping, Optional, Tuple
 
 from ..store.opening import what_bars_writing, why_unopened
 from ..store.program import refusal_told
-from ..records import Key, named
+from ..records.records import Key, named
 from ..refusals import KarzhoulError, ProgramEnded, StoreFault
 
 # So many texts of lines wait at most.

@@ -8,7 +8,7 @@ from ..mapping.meant import meant
 from ..classes.types import StoredType
 from ..session.factory import EntityManagerFactory
 from ..session.managers import EntityManager
-from ..records import Key, Record, Shape, named
+from ..records.records import Key, Record, Shape, named
 from .names import shown, stored_name, whole
 from .sides import Place, Side
 

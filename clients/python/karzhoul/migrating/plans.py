@@ -11,7 +11,7 @@ from ..mapping.meant import meant
 from ..classes.declared import Member as ClassMember
 from ..classes.fields import MISSING
 from ..mapping.converters import value_of
-from ..records import Key, Record, Shape, Value
+from ..records.records import Key, Record, Shape, Value
 from ..mapping.unit import OWN_MEMBERS, Member
 from .forms import conversion, keeps, plain_type
 from .sides import Side

@@ -15,7 +15,7 @@ from ..classes.mapping import UNIQUE, gone_name
 from ..classes.types import StoredType
 from ..mapping.given import WrongMapping, given_of
 from ..mapping.linter import lint
-from ..records import Shape, shapes_of
+from ..records.records import Shape, shapes_of
 from ..mapping.unit import OWN_ENTITIES
 from .forms import type_of
 from .names import shown

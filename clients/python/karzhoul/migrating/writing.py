@@ -11,8 +11,8 @@ from typing import Any, Callable, Dict, Iterator, List, Mapping, NamedTuple, Opt
 from typing import Set, Tuple, Union
 
 from ..wire.lines import spelled, text_spelled
-from ..loading import MOST_UNUSED
-from ..records import GREATEST, Key, bare, named
+from ..records.loading import MOST_UNUSED
+from ..records.records import GREATEST, Key, bare, named
 from ..wire.tally import MOST_OBJECTS
 from ..mapping.unit import Member
 from .bringing import Brought

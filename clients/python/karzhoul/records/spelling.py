@@ -8,7 +8,7 @@ from typing import (
     Any, Dict, Iterable, Iterator, List, Mapping, NamedTuple, Optional, Sequence, Tuple, Union,
 )
 
-from .mapping.meant import meant
+from ..mapping.meant import meant
 from .records import Key, Next, Record, Shape, Unfit, Value, fitting, key_fitting
 
 # What the first line of a dump says; no other number is served.

@@ -9,8 +9,8 @@ from __future__ import annotations
 from dataclasses import dataclass, field
 from typing import Any, Collection, Dict, Iterator, List, Mapping, Optional, Tuple, Union
 
-from .explain.texts import value_text
-from .mapping.unit import EntityDescription, Member, MemberKind, entities_of
+from ..explain.texts import value_text
+from ..mapping.unit import EntityDescription, Member, MemberKind, entities_of
 
 Value = Union[None, int, str, bytes]
 Key = Tuple[Value, ...]
