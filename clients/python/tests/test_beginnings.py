@@ -14,8 +14,8 @@ import sys
 import unittest
 from typing import Any, Iterator, Tuple
 
-from karzhoul import beginnings
-from karzhoul.command import main
+from karzhoul.cli import beginnings
+from karzhoul.cli.command import main
 from karzhoul.mapping.linter import Fault, lint
 from karzhoul.mapping.schema import mapping_schema
 

@@ -73,7 +73,7 @@ class Dumps(Carrying):
         self.assertEqual((status, out), (0, f"{file}: 19 objects of 5 entities\n"))
         self.assertEqual(file.read_text(encoding="utf-8"), self.dumped(self.db))
         file.unlink()
-        with mock.patch("karzhoul.carrying.Ended", side_effect=KeyboardInterrupt):
+        with mock.patch("karzhoul.cli.carrying.Ended", side_effect=KeyboardInterrupt):
             self.assertEqual(self.ran("dump", self.db, "-o", file)[0], 130)
         self.assertEqual([path.name for path in self.place.glob("dump*")], [])
 

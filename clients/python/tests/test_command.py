@@ -21,9 +21,9 @@ from xml.etree import ElementTree
 
 import karzhoul
 from karzhoul.showing import tables as show
-from karzhoul.command import main
+from karzhoul.cli.command import main
 from karzhoul.showing.diagram import diagram
-from karzhoul.shell import Shell, members_of, usage
+from karzhoul.cli.shell import Shell, members_of, usage
 from karzhoul.mapping.unit import entities_of
 
 from .support import HERE, PERSONS, PROGRAM, FolderTest, examples, needs_program, played
@@ -305,7 +305,7 @@ class CheckAlone(FolderTest):
             self.assertEqual((status, err), (4, f"karzhoul: {told}\n"))
 
     def test_an_interrupt_is_a_line(self) -> None:
-        with mock.patch("karzhoul.command.lint", side_effect=KeyboardInterrupt):
+        with mock.patch("karzhoul.cli.command.lint", side_effect=KeyboardInterrupt):
             self.assertEqual(alone("check", self.mapping), (130, "", "karzhoul: interrupted\n"))
 
     def test_a_reader_that_has_enough_is_no_fault(self) -> None:

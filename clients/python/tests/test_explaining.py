@@ -9,7 +9,7 @@ from typing import Any, Callable, Iterator, List
 
 import karzhoul
 from karzhoul.explain.line_check import faults_of_line
-from karzhoul.shell import Shell
+from karzhoul.cli.shell import Shell
 
 from .support import PROGRAM, ProgramTest, needs_program
 

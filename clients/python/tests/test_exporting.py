@@ -17,7 +17,7 @@ from unittest import mock
 
 from karzhoul.records import dumping
 from karzhoul.session import factory
-from karzhoul.command import main
+from karzhoul.cli.command import main
 from karzhoul.exporting.naming import snake
 from karzhoul.exporting.rows import Row, Rows
 from karzhoul.store.program import Program

@@ -13,7 +13,7 @@ from typing import Any, Callable, Dict, List, Optional, Sequence, Tuple
 from unittest import mock
 
 import karzhoul
-from karzhoul.command import main
+from karzhoul.cli.command import main
 from karzhoul.store.program import Exchange, Program
 
 from .classed import ClassesTest

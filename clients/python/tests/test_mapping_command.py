@@ -11,7 +11,7 @@ import sys
 from typing import List, Tuple
 from unittest import mock
 
-from karzhoul.command import main
+from karzhoul.cli.command import main
 from karzhoul.mapping.given import given_of
 from karzhoul.mapping.linter import lint
 

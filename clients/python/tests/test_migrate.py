@@ -22,7 +22,7 @@ from unittest import mock
 import karzhoul
 from karzhoul import DeclarationError, NotBroughtOver
 from karzhoul.session import factory
-from karzhoul.command import main
+from karzhoul.cli.command import main
 from karzhoul.migrating.feeding import Feed
 
 from .carried import cells
@@ -584,7 +584,7 @@ def ending(name):
     setattr(os, name, call)
 for name in ("link", "replace", "unlink", "mkdir", "rmdir", "fsync"):
     ending(name)
-from karzhoul.command import main
+from karzhoul.cli.command import main
 sys.exit(main(sys.argv[2:]))
 """
 

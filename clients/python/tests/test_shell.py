@@ -14,8 +14,8 @@ from unittest import mock
 
 import karzhoul
 from karzhoul.showing.asked import statement_of, titles_of
-from karzhoul.command import main
-from karzhoul.shell import Shell
+from karzhoul.cli.command import main
+from karzhoul.cli.shell import Shell
 
 from .carried import CARRIED
 from .support import HERE, PROGRAM, needs_program

@@ -9,7 +9,7 @@ import sys
 from pathlib import Path
 from typing import Any, Dict
 
-from .mapping.schema import mapping_schema
+from ..mapping.schema import mapping_schema
 
 # The mapping with its comments. JSON has none, and so they stand in the page beside it.
 COMMENTED = """\
