@@ -11,8 +11,8 @@ from __future__ import annotations
 import keyword
 from typing import TYPE_CHECKING, Any, Dict, Generic, Iterator, List, Mapping, Set, Tuple, TypeVar
 
-from .objects.entities import EmbeddedId, Entity
 from .mapping.unit import EntityDescription, Member, MemberKind, entities_of
+from .objects.entities import EmbeddedId, Entity
 
 Got = TypeVar("Got", covariant=True)
 Given = TypeVar("Given", contravariant=True)

@@ -11,22 +11,22 @@ from contextlib import contextmanager
 from pathlib import Path
 from typing import Any, Callable, Dict, Iterator, List, Mapping, Optional, TextIO
 
-from ..mapping.meant import meant
-from ..showing.asked import Statement, mistakes_in
-from ..records.dumping import Stored
-from ..session.factory import EntityManagerFactory
 from ..mapping.given import mapping_data
 from ..mapping.linter import lint
+from ..mapping.meant import meant
+from ..mapping.unit import OWN_ENTITIES
+from ..records.dumping import Stored
 from ..records.loading import HEARD, HEARD_OF_CHANGES, Loader
 from ..records.plans import Plan, Terms, checked
 from ..records.progress import Progress
 from ..records.records import Key, Shape, bare, shapes_of
-from ..refusals import KarzhoulError, Misused, ProgramEnded, Refused
 from ..records.sources import RowFault, Source
 from ..records.spelling import (
     FORMAT, Begun, Ended, cells_of, columns_of, line_of_item, row_of_cells,
 )
-from ..mapping.unit import OWN_ENTITIES
+from ..refusals import KarzhoulError, Misused, ProgramEnded, Refused
+from ..session.factory import EntityManagerFactory
+from ..showing.asked import Statement, mistakes_in
 
 WRONG, FAILED, INTERRUPTED = 1, 4, 130
 # Opens the program for a command, over this mapping and this database.

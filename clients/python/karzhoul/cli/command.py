@@ -13,25 +13,25 @@ from contextlib import closing
 from pathlib import Path
 from typing import Any, List, Mapping, Optional, Sequence, Union
 
-from . import beginnings, carrying, selecting
 from .. import stubs
-from ..showing import tables as show
-from ..session import factory
-from ..store import migration
 from ..classes import printing
 from ..classes.mapping import FORMS
 from ..console import command as browsing
 from ..exporting import command as going
-from ..store.finding import find_program
-from ..mapping.given import WrongMapping, given_of, mapping_data
 from ..jpql.statements import LanguageName
+from ..mapping.given import WrongMapping, given_of, mapping_data
 from ..mapping.linter import lint
+from ..mapping.schema import mapping_schema
 from ..migrating import command as bringing_over
-from ..store.opening import why_unopened
 from ..refusals import Damaged, KarzhoulError, Misused
 from ..refusals import Mapping as MappingRefused
-from ..mapping.schema import mapping_schema
 from ..server import command as serving
+from ..session import factory
+from ..showing import tables as show
+from ..store import migration
+from ..store.finding import find_program
+from ..store.opening import why_unopened
+from . import beginnings, carrying, selecting
 
 _MIGRATE = """With --from it brings a database over from the mapping or the classes that it was
 written with to those of --mapping: each object is read, stored in a new file beside the old one,

@@ -14,24 +14,24 @@ from functools import cached_property
 from pathlib import Path
 from typing import Any, Dict, Iterator, List, Mapping, Optional, Sequence, Tuple
 
-from ..showing.asked import titles_of
-from ..objects.entities import Entity
-from ..session.factory import open as opened
-from ..store.finding import find_program
-from ..mapping.given import given_of, mapping_data
-from ..jpql.statements import LanguageName
+from ..explain.texts import value_text
 from ..jpql.check import BYTES, INT, TEXT, Kind, check
+from ..jpql.statements import LanguageName
+from ..mapping.given import given_of, mapping_data
 from ..mapping.linter import lint
-from ..store.opening import why_unopened
-from ..store.printed import printed
+from ..mapping.unit import entities_of
+from ..objects.entities import Entity
+from ..queries.rows import Names
 from ..records.records import bare
+from ..records.spelling import row_of_cells, said_value, value_cell
 from ..refusals import KarzhoulError, Misused, Refused, StoreFault
 from ..refusals import Mapping as MappingRefused
-from ..queries.rows import Names
+from ..session.factory import open as opened
+from ..showing.asked import titles_of
 from ..showing.tables import grid
-from ..explain.texts import value_text
-from ..records.spelling import row_of_cells, said_value, value_cell
-from ..mapping.unit import entities_of
+from ..store.finding import find_program
+from ..store.opening import why_unopened
+from ..store.printed import printed
 
 WRONG, REFUSED = 1, 3
 _QUERY = """Prints the rows that a SELECT finds in a store, as a table. docs/QUERIES.md has the

@@ -10,16 +10,16 @@ from contextlib import contextmanager, suppress
 from pathlib import Path
 from typing import Any, Callable, Dict, Iterable, Iterator, List, Optional, Sequence, Tuple
 
-from ..showing.asked import STATEMENTS, Statement, Teller, mistakes_in, statement_of, words_within
+from ..explain.texts import value_text
+from ..mapping.unit import MemberKind, entities_of
 from ..objects.concern import Concern
 from ..objects.entities import Entity, Event
-from ..session.factory import EntityManagerFactory
-from ..wire.lines import CALLS, FlushModeType, LifecycleEvent, LockModeType, spelled, text_spelled
 from ..refusals import (
     KarzhoulError, NoSuchObject, ProgramEnded, Refused, Rollback, TransactionRequired,
 )
-from ..explain.texts import value_text
-from ..mapping.unit import MemberKind, entities_of
+from ..session.factory import EntityManagerFactory
+from ..showing.asked import STATEMENTS, Statement, Teller, mistakes_in, statement_of, words_within
+from ..wire.lines import CALLS, FlushModeType, LifecycleEvent, LockModeType, spelled, text_spelled
 
 HISTORY = Path.home() / ".karzhoul_history"
 COMMANDS = ("help", "entities", "show", "history", "manager", "quit")

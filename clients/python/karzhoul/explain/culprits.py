@@ -13,14 +13,14 @@ from typing import (
     TYPE_CHECKING, Any, Dict, Iterable, Iterator, List, Mapping, Optional, Sequence, Set, Tuple,
 )
 
-from ..objects.concern import Concern
 from ..mapping.converters import column_value, value_of
-from ..objects.entities import Entity
-from ..wire.lines import LifecycleEvent
-from ..session.places import Place
-from ..refusals import EntityNotFound, KarzhoulError, Refused
-from .texts import value_text
 from ..mapping.unit import EntityDescription, Member, MemberKind, entities_of
+from ..objects.concern import Concern
+from ..objects.entities import Entity
+from ..refusals import EntityNotFound, KarzhoulError, Refused
+from ..session.places import Place
+from ..wire.lines import LifecycleEvent
+from .texts import value_text
 
 if TYPE_CHECKING:
     from ..session.factory import EntityManagerFactory

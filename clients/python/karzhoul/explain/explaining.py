@@ -7,13 +7,13 @@ import json
 from itertools import islice
 from typing import TYPE_CHECKING, Any, Callable, Dict, Iterable, Iterator, Mapping, Optional
 
-from ..mapping.meant import meant
-from .culprits import Culprits
 from ..jpql.check import BYTES, INT, TEXT, Kind, Kinds, check
+from ..mapping.meant import meant
+from ..mapping.unit import EntityDescription, MemberKind, entities_of
+from ..refusals import BadLine, KarzhoulError, Refused, Rollback, StoreFault
+from .culprits import Culprits
 from .line_check import faults_of_line
 from .meanings import meaning
-from ..refusals import BadLine, KarzhoulError, Refused, Rollback, StoreFault
-from ..mapping.unit import EntityDescription, MemberKind, entities_of
 
 if TYPE_CHECKING:
     from ..session.factory import EntityManagerFactory

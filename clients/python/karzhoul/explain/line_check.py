@@ -5,8 +5,8 @@ from __future__ import annotations
 import re
 from typing import Dict, Iterator, List, Optional
 
-from ..mapping.meant import meant
 from ..jpql.statements import LANGUAGES, LanguageName
+from ..mapping.meant import meant
 from ..wire.lines import CALLS, OPTIONAL, OWN_CALLS, FlushModeType, LockModeType
 from ..wire.strict_json import NoJson, Value, read
 

@@ -7,8 +7,8 @@ import re
 from typing import TYPE_CHECKING, Any, Iterable, Mapping, Optional, Sequence, Tuple, Type
 
 from ..objects.concern import Noted
-from .limits import told_apart
 from ..refusals import MARKING, REFUSALS, BadLine, Limit, Refused, StoreFault
+from .limits import told_apart
 
 if TYPE_CHECKING:
     from ..objects.entities import Event

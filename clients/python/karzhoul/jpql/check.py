@@ -11,11 +11,11 @@ from typing import (
     Any, Dict, FrozenSet, List, Mapping, NamedTuple, Optional, Sequence, Tuple, Union,
 )
 
-from . import statements as jpql
 from ..mapping.meant import meant
+from ..mapping.unit import EntityDescription, Member, MemberKind
+from . import statements as jpql
 from .statements import Block, Bulk, LanguageName, Node, Source, Statement, Token
 from .words import syntax_told, unserved
-from ..mapping.unit import EntityDescription, Member, MemberKind
 
 SYNTAX, TYPING, PARAMETER = (f"IllegalArgument({why})" for why in ("syntax", "typing", "parameter"))
 _NO_ORDER = "objects have no order: ORDER BY takes a member of theirs, as p.id"

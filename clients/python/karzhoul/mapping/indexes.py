@@ -6,9 +6,9 @@ import json
 from typing import TYPE_CHECKING, Any, Dict, Iterable, List, Mapping, NamedTuple, Optional, Type
 from typing import Union
 
-from .meant import meant
-from ..wire.lines import line_of, text_spelled
 from ..refusals import Misused
+from ..wire.lines import line_of, text_spelled
+from .meant import meant
 from .unit import MemberKind, entities_of
 
 if TYPE_CHECKING:

@@ -6,11 +6,11 @@ from __future__ import annotations
 from typing import Any, Dict, List
 
 from ..wire.lines import LifecycleEvent
+from ..wire.strict_json import GREATEST_INTEGER, LEAST_INTEGER
 from .linter import MOST_ENTITIES, MOST_KEY_PARTS, MOST_MEMBERS, MOST_NUMBER, REVISIONS
 from .linter.functions import MAKES
 from .linter.rules import SIDES_OF
 from .linter.shapes import FORMS, SIDES, WORDS
-from ..wire.strict_json import GREATEST_INTEGER, LEAST_INTEGER
 
 Schema = Dict[str, Any]
 

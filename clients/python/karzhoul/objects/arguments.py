@@ -4,9 +4,9 @@ from __future__ import annotations
 
 from typing import Any, Mapping, Type, Union
 
-from .entities import Entity
-from ..wire.lines import spelled
 from ..mapping.meant import meant
+from ..wire.lines import spelled
+from .entities import Entity
 
 # The flags of the code of a generator, a coroutine and an asynchronous generator, as `inspect` has
 # them.

@@ -15,8 +15,8 @@ from ..classes.fields import (
     by_value, dataclass_transform, embedded, field, generated, json_text, key, many_to_many,
     many_to_one, money, naive, one_to_many, one_to_one, typed, version,
 )
-from .foresight import Foresight
 from ..wire.lines import LifecycleEvent, line_of, text_spelled
+from .foresight import Foresight
 from .misfits import misfit, unknown
 
 if TYPE_CHECKING:

@@ -7,10 +7,10 @@ import os
 from typing import TYPE_CHECKING, Any, Dict, Iterator, List, Mapping, Sequence, Tuple
 
 from ..objects.entities import Entity
+from ..refusals import KarzhoulError, ProgramEnded
 from ..store.finding import find_program
 from ..store.printed import mapping_file, printed
 from ..store.program import Program
-from ..refusals import KarzhoulError, ProgramEnded
 
 if TYPE_CHECKING:
     from ..session.factory import EntityManagerFactory

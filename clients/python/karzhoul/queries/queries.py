@@ -5,16 +5,16 @@ from __future__ import annotations
 from typing import TYPE_CHECKING, Any, Dict, FrozenSet, Iterator, List, Mapping, NamedTuple
 from typing import Optional, Tuple, Type, Union
 
+from ..jpql.check import check
+from ..mapping.unit import entities_of
 from ..objects.arguments import check_query, item_class, parameter_name, row_limit
 from ..objects.concern import Concern
-from ..jpql.check import check
-from ..wire.lines import line_of, text_spelled
 from ..objects.misfits import misfit, misfit_of
 from ..refusals import NoResult, Refused
+from ..session.warned import warn
+from ..wire.lines import line_of, text_spelled
 from .rewriting import ByKey, by_key, counting, is_list, with_lists
 from .rows import Names, Page, Row, Rows, as_row, as_rows
-from ..mapping.unit import entities_of
-from ..session.warned import warn
 
 if TYPE_CHECKING:
     from ..classes.unique import Keeper

@@ -7,9 +7,9 @@ from typing import Any, Collection, Dict, Iterable, List, Mapping, NamedTuple, O
 from typing import Sequence, Set, Tuple
 
 from ..jpql import statements as jpql
+from ..jpql.statements import Block, LanguageName, Node, read
 from ..mapping.meant import meant
 from ..objects.entities import EmbeddedId, Entity
-from ..jpql.statements import Block, LanguageName, Node, read
 
 _SINGLE = (str, bytes, bytearray, memoryview, Mapping, Entity, EmbeddedId)
 

@@ -6,11 +6,11 @@ from __future__ import annotations
 import heapq
 from typing import Any, Dict, Iterable, Iterator, List, Mapping, Optional, Sequence, Set, Tuple
 
+from ..mapping.unit import Member, entities_of
 from ..objects.entities import Entity
+from ..refusals import Persistence
 from ..session.factory import EntityManagerFactory
 from .records import GREATEST, Key, Next, Record, Shape, Unfit, Value, shapes_of
-from ..refusals import Persistence
-from ..mapping.unit import Member, entities_of
 
 # A query has at most eight variables.
 _LINKS_AT_A_TIME = 7

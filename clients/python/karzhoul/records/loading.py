@@ -4,12 +4,12 @@ from __future__ import annotations
 
 from typing import Any, Callable, Dict, Iterator, List, Mapping, Optional, Sequence, Tuple
 
-from .dumping import Stored
+from ..refusals import Limit, ObjectLimit, OutOfMemory, Persistence, Refused, StoreFault
 from ..session.factory import EntityManagerFactory
 from ..wire.lines import LifecycleEvent
+from .dumping import Stored
 from .plans import Plan, Terms
 from .records import GREATEST, Key, Next, Record, Shape, named, shapes_of
-from ..refusals import Limit, ObjectLimit, OutOfMemory, Persistence, Refused, StoreFault
 from .sources import RowFault, Source
 from .writing import Row, Writer
 

@@ -10,8 +10,8 @@ from contextlib import AbstractContextManager
 from typing import BinaryIO, Iterator, List, Mapping, Optional, Tuple, Union, cast
 
 from ..classes.mapping import UNIQUE
-from .records import Next, Record, Shape, Unfit
 from ..refusals import KarzhoulError
+from .records import Next, Record, Shape, Unfit
 from .spelling import Begun, Column, Ended, Item, UnfitRow, columns_named, item_of_line
 from .spelling import record_of_cells, rows_of_lines
 

@@ -7,10 +7,10 @@ from dataclasses import dataclass
 from typing import Any, Dict, Iterator, List, Optional, Sequence, Tuple
 
 from ..objects.entities import Entity
+from ..refusals import KarzhoulError, Refused
 from ..session.factory import EntityManagerFactory
 from ..wire.lines import FlushModeType, LockModeType, line_of, spelled, text_spelled
 from .records import Key, Record, Shape, Value, shapes_of
-from ..refusals import KarzhoulError, Refused
 
 # The version of an object whose key has several parts is raised by locks, up to so many.
 _MOST_LOCKS = 50

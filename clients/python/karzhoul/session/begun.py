@@ -5,10 +5,10 @@ from __future__ import annotations
 from contextlib import AbstractContextManager
 from typing import TYPE_CHECKING, Optional, Type
 
+from ..refusals import Busy, OptimisticLock, Refused, Rollback
 from .interrupts import begin_of_block, end_of_block
 from .managers import EntityManager
 from .places import Place
-from ..refusals import Busy, OptimisticLock, Refused, Rollback
 from .transactions import is_of_callback
 
 if TYPE_CHECKING:

@@ -16,20 +16,20 @@ from typing import (
     Union,
 )
 
-from ..objects.arguments import check_callback
-from ..objects.kinds import Classes
-from ..objects.entities import E, Entity, Event
-from ..wire.lines import LifecycleEvent, line_of, text_spelled
-from .pending import BEFORE, Due
-from ..store.program import Exchange, Program, of_before
-from ..refusals import BadLine, IllegalState, KarzhoulError, NotServed, Refused, Restarted
 from ..explain.refusing import manager_of
+from ..objects.arguments import check_callback
+from ..objects.entities import E, Entity, Event
+from ..objects.kinds import Classes
+from ..objects.shown import VALUES, Shown
+from ..refusals import BadLine, IllegalState, KarzhoulError, NotServed, Refused, Restarted
+from ..store.program import Exchange, Program, of_before
+from ..wire.lines import LifecycleEvent, line_of, text_spelled
 from ..wire.replies import (
     NULL, are_null, are_silent, is_of_reply, is_restart, loaded_in, numbers_of, objects_in, said_of,
 )
-from .runs import Run
-from ..objects.shown import VALUES, Shown
 from ..wire.tally import Tally
+from .pending import BEFORE, Due
+from .runs import Run
 
 # A callback, the event that it is to be told, and the run and the line of the call that told it.
 _Untold = Tuple[Callable[[Event], None], Event, Run, bytes]

@@ -13,28 +13,28 @@ from typing import (
     Type, TypeVar, Union, overload,
 )
 
-from ..objects.arguments import entity_named
-from .begun import Begun
-from .calls import Calls
 from ..jpql.statements import LANGUAGES, LanguageName
-from ..objects.kinds import Classes
-from ..objects.entities import Attribute, E, Entity, check_names, classes_of
-from ..store.finding import find_program
 from ..mapping.indexes import Indexes, index_lines
-from ..wire.lines import line_of
-from .managers import EntityManager
-from ..store.memory import MemoryStore, room_words
-from .pausing import MOST_ATTEMPTS
-from .places import Place, Places
-from ..store.printed import mapping_file
-from ..store.program import Program, Words
+from ..objects.arguments import entity_named
+from ..objects.entities import Attribute, E, Entity, check_names, classes_of
+from ..objects.kinds import Classes
 from ..refusals import (
     BadLine, KarzhoulError, Limit, ProgramEnded, ProgramNotFound, Refused, Restarted, StoreFault,
 )
 from ..refusals import Mapping as MappingRefused
+from ..store.finding import find_program
+from ..store.memory import MemoryStore, room_words
+from ..store.printed import mapping_file
+from ..store.program import Program, Words
+from ..wire.lines import line_of
+from ..wire.tally import Statistics
+from .begun import Begun
+from .calls import Calls
+from .managers import EntityManager
+from .pausing import MOST_ATTEMPTS
+from .places import Place, Places
 from .retrying import Retry
 from .runs import Run
-from ..wire.tally import Statistics
 
 if TYPE_CHECKING:
     from ..classes.binding import Binding

@@ -12,14 +12,14 @@ from weakref import ref
 from ..objects.concern import Concern
 from ..objects.entities import E, EmbeddedId, Entity
 from ..objects.fetching import fetched
-from .interrupts import begin_of_block, carried_out, end_of_block, guard, unguard
+from ..objects.misfits import misfit
+from ..queries.queries import Queries
+from ..refusals import KarzhoulError, NoSuchManager, ProgramEnded, Refused, Restarted
 from ..wire.lines import (
     GREATEST, LEAST, FlushModeType, LifecycleEvent, LockModeType, line_of, spelled, text_spelled,
 )
-from ..objects.misfits import misfit
+from .interrupts import begin_of_block, carried_out, end_of_block, guard, unguard
 from .pending import Due, Pending
-from ..queries.queries import Queries
-from ..refusals import KarzhoulError, NoSuchManager, ProgramEnded, Refused, Restarted
 from .transactions import Attempt, EntityTransaction, attempts
 from .warned import warn
 

@@ -11,8 +11,8 @@ from __future__ import annotations
 from typing import TYPE_CHECKING, Callable, FrozenSet, Iterator, List, Optional, Set, Tuple, TypeVar
 
 from ..objects.entities import Event
-from ..wire.lines import LifecycleEvent, line_of
 from ..refusals import NoSuchManager, TransactionRequired
+from ..wire.lines import LifecycleEvent, line_of
 
 if TYPE_CHECKING:
     from .managers import EntityManager

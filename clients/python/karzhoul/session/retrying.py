@@ -7,9 +7,9 @@ import threading
 from types import CoroutineType, GeneratorType
 from typing import TYPE_CHECKING, Callable, Optional, TypeVar
 
+from ..refusals import NotUnique, ObjectLimit, ProgramEnded, Refused, Restarted, Rollback
 from .begun import is_too_late
 from .pausing import note_refusals, pause
-from ..refusals import NotUnique, ObjectLimit, ProgramEnded, Refused, Restarted, Rollback
 from .transactions import is_of_callback
 
 if TYPE_CHECKING:

@@ -12,15 +12,15 @@ from typing import (
 )
 from weakref import ref
 
-from ..objects.concern import Noted
-from ..objects.kinds import Classes
-from ..objects.entities import E, Entity, Event
-from ..wire.lines import LifecycleEvent, spelled, text_spelled
-from ..objects.misfits import misfit
-from ..refusals import BadLine, NotServed, Refused, Restarted
 from ..explain.refusing import note_written, refusal_told
-from ..wire.replies import object_in, objects_in, rows_of_values_in, said_of, values_in
+from ..objects.concern import Noted
+from ..objects.entities import E, Entity, Event
+from ..objects.kinds import Classes
+from ..objects.misfits import misfit
 from ..objects.shown import OVER, VALUES, Epoch, Known, Owner, Shown
+from ..refusals import BadLine, NotServed, Refused, Restarted
+from ..wire.lines import LifecycleEvent, spelled, text_spelled
+from ..wire.replies import object_in, objects_in, rows_of_values_in, said_of, values_in
 
 if TYPE_CHECKING:
     from .factory import EntityManagerFactory

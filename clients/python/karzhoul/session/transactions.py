@@ -6,12 +6,12 @@ from contextlib import suppress
 from types import TracebackType
 from typing import TYPE_CHECKING, FrozenSet, Iterator, Optional, Type, Union
 
-from .interrupts import begin_of_block, carried_out, end_of_block, guard, is_guarded, unguard
-from ..wire.lines import line_of
-from .pausing import note_refusals, pause
-from .pending import Due
 from ..refusals import IllegalState, KarzhoulError, NotUnique, ProgramEnded, Restarted, Rollback
 from ..refusals import OptimisticLock
+from ..wire.lines import line_of
+from .interrupts import begin_of_block, carried_out, end_of_block, guard, is_guarded, unguard
+from .pausing import note_refusals, pause
+from .pending import Due
 
 if TYPE_CHECKING:
     from .managers import EntityManager

@@ -5,13 +5,13 @@ from __future__ import annotations
 import re
 from typing import Any, Dict, List, Mapping, NamedTuple, Optional, Sequence
 
-from ..objects.entities import Entity
-from ..session.factory import EntityManagerFactory
-from ..jpql.check import check
-from ..queries.rows import Names
-from .tables import grid
 from ..explain.texts import value_text
+from ..jpql.check import check
 from ..mapping.unit import EntityDescription, Member, MemberKind
+from ..objects.entities import Entity
+from ..queries.rows import Names
+from ..session.factory import EntityManagerFactory
+from .tables import grid
 
 STATEMENTS = ("SELECT", "UPDATE", "DELETE")
 KEYWORDS = (

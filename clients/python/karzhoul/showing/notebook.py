@@ -5,11 +5,11 @@ from __future__ import annotations
 import html
 from typing import TYPE_CHECKING, Any, Dict, List, Mapping, Optional, Sequence
 
-from .diagram import diagram
-from ..objects.entities import Entity
-from ..refusals import KarzhoulError
 from ..explain.texts import value_text
 from ..mapping.unit import EntityDescription, MemberKind, entities_of, shown_entities
+from ..objects.entities import Entity
+from ..refusals import KarzhoulError
+from .diagram import diagram
 
 if TYPE_CHECKING:
     from ..session.factory import EntityManagerFactory

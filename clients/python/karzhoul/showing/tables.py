@@ -7,11 +7,11 @@ import html
 from dataclasses import dataclass
 from typing import Any, Dict, List, Sequence, Tuple
 
-from .diagram import diagram
-from ..objects.entities import Entity
-from ..session.factory import EntityManagerFactory
 from ..explain.texts import value_text
 from ..mapping.unit import EntityDescription, shown_entities
+from ..objects.entities import Entity
+from ..session.factory import EntityManagerFactory
+from .diagram import diagram
 
 Identity = Tuple[str, Tuple[Any, ...]]
 

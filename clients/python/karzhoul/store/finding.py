@@ -9,8 +9,8 @@ import sys
 from pathlib import Path
 from typing import Optional, Set
 
-from .program import Words
 from ..refusals import ProgramNotFound
+from .program import Words
 
 _PACKAGE = Path(__file__).resolve().parents[1]
 # What was said on standard error, so that each is said once.

@@ -5,9 +5,9 @@ from __future__ import annotations
 from dataclasses import dataclass, field
 from typing import Any, Dict, Optional, Set, Tuple
 
-from ..meant import meant
-from ..converters import column_value, value_of
 from ...wire.strict_json import Value
+from ..converters import column_value, value_of
+from ..meant import meant
 from .findings import Fault, Path, Teller
 from .reading import VALUES, Unit, at, has, members, plain_of, text
 

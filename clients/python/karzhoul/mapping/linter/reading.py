@@ -6,8 +6,8 @@ import re
 from dataclasses import dataclass
 from typing import Dict, Iterator, List, Optional, Tuple
 
-from ..converters import Plain
 from ...wire.strict_json import Value
+from ..converters import Plain
 from .findings import Path
 
 VALUES = 'an integer of 64 bits, a text, or bytes as {"hex":"0aff"}'

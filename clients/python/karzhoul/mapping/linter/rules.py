@@ -5,8 +5,8 @@ from __future__ import annotations
 import re
 from typing import Callable, Iterable, Iterator, Sequence, Set, Tuple
 
-from ..converters import MOST_BYTES, length
 from ...wire.lines import LifecycleEvent
+from ..converters import MOST_BYTES, length
 from .findings import Fault, Teller
 from .reading import Placed, Unit, flag, items, plain_of
 from .shapes import SIDES
