@@ -30,8 +30,9 @@ from .refusals import (
     Refused, Restarted, Rollback, StoreFault, StoreInMemory, TextLimit, TransactionRequired,
 )
 from .server.connecting import connect
-from .session.factory import EntityManagerFactory, open
+from .session.factory import EntityManagerFactory
 from .session.managers import EntityManager
+from .session.opening import open
 from .session.transactions import Attempt, EntityTransaction
 from .wire.lines import FlushModeType, LifecycleEvent, LockModeType
 from .wire.tally import Statistics

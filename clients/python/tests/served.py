@@ -9,7 +9,7 @@ import threading
 from pathlib import Path
 from typing import Any, Coroutine, List, Mapping, Optional, Union
 
-from karzhoul.session.factory import started
+from karzhoul.store.starting import started
 from karzhoul.store.program import Program
 from karzhoul.server.files import files_beside
 from karzhoul.server.plain import Listener

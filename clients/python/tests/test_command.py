@@ -257,16 +257,16 @@ class CheckAlone(FolderTest):
         self.addCleanup(nowhere.stop)
 
     def test_it_starts_no_program(self) -> None:
-        with mock.patch("karzhoul.session.factory.open", side_effect=AssertionError):
+        with mock.patch("karzhoul.session.opening.open", side_effect=AssertionError):
             self.assertEqual(alone("check", self.mapping), (0, f"{self.mapping}: good\n", ""))
 
     def test_the_program_is_asked_where_that_is_wanted(self) -> None:
         there_is_none = karzhoul.ProgramNotFound("there is none")
-        with mock.patch("karzhoul.session.factory.find_program", side_effect=there_is_none):
+        with mock.patch("karzhoul.session.opening.find_program", side_effect=there_is_none):
             self.assertEqual(
                 alone("check", "--with-program", self.mapping), (4, "", "karzhoul: there is none\n")
             )
-        with mock.patch("karzhoul.session.factory.open", side_effect=karzhoul.Mapping("model")):
+        with mock.patch("karzhoul.session.opening.open", side_effect=karzhoul.Mapping("model")):
             status, out, _ = alone("check", "--with-program", self.mapping)
         self.assertEqual(
             (status, out),

@@ -21,7 +21,7 @@ from unittest import mock
 
 import karzhoul
 from karzhoul import DeclarationError, NotBroughtOver
-from karzhoul.session import factory
+from karzhoul.store import starting
 from karzhoul.cli.command import main
 from karzhoul.migrating.feeding import Feed
 
@@ -620,7 +620,7 @@ class Stopped(Migrated):
     def done(self) -> Tuple[int, str]:
         """The status of a run and its words, right behind one that was killed, whose program may
         still end."""
-        with mock.patch.object(factory, "PATIENCE", 60):
+        with mock.patch.object(starting, "PATIENCE", 60):
             status, _, err = self.ran(*self.words())
         return status, err
 

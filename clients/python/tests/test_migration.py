@@ -82,7 +82,7 @@ class Told(WithStore):
     def test_a_store_of_persons(self) -> None:
         self.laid("migrate-person-store")
         before = self.db.read_bytes()
-        with mock.patch("karzhoul.session.factory.open", side_effect=AssertionError):
+        with mock.patch("karzhoul.session.opening.open", side_effect=AssertionError):
             self.assertEqual(self.told("--dry-run"), (0, PERSON_STORE, ""))
         self.assertEqual(self.db.read_bytes(), before)
 
@@ -317,7 +317,7 @@ class Asked(WithStore):
             return mock.Mock()
 
         self.opened: List[Tuple[bool, Cells]] = []
-        return mock.patch("karzhoul.session.factory.open", side_effect=opened)
+        return mock.patch("karzhoul.session.opening.open", side_effect=opened)
 
     def test_a_dry_run_over_a_copy(self) -> None:
         self.laid("migrate-person-store")

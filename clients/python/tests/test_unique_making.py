@@ -12,7 +12,7 @@ from unittest import mock
 
 import karzhoul
 from karzhoul import NotUnique
-from karzhoul.session import factory
+from karzhoul.store import starting
 
 from .classed import ClassesTest
 from .support import HERE, PROGRAM, needs_program
@@ -54,7 +54,7 @@ class Making(ClassesTest):
 
     def judge(self, module: Any, count: int) -> None:
         """Each member has its key, and so its value is refused."""
-        with mock.patch.object(factory, "PATIENCE", 60):
+        with mock.patch.object(starting, "PATIENCE", 60):
             app = self.open(module)
         with app:
             with app.begin() as manager:
@@ -90,7 +90,7 @@ class Making(ClassesTest):
 
     def judge_back(self) -> None:
         """The classes of before are opened again over the store, and take what was unique."""
-        with mock.patch.object(factory, "PATIENCE", 60):
+        with mock.patch.object(starting, "PATIENCE", 60):
             app = self.open(STORED)
         with app:
             with app.begin() as manager:

@@ -26,7 +26,8 @@ from ..migrating import command as bringing_over
 from ..refusals import Damaged, KarzhoulError, Misused
 from ..refusals import Mapping as MappingRefused
 from ..server import command as serving
-from ..session import factory
+from ..session import opening
+from ..session.factory import EntityManagerFactory
 from ..showing import tables as show
 from ..store import migration
 from ..store.finding import find_program
@@ -271,7 +272,7 @@ def _refusal(mapping: Any, db: Optional[Path], program: Optional[str]) -> Option
     """What the program says of a well-formed mapping, over a database if one is named, where it
     refuses it."""
     try:
-        factory.open(mapping, db, program=program).close()
+        opening.open(mapping, db, program=program).close()
     except (MappingRefused, Damaged) as refused:
         return str(refused)
     return None
@@ -376,7 +377,7 @@ def _copy(db: Path, copy: Path) -> None:
         source.backup(target)
 
 
-def _opened(said: argparse.Namespace) -> factory.EntityManagerFactory:
+def _opened(said: argparse.Namespace) -> EntityManagerFactory:
     """The unit over the mapping and the database that a command names."""
     given = given_of(said.mapping)
     if isinstance(given, str):
@@ -387,13 +388,13 @@ def _opened(said: argparse.Namespace) -> factory.EntityManagerFactory:
 def _opened_over(
     said: argparse.Namespace, mapping: Union[str, Mapping[str, Any]], db: Optional[str],
     is_wide: bool = False,
-) -> factory.EntityManagerFactory:
+) -> EntityManagerFactory:
     """The unit over a mapping and a database, whose queries are in the language that is said, else
     in that of a mapping, or the wide one."""
     language: Optional[LanguageName] = getattr(said, "language", None)
     if language is None and is_wide:
         language = "wide"
-    return factory.open(mapping, db, program=said.program, language=language)
+    return opening.open(mapping, db, program=said.program, language=language)
 
 
 def _there(db: str) -> Path:

@@ -26,7 +26,7 @@ from ..records.records import bare
 from ..records.spelling import row_of_cells, said_value, value_cell
 from ..refusals import KarzhoulError, Misused, Refused, StoreFault
 from ..refusals import Mapping as MappingRefused
-from ..session.factory import open as opened
+from ..session.opening import open as opened
 from ..showing.asked import titles_of
 from ..showing.tables import grid
 from ..store.finding import find_program

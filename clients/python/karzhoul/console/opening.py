@@ -8,7 +8,8 @@ from pathlib import Path
 from typing import List, Optional
 
 from ..server.connecting import connect
-from ..session.factory import EntityManagerFactory, open as opened
+from ..session.factory import EntityManagerFactory
+from ..session.opening import open as opened
 from ..mapping.given import given_of, mapping_data
 from ..jpql.statements import LanguageName
 from ..store.migration import outlook

@@ -18,7 +18,6 @@ from ..mapping.unit import EntityDescription, Member, MemberKind, entities_of
 from ..objects.concern import Concern
 from ..objects.entities import Entity
 from ..refusals import EntityNotFound, KarzhoulError, Refused
-from ..session.places import Place
 from ..wire.lines import LifecycleEvent
 from .texts import value_text
 
@@ -196,7 +195,7 @@ class Culprits:
     def _asked(self, text: str, key: Key) -> List[List[Any]]:
         """The first rows of a query for a key, as lists."""
         params = {f"k{place}": part for place, part in enumerate(key)}
-        with self._factory._created(Place(True), at_once=True) as manager:
+        with self._factory._managers.at_once() as manager:
             rows = manager.query(text, params=params, max=_MOST_ROWS)
         return [row if isinstance(row, list) else [row] for row in rows]
 

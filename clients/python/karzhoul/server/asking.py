@@ -8,7 +8,7 @@ from contextlib import contextmanager, suppress
 from pathlib import Path
 from typing import Any, BinaryIO, Dict, Iterator, List
 
-from ..session.factory import started
+from ..store.starting import started
 from ..store.program import Words
 from ..refusals import KarzhoulError
 from .way import Way

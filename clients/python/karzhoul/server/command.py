@@ -8,7 +8,8 @@ import os
 from pathlib import Path
 from typing import Any, Optional, Sequence, Tuple
 
-from ..session.factory import open as opened, started
+from ..session.opening import open as opened
+from ..store.starting import started
 from ..store.finding import find_program
 from ..mapping.given import WrongMapping, given_of
 from ..mapping.indexes import index_lines, named_in_words

@@ -21,7 +21,8 @@ from typing import (
 
 from ..store import program as programs
 from ..objects.entities import Entity
-from ..session.factory import EntityManagerFactory, are_classes
+from ..session.factory import EntityManagerFactory
+from ..session.opening import are_classes
 from ..session.places import Places
 from ..store.program import Exchange, Program, ended_within
 from ..refusals import (
@@ -316,7 +317,7 @@ def connect(
                 index_lines=[] if binding is None else binding.index_lines(),
             )
             app._again = lambda: _again_of(app)
-            app._wait = wait
+            app._managers.wait = wait
             if threads:
                 app._places = Places(app, wait)
             return app

@@ -34,7 +34,7 @@ class Begun(AbstractContextManager["EntityManager"]):
 
     @begin_of_block
     def __enter__(self) -> EntityManager:
-        manager = self._manager = self._factory._created(Place(True))
+        manager = self._manager = self._factory._managers.created(Place(True))
         try:
             manager.__enter__()
             manager.transaction().__enter__()
