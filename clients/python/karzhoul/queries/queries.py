@@ -2,6 +2,7 @@
 
 from __future__ import annotations
 
+import warnings
 from typing import TYPE_CHECKING, Any, Dict, FrozenSet, Iterator, List, Mapping, NamedTuple
 from typing import Optional, Tuple, Type, Union
 
@@ -11,7 +12,6 @@ from ..objects.arguments import check_query, item_class, parameter_name, row_lim
 from ..objects.concern import Concern
 from ..objects.misfits import misfit, misfit_of
 from ..refusals import NoResult, Refused
-from ..session.warned import warn
 from ..wire.lines import line_of, text_spelled
 from .rewriting import ByKey, by_key, counting, is_list, with_lists
 from .rows import Names, Page, Row, Rows, as_row, as_rows
@@ -26,6 +26,8 @@ if TYPE_CHECKING:
 Params = Optional[Union[Mapping[str, Any], Mapping[int, Any]]]
 Limit = Optional[int]
 Result = Union[None, str, Type[Any]]
+# Beyond `_seconds` and `_asked`, and the call that the application makes.
+_ABOVE = 4
 
 
 class Queries:
@@ -81,9 +83,7 @@ class Queries:
         **named: Any,
     ) -> Any:
         """The one row of a query; else `NoResult` or `NonUniqueResult`."""
-        asked = self._asked(text, result_class, params, end_program_after, named)
-        row = asked.answers([asked.line("querySingle", first, max)], is_one=True)[0]
-        return as_row(row, Names(text))
+        return self._asked(text, result_class, params, end_program_after, named).one(first, max)
 
     one = query_single
 
@@ -97,10 +97,9 @@ class Queries:
         **named: Any,
     ) -> Any:
         """The one row of a query, or None where there is none; else `NonUniqueResult`."""
+        asked = self._asked(text, result_class, params, end_program_after, named)
         try:
-            return self.one(
-                text, result_class, params=params, end_program_after=end_program_after, **named
-            )
+            return asked.one(None, None)
         except NoResult:
             return None
 
@@ -218,7 +217,8 @@ class Queries:
         seconds: Optional[float],
         named: Dict[str, Any],
     ) -> _Asked:
-        """A query that is asked so, which is refused here where it is none."""
+        """A query that is asked so, which is refused here where it is none. Who calls this is called
+        by the application, whose line a warning names."""
         seconds = _seconds(seconds, named)
         check_query(text, result_class, params)
         given = _given(params, named) if named or params is not None else None
@@ -311,6 +311,11 @@ class _Asked(NamedTuple):
 
         return manager._pending.before(ask, timeout) if manager._flushes_before() else ask()
 
+    def one(self, first: Limit, most: Limit) -> Any:
+        """Its one row."""
+        row = self.answers([self.line("querySingle", first, most)], is_one=True)[0]
+        return as_row(row, Names(self.text))
+
     def rows(self, first: Limit, most: Limit) -> Rows:
         """Its rows, from the first on and at most so many."""
         names = Names(self.text)
@@ -356,7 +361,7 @@ def _seconds(given: Optional[float], named: Dict[str, Any]) -> Optional[float]:
             raise TypeError("timeout is the former name of end_program_after: both are given")
         word, given = "timeout", former
         told = "timeout ends the program for all threads, and is called end_program_after now"
-        warn(told, DeprecationWarning)
+        warnings.warn(told, DeprecationWarning, stacklevel=_ABOVE)
     if given is not None and not given > 0:
         raise ValueError(f"{word}={given!r} is no number of seconds above 0")
     return given

@@ -7,7 +7,7 @@ from typing import TYPE_CHECKING, Optional, Type
 
 from ..refusals import Busy, OptimisticLock, Refused, Rollback
 from .interrupts import begin_of_block, end_of_block
-from .managers import EntityManager
+from .managers import OWN_BLOCK, EntityManager
 from .places import Place
 from .transactions import is_of_callback
 
@@ -19,8 +19,9 @@ class Begun(AbstractContextManager["EntityManager"]):
     """The block of `EntityManagerFactory.begin`. Its end commits, or rolls back where the block
     raises, and closes the manager."""
 
-    def __init__(self, factory: EntityManagerFactory) -> None:
-        self._factory = factory
+    def __init__(self, factory: EntityManagerFactory, above: int = 0) -> None:
+        """With how many calls of this package are above the block."""
+        self._factory, self._level = factory, OWN_BLOCK + 1 + above
         self._manager: Optional[EntityManager] = None
 
     if not TYPE_CHECKING:
@@ -36,6 +37,7 @@ class Begun(AbstractContextManager["EntityManager"]):
     def __enter__(self) -> EntityManager:
         manager = self._manager = self._factory._managers.created(Place(True))
         try:
+            manager._level = self._level
             manager.__enter__()
             manager.transaction().__enter__()
         except BaseException as fault:

@@ -4,13 +4,11 @@ are of, and what comes of them is told."""
 from __future__ import annotations
 
 import re
-import sys
 import threading
 from collections import deque
 from contextlib import contextmanager, suppress
 from copy import copy
 from time import perf_counter
-from types import FrameType
 from typing import (
     Any, Callable, Deque, Dict, FrozenSet, Iterator, List, Mapping, Optional, Sequence, Tuple, Type,
     Union,
@@ -25,7 +23,7 @@ from ..refusals import BadLine, IllegalState, KarzhoulError, NotServed, Refused,
 from ..store.program import Exchange, Program, of_before
 from ..wire.lines import LifecycleEvent, line_of, text_spelled
 from ..wire.replies import (
-    NULL, are_null, are_silent, is_of_reply, is_restart, loaded_in, numbers_of, objects_in, said_of,
+    NULL, are_null, are_silent, is_restart, loaded_in, numbers_of, objects_in, said_of,
 )
 from ..wire.tally import Tally
 from .pending import BEFORE, Due
@@ -36,8 +34,9 @@ _Untold = Tuple[Callable[[Event], None], Event, Run, bytes]
 _taken_off: Callable[[Deque[_Untold]], _Untold] = deque.popleft
 # What a server takes for both of a block's first calls.
 _BEGIN = b'{"serve":"begin"}'
+# What the reading of no reply raises.
+_UNREADABLE = (AttributeError, LookupError, TypeError, ValueError)
 _CREATE, RESTART = line_of("createEntityManager", {}), line_of("restart", {})
-_REPLIES = Program.replies.__code__
 
 
 class _Calls(Exchange):
@@ -113,8 +112,9 @@ class Calls:
         self._lock = threading.RLock()
         # It rises with each call.
         self._turn = 0
-        # Held where the thread that holds the lock is in a pipeline.
+        # Held where the thread that holds the lock is in a pipeline, and where it waits for replies.
         self._pipeline = threading.RLock()
+        self._waiting = threading.RLock()
         # The calls that aren't done: those that were told in a pipeline, or those that are under
         # way, which an interrupt may have left.
         self._calls: Optional[_Calls] = None
@@ -403,12 +403,7 @@ class Calls:
 
     def _is_within(self) -> bool:
         """Whether a call of this thread waits for its replies."""
-        frame: Optional[FrameType] = sys._getframe(1)
-        while frame is not None:
-            if frame.f_code is _REPLIES and frame.f_locals["self"] is self.program:
-                return True
-            frame = frame.f_back
-        return False
+        return bool(self._waiting._is_owned())  # type: ignore[attr-defined]
 
     def _answers(self, calls: _Calls, timeout: Optional[float] = None) -> List[Any]:
         """The answers to calls, which are over with it. Their events are told first, and then the
@@ -434,17 +429,15 @@ class Calls:
         if is_noted:
             self._take_note(calls, replies)
         try:
-            kind = None
-            if calls.entity and calls.lines:
-                kind = self._lowest.get(calls.entity) or self._new.get(calls.lines[0])
-            answers = self._at_once(run, calls, replies, kind, timeout)
+            answers = self._at_once(run, calls, replies, timeout)
             if answers is not None:
                 self._calls = None
                 return answers
-            heard = self._heard(run, calls, replies, kind, timeout)
-        except (AttributeError, LookupError, TypeError, ValueError) as fault:
-            if is_of_reply(fault):
-                self._calls = None  # What is no reply is none the next time either.
+            heard = self._heard(run, calls, replies, timeout)
+        except _UNREADABLE:
+            # By what is no reply, or by a handler of a signal.
+            if self._is_unreadable(run, calls, replies, timeout):
+                self._calls = None
             raise
         if calls.untold is None:
             calls.untold = iter(self._to_be_told(run, calls, heard))
@@ -460,12 +453,30 @@ class Calls:
             raise raised[0]
         return [answer for answer, _ in heard]
 
+    def _is_unreadable(
+        self, run: Run, calls: _Calls, replies: List[bytes], timeout: Optional[float]
+    ) -> bool:
+        """Whether what came is no reply: then it is none when it is read again."""
+        try:
+            self._heard(run, calls, replies, timeout)
+            return False
+        except KarzhoulError:  # Of the program, that was asked for classes.
+            return False
+        except _UNREADABLE:
+            return True
+
+    def _kind_of(self, calls: _Calls) -> Optional[Type[Entity]]:
+        """The class of the objects in the answers to calls, where that can be no other one."""
+        if calls.entity and calls.lines:
+            return self._lowest.get(calls.entity) or self._new.get(calls.lines[0])
+        return None
+
     def _at_once(
-        self, run: Run, calls: _Calls, replies: List[bytes], kind: Optional[Type[Entity]],
-        timeout: Optional[float],
+        self, run: Run, calls: _Calls, replies: List[bytes], timeout: Optional[float]
     ) -> Optional[List[Any]]:
         """What most calls answer, an object each or null, with no event to be told; None where it
         is anything else."""
+        kind = self._kind_of(calls)
         if calls.entity and not self._untold:
             numbers = numbers_of(replies)
             if numbers is not None and (kind is not None or run.are_known(numbers)):
@@ -525,12 +536,11 @@ class Calls:
             pass  # The manager or its program is gone, and so is what it was told.
 
     def _heard(
-        self, run: Run, calls: _Calls, replies: List[bytes], kind: Optional[Type[Entity]],
-        timeout: Optional[float],
+        self, run: Run, calls: _Calls, replies: List[bytes], timeout: Optional[float]
     ) -> List[Tuple[Any, Tuple[Event, ...]]]:
         """The answer to each line, or its refusal, and its events. Where the class of an object
         isn't known, the program is asked for it, and for its values with it."""
-        told = self.heard
+        told, kind = self.heard, self._kind_of(calls)
         each = [(line, reply, said_of(reply)) for line, reply in zip(calls.lines, replies)]
         unknown = [number for it in each for number in run.hear(*it, kind, told)]
         places: Dict[int, Shown] = {}
@@ -619,7 +629,8 @@ class Calls:
             return calls.replies
         began = perf_counter()
         try:
-            replies = self.program.replies(calls, timeout)
+            with self._waiting:
+                replies = self.program.replies(calls, timeout)
         except KarzhoulError as fault:
             if isinstance(fault, Restarted):  # They weren't sent, and never will be.
                 self._calls = None

@@ -2,6 +2,7 @@
 
 from __future__ import annotations
 
+import warnings
 from contextlib import AbstractContextManager
 from typing import (
     TYPE_CHECKING, Any, Dict, FrozenSet, Iterable, Iterator, List, Optional, Tuple, Type, Union,
@@ -21,7 +22,6 @@ from ..wire.lines import (
 from .interrupts import begin_of_block, carried_out, end_of_block, guard, unguard
 from .pending import Due, Pending
 from .transactions import Attempt, EntityTransaction, attempts
-from .warned import warn
 
 if TYPE_CHECKING:
     from ..classes.unique import Keeper
@@ -38,6 +38,9 @@ _DUE = {
 }
 # So many objects are named.
 _NAMED = 5
+# How many calls above `_end` the application is, at the end of a manager's block: beyond
+# `_end_block`, `carried_out` and `__exit__`. Other blocks add their own.
+OWN_BLOCK = 5
 
 
 class EntityManager(Queries, AbstractContextManager["EntityManager"]):
@@ -60,6 +63,7 @@ class EntityManager(Queries, AbstractContextManager["EntityManager"]):
             from ..classes.unique import Keeper
 
             self.keeper = Keeper(self, run.factory.uniques)
+        self._level = OWN_BLOCK
         # Whether it is closed as its transaction ends.
         self._is_settled = False
         run.opened[number] = ref(self)
@@ -80,7 +84,7 @@ class EntityManager(Queries, AbstractContextManager["EntityManager"]):
             carried_out(self._transaction._roll_back)
         finally:
             try:
-                carried_out(self.close)
+                carried_out(self._end_block)
             except (NoSuchManager, ProgramEnded, Restarted):
                 pass  # It was closed in the block, or has ended with its program.
             except KarzhoulError:
@@ -269,6 +273,13 @@ class EntityManager(Queries, AbstractContextManager["EntityManager"]):
         """Ends the manager, which owns no open transaction. What was persisted, removed, merged or
         set outside of a transaction, and in none since, is lost then: a `RuntimeWarning` says so,
         and names it."""
+        self._end(3)
+
+    def _end_block(self) -> None:
+        self._end(self._level)
+
+    def _end(self, level: int) -> None:
+        """Closes it. A warning names the line of the application, so many calls above."""
         try:
             self.factory.tell_kept()
             lost = self._lost()
@@ -281,7 +292,7 @@ class EntityManager(Queries, AbstractContextManager["EntityManager"]):
             raise
         self._give_place_back()
         if lost:
-            warn(_LOST.format(lost), RuntimeWarning)
+            warnings.warn(_LOST.format(lost), RuntimeWarning, stacklevel=level)
 
     def _lost(self) -> str:
         """What a close loses, in words."""

@@ -8,7 +8,7 @@ from types import CoroutineType, GeneratorType
 from typing import TYPE_CHECKING, Callable, Optional, TypeVar
 
 from ..refusals import NotUnique, ObjectLimit, ProgramEnded, Refused, Restarted, Rollback
-from .begun import is_too_late
+from .begun import Begun, is_too_late
 from .pausing import note_refusals, pause
 from .transactions import is_of_callback
 
@@ -21,6 +21,8 @@ _LATE = (
     "the work gave a {kind}, which would run after its transaction has ended: let it be an "
     "ordinary function, and give a list"
 )
+# From a block to the application: `_Attempt.answer`, `Retry.answer`, `EntityManagerFactory.retry`.
+_ABOVE = 3
 
 
 class Retry:
@@ -63,7 +65,7 @@ class _Attempt:
         self._manager: Optional[EntityManager] = None
 
     def answer(self, work: Callable[[EntityManager], T]) -> T:
-        with self._factory.begin() as manager:
+        with Begun(self._factory, _ABOVE) as manager:
             self._manager, self._program = manager, self._factory.program
             self._made = manager._run.made
             answer = work(manager)

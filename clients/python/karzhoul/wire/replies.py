@@ -3,7 +3,6 @@
 from __future__ import annotations
 
 import json
-import os
 import re
 from contextlib import suppress
 from typing import Any, Dict, List, Optional, Set, Tuple
@@ -27,8 +26,6 @@ _SHOWN = b'{"events":[],"ok":[' + _ENTITY
 _LOADS, _LOADS_BETWEEN = b'{"events":[["PostLoad",', b'],["PostLoad",'
 _ROWS, _ROWS_BETWEEN, _ROWS_END = b']],"ok":[{"object":', b'},{"object":', b"}]}"
 _decode = json.JSONDecoder().raw_decode
-# Where the code is that reads replies.
-_READERS = (os.path.dirname(os.path.dirname(__file__)), os.path.dirname(json.__file__))
 
 
 def are_silent(replies: List[bytes]) -> bool:
@@ -152,15 +149,6 @@ def said_of(reply: bytes) -> Dict[str, Any]:
 def objects_in(reply: bytes) -> List[int]:
     """The numbers of the objects in an answer. (A quote within a text is escaped.)"""
     return list(map(int, _OBJECT.findall(reply))) if b'{"object":' in reply else []
-
-
-def is_of_reply(fault: Exception) -> bool:
-    """Whether a fault was raised by the reading of a reply, and not by a handler of a signal."""
-    trace = fault.__traceback__
-    while trace is not None and trace.tb_next is not None:
-        trace = trace.tb_next
-    place = os.path.dirname(trace.tb_frame.f_code.co_filename) if trace is not None else ""
-    return place.startswith(_READERS)
 
 
 def is_restart(line: str) -> bool:
