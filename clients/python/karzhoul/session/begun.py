@@ -51,8 +51,8 @@ class Begun(AbstractContextManager["EntityManager"]):
             # (No call of another function comes first, which could be interrupted.)
             if self._manager is not None:
                 # Nothing is set between its transaction's end and its own, but by callbacks.
-                is_settled = self._manager._transaction.is_active and not self._factory._callbacks
-                self._manager._is_settled = is_settled
+                is_active = self._manager._transaction.is_active
+                self._manager._is_settled = is_active and not self._factory._events.callbacks
                 self._manager._transaction.__exit__(kind)
         except BaseException as refused:
             kind = refused.__class__

@@ -5,17 +5,15 @@ from __future__ import annotations
 
 import re
 import threading
-from collections import deque
 from contextlib import contextmanager, suppress
 from copy import copy
 from time import perf_counter
 from typing import (
-    Any, Callable, Deque, Dict, FrozenSet, Iterator, List, Mapping, Optional, Sequence, Tuple, Type,
+    Any, Callable, Dict, FrozenSet, Iterator, List, Mapping, Optional, Sequence, Tuple, Type,
     Union,
 )
 
 from ..explain.refusing import manager_of
-from ..objects.arguments import check_callback
 from ..objects.entities import E, Entity, Event
 from ..objects.kinds import Classes
 from ..objects.shown import VALUES, Shown
@@ -26,12 +24,10 @@ from ..wire.replies import (
     NULL, are_null, are_silent, is_restart, loaded_in, numbers_of, objects_in, said_of,
 )
 from ..wire.tally import Tally
-from .pending import BEFORE, Due
+from .events import Events, Untold
+from .pending import Due
 from .runs import Run
 
-# A callback, the event that it is to be told, and the run and the line of the call that told it.
-_Untold = Tuple[Callable[[Event], None], Event, Run, bytes]
-_taken_off: Callable[[Deque[_Untold]], _Untold] = deque.popleft
 # What a server takes for both of a block's first calls.
 _BEGIN = b'{"serve":"begin"}'
 # What the reading of no reply raises.
@@ -54,7 +50,7 @@ class _Calls(Exchange):
     ran: FrozenSet[Due] = frozenset()
     # Whether no callback is told of them, and a refusal is an answer: nothing of them lasts.
     is_quiet = False
-    untold: Optional[Iterator[_Untold]] = None
+    untold: Optional[Iterator[Untold]] = None
     # Their replies, once all have come: these are counted once, whatever is interrupted.
     replies: Optional[List[bytes]] = None
     # Whether another run is on once they are done.
@@ -112,23 +108,16 @@ class Calls:
         self._lock = threading.RLock()
         # It rises with each call.
         self._turn = 0
-        # Held where the thread that holds the lock is in a pipeline, and where it waits for replies.
+        # Held where the thread that holds the lock is in a pipeline, and where it waits for
+        # replies.
         self._pipeline = threading.RLock()
         self._waiting = threading.RLock()
         # The calls that aren't done: those that were told in a pipeline, or those that are under
         # way, which an interrupt may have left.
         self._calls: Optional[_Calls] = None
-        self._callbacks: List[Tuple[Callable[[Event], None], FrozenSet[LifecycleEvent]]] = []
-        self._untold: Deque[_Untold] = deque()
-        self._is_telling = False
+        self._events = Events(self._mark)
         # Managers of a run, by their numbers, that are open and that nobody has.
         self._left: List[Tuple[Run, int]] = []
-        # The names of the events that callbacks hear of; and whether one of these comes before a
-        # flush writes.
-        self.heard: FrozenSet[str] = frozenset()
-        self.hears_before = False
-        # The classes of objects that no callback hears of.
-        self.hidden: FrozenSet[Type[Entity]] = frozenset()
 
     @property
     def _kinds(self) -> Classes:
@@ -148,11 +137,7 @@ class Calls:
         All other events come when their call is done. What the callback raises then is raised by
         that call. A coroutine or a generator, which would do nothing, is a `TypeError`.
         """
-        check_callback(callback)
-        kinds = frozenset(map(LifecycleEvent, events or LifecycleEvent))
-        self._callbacks.append((callback, kinds))
-        self.heard |= {kind.value for kind in kinds}
-        self.hears_before = self.hears_before or bool(kinds & BEFORE)
+        self._events.listen(callback, *events)
 
     @property
     def turn(self) -> Optional[int]:
@@ -205,7 +190,7 @@ class Calls:
             self._calls = calls
             self._turn += 1
             replies = self._replies(calls, None)
-            if not self._callbacks and not self._untold:
+            if not self._is_heard():
                 found = (calls.run or self._run).one(replies[0], kind, manager)
                 if found is not None:
                     self._calls = None
@@ -220,7 +205,7 @@ class Calls:
         that the object is loaded, and read then, its values are asked for at once, by the number
         that is the next to be given. They are taken where the reply tells that number."""
         foresight = kind._karzhoul_foresight
-        if not foresight.is_on or self._callbacks or self._untold:
+        if not foresight.is_on or self._is_heard():
             return self.ask_object(run, line, kind, manager)
         with self._lock:
             while self._calls:  # As in `ask_lines`.
@@ -234,8 +219,8 @@ class Calls:
             if self._calls is not calls:  # As in `_shown`.
                 run.known.forget()
             replies = self._replies(calls, None)
-            is_heard = self._callbacks or self._untold  # As of a thread that listens meanwhile.
-            found = None if is_heard else run.one_shown(replies, kind, places)
+            # As of a thread that listens meanwhile.
+            found = None if self._is_heard() else run.one_shown(replies, kind, places)
             if found is not None:
                 if not foresight.is_sure:
                     foresight.note(True)
@@ -275,7 +260,7 @@ class Calls:
         """Does the call of a line whose reply nobody needs to wait for, where that is of use;
         whether it was done."""
         with self._lock:
-            if self._calls or self._callbacks or not self.program.let_go(run, line):
+            if self._calls or self._events.callbacks or not self.program.let_go(run, line):
                 return False
             self._turn += 1
             self._tally.note([line], NULL, 0.0)
@@ -387,9 +372,13 @@ class Calls:
             # Else it is a refusal that nobody waits for; an end of the program is told by the next
             # call too.
 
+    def _is_heard(self) -> bool:
+        """Whether someone hears of events, or some are untold."""
+        return bool(self._events.callbacks or self._events.untold)
+
     def _has_left(self) -> bool:
         """Whether calls or events are left that another call goes on with."""
-        return self._calls is not None or bool(self._untold)
+        return self._calls is not None or bool(self._events.untold)
 
     def _is_ahead(self) -> bool:
         """Whether this thread keeps all others from calling, as in a pipeline or a callback."""
@@ -422,7 +411,7 @@ class Calls:
     ) -> List[Any]:
         """The answers that replies have."""
         is_noted = calls.is_restart or calls.is_left
-        if replies == NULL and not self._callbacks and not is_noted:
+        if replies == NULL and not self._events.callbacks and not is_noted:
             self._calls = None
             return [None]
         run = calls.run or self._run
@@ -440,13 +429,14 @@ class Calls:
                 self._calls = None
             raise
         if calls.untold is None:
-            calls.untold = iter(self._to_be_told(run, calls, heard))
+            told = () if calls.is_quiet else [events for _, events in heard]
+            calls.untold = self._events.to_be_told(run, calls.lines, told, calls.ran)
         # They are queued by one step, and so once, whatever is interrupted.
-        self._untold.extend(calls.untold)
+        self._events.untold.extend(calls.untold)
         self._calls = None
         refused = [] if calls.is_quiet else [it for it, _ in heard if isinstance(it, Refused)]
         self._tally.refused(refused)
-        raised = [*refused, *self._tell_events()] if refused or self._untold else []
+        raised = [*refused, *self._events.tell()] if refused or self._events.untold else []
         if refused:
             refused[0].later = tuple(refused[1:])
         if raised:
@@ -477,15 +467,15 @@ class Calls:
         """What most calls answer, an object each or null, with no event to be told; None where it
         is anything else."""
         kind = self._kind_of(calls)
-        if calls.entity and not self._untold:
+        if calls.entity and not self._events.untold:
             numbers = numbers_of(replies)
             if numbers is not None and (kind is not None or run.are_known(numbers)):
                 return run.objects(numbers, kind)
-        if are_null(replies) and not self._untold:
+        if are_null(replies) and not self._events.untold:
             return [None] * len(replies)
-        if not self._callbacks and not self.hidden and are_silent(replies):
+        if not self._events.callbacks and not self._events.hidden and are_silent(replies):
             return [None] * len(replies)
-        if kind is None and not self._callbacks and not self._untold and len(replies) == 1:
+        if kind is None and not self._is_heard() and len(replies) == 1:
             loaded = loaded_in(replies[0])
             rows = self._rows(run, calls, *loaded, timeout) if loaded else None
             return None if rows is None else [rows]
@@ -504,19 +494,6 @@ class Calls:
             return None
         replies = self._replies(calls.shown[1], timeout)
         return run.rows_shown(numbers, replies, owner, epoch, turn)
-
-    def _to_be_told(
-        self, run: Run, calls: _Calls, heard: Sequence[Tuple[Any, Tuple[Event, ...]]]
-    ) -> List[_Untold]:
-        """The events of calls whose callbacks haven't run before, with their callbacks."""
-        return [
-            (callback, event, run, line)
-            for line, (_, events) in zip(calls.lines, () if calls.is_quiet else heard)
-            for event in events
-            if not calls.ran or event.due not in calls.ran
-            for callback, kinds in self._callbacks
-            if event.kind in kinds
-        ]
 
     def _mark(self, run: Run, line: bytes, number: int, fault: Exception) -> None:
         """Marks the transaction of a line's manager, since a callback has raised this of what its
@@ -540,7 +517,7 @@ class Calls:
     ) -> List[Tuple[Any, Tuple[Event, ...]]]:
         """The answer to each line, or its refusal, and its events. Where the class of an object
         isn't known, the program is asked for it, and for its values with it."""
-        told, kind = self.heard, self._kind_of(calls)
+        told, kind = self._events.heard, self._kind_of(calls)
         each = [(line, reply, said_of(reply)) for line, reply in zip(calls.lines, replies)]
         unknown = [number for it in each for number in run.hear(*it, kind, told)]
         places: Dict[int, Shown] = {}
@@ -640,50 +617,3 @@ class Calls:
         calls.replies = replies
         self._tally.note(calls.lines, replies, perf_counter() - began)
         return replies
-
-    def tell_before(self, events: Iterator[Event]) -> None:
-        """Tells events of what is to come, and then those of the calls that callbacks made. What
-        one raises is raised at once."""
-        was_telling = self._is_telling
-        try:
-            self._is_telling = True
-            self._tell_now(events)
-            raised = self._tell_each()
-        finally:
-            self._is_telling = was_telling
-        for fault in raised:  # It is none of the call that waits.
-            vars(fault).pop("_karzhoul_is_told", None)
-            raise fault
-
-    def _tell_now(self, events: Iterator[Event]) -> None:
-        for event in events:
-            for callback, kinds in self._callbacks:
-                if event.kind in kinds:
-                    callback(event)
-
-    def _tell_events(self) -> List[Exception]:
-        """Tells the events in their order, and answers what callbacks raise. Those of calls that a
-        callback makes come after them."""
-        if self._is_telling:
-            return []
-        try:
-            self._is_telling = True
-            return self._tell_each()
-        finally:
-            self._is_telling = False
-
-    def _tell_each(self) -> List[Exception]:
-        # (An interrupt of the jump at a loop's end passes by a `finally` of the same function in
-        # Python 3.13.)
-        raised: List[Exception] = []
-        while self._untold:
-            # An event is taken off by the same step that begins to tell it.
-            for callback, event, run, line in map(_taken_off, (self._untold,)):
-                try:
-                    callback(event)
-                except Exception as fault:
-                    vars(fault)["_karzhoul_is_told"] = True
-                    raised.append(fault)
-                    if event.kind in BEFORE:
-                        self._mark(run, line, event.due[1], fault)
-        return raised

@@ -68,8 +68,8 @@ class Managers:
         with factory._lock:
             while factory._left:
                 run, number = factory._left[0]
-                members = {"em": str(number)}
+                lines = [line_of(call, {"em": str(number)}) for call in ("rollback", "close")]
                 with suppress(KarzhoulError):
-                    factory.ask_lines(run, [line_of("rollback", members), line_of("close", members)])
+                    factory.ask_lines(run, lines)
                 run.opened.pop(number, None)
                 factory._left.remove((run, number))

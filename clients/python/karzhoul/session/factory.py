@@ -76,7 +76,7 @@ class EntityManagerFactory(ObjectCalls, AbstractContextManager["EntityManagerFac
 
         self.uniques = uniques
         if uniques is not None:
-            self.hidden = frozenset([self._classes[UNIQUE]])
+            self._events.hidden = frozenset([self._classes[UNIQUE]])
         self.conversions = Conversions(self.binding.model)
         self.binding.find_fast(self.leaves)
         self.binding.listen(self)

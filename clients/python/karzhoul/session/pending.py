@@ -48,7 +48,7 @@ class Pending:
         """
         factory = self._manager.factory
         keeper = self._manager.keeper
-        if not factory.hears_before and keeper is None:
+        if not factory._events.hears_before and keeper is None:
             return flush(frozenset())
         with factory._lock:
             is_outer = self._ran is None
@@ -72,7 +72,7 @@ class Pending:
             if not new:
                 return told
             turn = factory._turn
-            factory.tell_before(self._events(new, ran))
+            factory._events.tell_before(self._events(new, ran))
             if factory._turn == turn and factory._calls is None:
                 return told  # Nothing was called, and so nothing is new.
         raise RuntimeError(
@@ -94,10 +94,10 @@ class Pending:
     def _events(self, new: List[Due], ran: Set[Due]) -> Iterator[Event]:
         """The events that have callbacks, each as its turn comes, if it hasn't run meanwhile."""
         factory, run = self._manager.factory, self._manager._run
-        heard = {kind.value for _, kinds in factory._callbacks for kind in kinds}
+        heard = {kind.value for _, kinds in factory._events.callbacks for kind in kinds}
         waiting = {
             each for each in new
-            if each[0] in heard and run.kinds[each[1]] not in factory.hidden
+            if each[0] in heard and run.kinds[each[1]] not in factory._events.hidden
         }
         due = [each for each in new if each in waiting]
         objects = factory.objects(run, [number for _, number in due])

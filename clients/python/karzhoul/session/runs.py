@@ -272,8 +272,8 @@ class Run:
         told = objects_in(reply)
         self._told += told
         unknown = [number for number in told if settled(number, kind) is None]
-        if events and self.factory.hidden:
-            hidden = self.factory.hidden
+        if events and self.factory._events.hidden:
+            hidden = self.factory._events.hidden
             self.factory._tally.leave_out(it[0] for it in events if self.kinds[it[1]] in hidden)
         for event in events if heard else ():
             if event[0] in heard and settled(event[1], None) is None:
@@ -397,7 +397,7 @@ class Run:
         self, line: bytes, said: Mapping[str, Any], heard: Container[str] = EVENTS
     ) -> Tuple[Event, ...]:
         """The events of these kinds that the reply to a line tells."""
-        hidden = self.factory.hidden
+        hidden = self.factory._events.hidden
         events = [
             event for event in said["events"]
             if EVENTS[event[0]].value in heard
