@@ -15,8 +15,8 @@ from unittest import mock
 import karzhoul
 from karzhoul import LifecycleEvent, Restarted
 from karzhoul.objects.foresight import Foresight
+from karzhoul.objects.identity import IdentityMap
 from karzhoul.store.program import Exchange, Program
-from karzhoul.session.runs import Run
 
 from .steps import interrupted_at_step
 from .support import HERE, PERSONS, PROGRAM, FolderTest, needs_program, present
@@ -348,14 +348,15 @@ class Many(RunsTest):
         """Without a callback: so the values of what is found are asked for with it."""
         foresight = self.Person._karzhoul_foresight
         taken: List[bool] = []
-        one_shown = Run.one_shown
+        one_shown = IdentityMap.one_shown
 
-        def noted(run: Run, *given: Any) -> Any:
-            found = one_shown(run, *given)
+        def noted(objects: IdentityMap, *given: Any) -> Any:
+            found = one_shown(objects, *given)
             taken.append(found is not None)
             return found
 
-        with mock.patch.object(Foresight, "note"), mock.patch.object(Run, "one_shown", noted):
+        shown = mock.patch.object(IdentityMap, "one_shown", noted)
+        with mock.patch.object(Foresight, "note"), shown:
             foresight.is_on = True
             self.many(False)
         self.assertGreater(taken.count(True), 100)

@@ -98,7 +98,7 @@ class Culprits:
                 found[each] = None
             elif self._run.kinds[each] is not None:
                 with self._factory._lock:  # So that no number becomes two objects.
-                    found[self._run.object(each)] = None
+                    found[self._run.map.object(each)] = None
         return list(found)
 
     def _was_stored(self, each: Entity) -> bool:
@@ -290,7 +290,7 @@ class Culprits:
     def unpersisted(self) -> Iterator[str]:
         """What leads to a new object that isn't persisted, or to one that is removed."""
         loaded = [it for it in self._since if self._was_stored(it)]
-        held = self._run.held()
+        held = self._run.map.held()
         return _first(
             self._unpersisted(dict.fromkeys([*self._new, *self._changed, *loaded])),
             self._unpersisted([it for it in held if self._was_stored(it)][:_MOST]),

@@ -21,7 +21,7 @@ from ..refusals import BadLine, IllegalState, KarzhoulError, NotServed, Refused,
 from ..store.program import Exchange, Program, of_before
 from ..wire.lines import LifecycleEvent, line_of, text_spelled
 from ..wire.replies import (
-    NULL, are_null, are_silent, is_restart, loaded_in, numbers_of, objects_in, said_of,
+    NULL, are_null, are_silent, is_reply, is_restart, loaded_in, numbers_of, objects_in, said_of,
 )
 from ..wire.tally import Tally
 from .events import Events, Untold
@@ -32,6 +32,8 @@ from .runs import Run
 _BEGIN = b'{"serve":"begin"}'
 # What the reading of no reply raises.
 _UNREADABLE = (AttributeError, LookupError, TypeError, ValueError)
+# After so many readings that raised, replies are taken for none, whatever they look like.
+_MOST_FAULTS = 3
 _CREATE, RESTART = line_of("createEntityManager", {}), line_of("restart", {})
 
 
@@ -57,6 +59,8 @@ class _Calls(Exchange):
     is_restart = False
     # Whether they create a manager and were interrupted, so that nobody gets it.
     is_left = False
+    # How often the reading of their replies has raised.
+    faults = 0
     # How often values had been read when it was noted what they change.
     reads = -1
     # The objects in their replies whose class wasn't known, with the lines that ask for them.
@@ -191,7 +195,7 @@ class Calls:
             self._turn += 1
             replies = self._replies(calls, None)
             if not self._is_heard():
-                found = (calls.run or self._run).one(replies[0], kind, manager)
+                found = (calls.run or self._run).map.one(replies[0], kind, manager)
                 if found is not None:
                     self._calls = None
                     return found
@@ -215,12 +219,12 @@ class Calls:
             calls.entity, calls.is_short = kind.__name__, True
             self._calls = calls
             self._turn += 1
-            places = run.known.expect_loaded(number, manager)
+            places = run.map.known.expect_loaded(number, manager)
             if self._calls is not calls:  # As in `_shown`.
-                run.known.forget()
+                run.map.known.forget()
             replies = self._replies(calls, None)
             # As of a thread that listens meanwhile.
-            found = None if self._is_heard() else run.one_shown(replies, kind, places)
+            found = None if self._is_heard() else run.map.one_shown(replies, kind, places)
             if found is not None:
                 if not foresight.is_sure:
                     foresight.note(True)
@@ -281,7 +285,7 @@ class Calls:
                         calls.lines += (line, *more)  # type: ignore[operator]
                     else:
                         calls.lines.append(line)  # type: ignore[attr-defined]
-                    if reads != self._run.known.reads:
+                    if reads != self._run.map.known.reads:
                         self._note((line, *more))
                     return
                 self._settle()  # Those that were sent are to be done first.
@@ -296,7 +300,7 @@ class Calls:
         """Takes note of what lines may change, and answers how often values had been read before.
         So whatever an interrupt comes between, they count from then on, be they sent or not. Where
         a handler of a signal has values read meanwhile, it is to be noted again."""
-        known = self._run.known
+        known = self._run.map.known
         reads = known.reads
         if bad_line is BadLine:  # A line of one's own may say one thing and then another.
             known.anyone.sets += 1
@@ -398,7 +402,7 @@ class Calls:
         """The answers to calls, which are over with it. Their events are told first, and then the
         first refusal is raised."""
         self._turn += 1
-        if calls.reads != self._run.known.reads:
+        if calls.reads != self._run.map.known.reads:
             self._note(calls.lines, calls.bad_line)
         replies = self._replies(calls, timeout)
         if calls.is_short:  # A find that was interrupted: the values were asked for in vain.
@@ -424,8 +428,9 @@ class Calls:
                 return answers
             heard = self._heard(run, calls, replies, timeout)
         except _UNREADABLE:
-            # By what is no reply, or by a handler of a signal.
-            if self._is_unreadable(run, calls, replies, timeout):
+            # By a handler of a signal, after which they are read again, or by what is no reply.
+            calls.faults += 1
+            if calls.faults == _MOST_FAULTS or not all(map(is_reply, replies)):
                 self._calls = None
             raise
         if calls.untold is None:
@@ -443,18 +448,6 @@ class Calls:
             raise raised[0]
         return [answer for answer, _ in heard]
 
-    def _is_unreadable(
-        self, run: Run, calls: _Calls, replies: List[bytes], timeout: Optional[float]
-    ) -> bool:
-        """Whether what came is no reply: then it is none when it is read again."""
-        try:
-            self._heard(run, calls, replies, timeout)
-            return False
-        except KarzhoulError:  # Of the program, that was asked for classes.
-            return False
-        except _UNREADABLE:
-            return True
-
     def _kind_of(self, calls: _Calls) -> Optional[Type[Entity]]:
         """The class of the objects in the answers to calls, where that can be no other one."""
         if calls.entity and calls.lines:
@@ -469,8 +462,8 @@ class Calls:
         kind = self._kind_of(calls)
         if calls.entity and not self._events.untold:
             numbers = numbers_of(replies)
-            if numbers is not None and (kind is not None or run.are_known(numbers)):
-                return run.objects(numbers, kind)
+            if numbers is not None and (kind is not None or run.map.are_known(numbers)):
+                return run.map.objects(numbers, kind)
         if are_null(replies) and not self._events.untold:
             return [None] * len(replies)
         if not self._events.callbacks and not self._events.hidden and are_silent(replies):
@@ -488,12 +481,12 @@ class Calls:
         them, in less time; None where they are any other ones."""
         if calls.shown is None:
             calls.shown = numbers, _Calls(run, run.values_lines(numbers, listed))
-        turn, owner = self._turn, run.known.expect_rows(calls.lines[0])
+        turn, owner = self._turn, run.map.known.expect_rows(calls.lines[0])
         epoch = owner.epoch()
         if self._calls is not calls:  # As in `_shown`.
             return None
         replies = self._replies(calls.shown[1], timeout)
-        return run.rows_shown(numbers, replies, owner, epoch, turn)
+        return run.reader.rows_shown(numbers, replies, owner, epoch, turn)
 
     def _mark(self, run: Run, line: bytes, number: int, fault: Exception) -> None:
         """Marks the transaction of a line's manager, since a callback has raised this of what its
@@ -519,7 +512,7 @@ class Calls:
         isn't known, the program is asked for it, and for its values with it."""
         told, kind = self._events.heard, self._kind_of(calls)
         each = [(line, reply, said_of(reply)) for line, reply in zip(calls.lines, replies)]
-        unknown = [number for it in each for number in run.hear(*it, kind, told)]
+        unknown = [number for it in each for number in run.reader.hear(*it, kind, told)]
         places: Dict[int, Shown] = {}
         refused = None
         if unknown:
@@ -529,12 +522,12 @@ class Calls:
                 calls.shown = numbers, _Calls(run, lines)
             places, refused = self._shown(run, calls, *calls.shown, timeout)
         heard = [
-            (refused, run.events(line, said, told))
-            if refused is not None and not run.are_known(objects_in(reply))
-            else run.answer(line, reply, said, calls.bad_line, told)
+            (refused, run.reader.events(line, said, told))
+            if refused is not None and not run.map.are_known(objects_in(reply))
+            else run.reader.answer(line, reply, said, calls.bad_line, told)
             for line, reply, said in each
         ]
-        run.done(places)
+        run.map.done(places)
         return heard
 
     def _shown(
@@ -542,11 +535,11 @@ class Calls:
         timeout: Optional[float] = None,
     ) -> Tuple[Dict[int, Shown], Optional[Refused]]:
         """Reads the values of objects for calls that aren't done, by lines that ask for them."""
-        places = run.known.expect(numbers, run.loaded)
+        places = run.map.known.expect(numbers, run.map.loaded)
         if self._calls is not calls:  # A signal's handler had them done, and may have sent others.
-            run.known.forget()
+            run.map.known.forget()
         replies = self._replies(asked, timeout)
-        return places, run.show(asked.lines, replies, places)
+        return places, run.reader.show(asked.lines, replies, places)
 
     def objects(self, run: Run, numbers: Sequence[int]) -> List[Entity]:
         """The objects of these numbers, which there are. Where a class isn't known, the program is
@@ -555,7 +548,7 @@ class Calls:
             unknown = list(dict.fromkeys(it for it in numbers if run.kinds[it] is None))
             if unknown:
                 self.show(run, unknown)
-            return run.objects(numbers)
+            return run.map.objects(numbers)
 
     def values_of(self, entity: Entity) -> Sequence[Any]:
         """The values of an object, which are read anew, with those of the objects that were told
@@ -563,7 +556,7 @@ class Calls:
         run = entity._karzhoul_run
         run.number(entity)
         if entity._karzhoul_shown.group:
-            self.show(run, run.unread([entity]))
+            self.show(run, run.map.unread([entity]))
         else:
             self._show_one(run, entity)
         return entity._karzhoul_values
@@ -574,14 +567,14 @@ class Calls:
             if self._calls:
                 self.tell_kept()
             shown = entity._karzhoul_shown
-            if shown is shown.owner.unread and shown.owner is not run.known.anyone:
+            if shown is shown.owner.unread and shown.owner is not run.map.known.anyone:
                 entity._karzhoul_foresight.note(True)
             calls = self._calls = _Calls(run, (VALUES % b"%d" % entity._karzhoul_number,))
-            places = run.known.expect_one(entity)
+            places = run.map.known.expect_one(entity)
             if self._calls is not calls:  # As in `_shown`.
-                run.known.forget()
+                run.map.known.forget()
             replies = self._replies(calls, None)
-            refused = run.show_one(entity, calls.lines, replies, places)
+            refused = run.reader.show_one(entity, calls.lines, replies, places)
             self._calls = None
             if refused is not None:
                 self._tally.refused([refused])
@@ -595,7 +588,7 @@ class Calls:
             calls = self._calls = _Calls(run, run.values_lines(numbers))
             places, refused = self._shown(run, calls, numbers, calls)
             self._calls = None
-            run.done(places)
+            run.map.done(places)
             if refused is not None:
                 self._tally.refused([refused])
                 raise refused
@@ -611,7 +604,8 @@ class Calls:
         except KarzhoulError as fault:
             if isinstance(fault, Restarted):  # They weren't sent, and never will be.
                 self._calls = None
-            self._run.known.forget()  # So that who reads an object hears that the program is gone.
+            # So that who reads an object hears that the program is gone.
+            self._run.map.known.forget()
             self._tally.tell_fault(calls.lines, fault)
             raise
         calls.replies = replies

@@ -8,7 +8,6 @@ from typing import TYPE_CHECKING, Any, Callable, Mapping, Optional, Sequence, Ty
 
 from ..jpql.statements import LanguageName
 from ..objects.entities import classes_of
-from ..objects.kinds import Classes
 from ..refusals import BadLine, KarzhoulError, ProgramEnded
 from ..store.memory import MemoryStore, room_words
 from ..store.program import Program
@@ -57,7 +56,7 @@ class EntityManagerFactory(ObjectCalls, AbstractContextManager["EntityManagerFac
 
     def _begin_run(self, program: Program) -> None:
         before: Optional[Run] = vars(self).get("_run")
-        self.program, self._run = program, Run(self, Classes(self._classes))
+        self.program, self._run = program, Run(self, self._classes)
         self._turn += 1  # So that no collection shows what it read before.
         # Last but for what may be done again, since it says that all is done.
         program.run = self._run
@@ -111,7 +110,7 @@ class EntityManagerFactory(ObjectCalls, AbstractContextManager["EntityManagerFac
                 finally:
                     self._calls = None
                     self.program.fault = ProgramEnded(None)  # Also where it had ended before.
-                    self._run.known.forget()  # What is read from now on is refused.
+                    self._run.map.known.forget()  # What is read from now on is refused.
         if self._places is not None:
             self._places.wake()
 

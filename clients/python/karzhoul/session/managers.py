@@ -249,7 +249,7 @@ class EntityManager(Queries, AbstractContextManager["EntityManager"]):
 
     def _sets(self) -> int:
         """How often an object was set that may be its own."""
-        return self._run.known.sets_of(self._bytes)
+        return self._run.map.known.sets_of(self._bytes)
 
     def flush(self) -> None:
         """Writes what has changed into the transaction. What a callback raises that runs before
@@ -301,7 +301,7 @@ class EntityManager(Queries, AbstractContextManager["EntityManager"]):
             return ""
         named: Dict[str, None] = {}
         try:
-            is_touched = told.has_merged or run.known.sets_of(self._bytes) != told.sets
+            is_touched = told.has_merged or run.map.known.sets_of(self._bytes) != told.sets
             done, refused = self._told(), ""
             if is_touched and not self._is_settled:
                 due, refused = self._due(any(numbers for _, numbers in done))

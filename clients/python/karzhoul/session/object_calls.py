@@ -108,7 +108,7 @@ class ObjectCalls(Calls):
         """The values of objects, of which those are read that may have changed."""
         for entity in objects:
             run.number(entity)
-        unread = run.unread(objects)
+        unread = run.map.unread(objects)
         if unread:
             self.show(run, unread)
         return [entity._karzhoul_values for entity in objects]

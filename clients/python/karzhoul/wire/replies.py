@@ -7,6 +7,8 @@ import re
 from contextlib import suppress
 from typing import Any, Dict, List, Optional, Set, Tuple
 
+from .lines import LifecycleEvent
+
 # What stands between the numbers of replies that are an object each, and no event.
 _BETWEEN = b'}}\n{"events":[],"ok":{"object":'
 _FRONT = _BETWEEN[3:]
@@ -26,6 +28,8 @@ _SHOWN = b'{"events":[],"ok":[' + _ENTITY
 _LOADS, _LOADS_BETWEEN = b'{"events":[["PostLoad",', b'],["PostLoad",'
 _ROWS, _ROWS_BETWEEN, _ROWS_END = b']],"ok":[{"object":', b'},{"object":', b"}]}"
 _decode = json.JSONDecoder().raw_decode
+_EVENTS = {kind.value for kind in LifecycleEvent}
+_HEX = re.compile(r"(?:[0-9a-fA-F]{2})*").fullmatch
 
 
 def are_silent(replies: List[bytes]) -> bool:
@@ -149,6 +153,41 @@ def said_of(reply: bytes) -> Dict[str, Any]:
 def objects_in(reply: bytes) -> List[int]:
     """The numbers of the objects in an answer. (A quote within a text is escaped.)"""
     return list(map(int, _OBJECT.findall(reply))) if b'{"object":' in reply else []
+
+
+def is_reply(line: bytes) -> bool:
+    """Whether a line is a reply: an answer or a refusal, with its events."""
+    try:
+        said = json.loads(line)
+    except (ValueError, RecursionError):
+        return False
+    if not isinstance(said, dict) or not isinstance(said.get("events"), list):
+        return False
+    error = said.get("error")
+    is_refusal = isinstance(error, dict) and isinstance(error.get("name"), str)
+    return all(map(_is_event, said["events"])) and (
+        is_refusal if "ok" not in said else _is_answer(said["ok"])
+    )
+
+
+def _is_event(said: Any) -> bool:
+    return (
+        isinstance(said, list) and len(said) >= 2
+        and isinstance(said[0], str) and said[0] in _EVENTS
+        and type(said[1]) is int and all(isinstance(ran, str) for ran in said[2:])
+    )
+
+
+def _is_answer(said: Any) -> bool:
+    if isinstance(said, list):
+        return all(map(_is_answer, said))
+    if not isinstance(said, dict):
+        return True
+    if "object" in said:
+        return type(said["object"]) is int
+    if "hex" in said:
+        return isinstance(said["hex"], str) and _HEX(said["hex"]) is not None
+    return all(map(_is_answer, said.values()))
 
 
 def is_restart(line: str) -> bool:
