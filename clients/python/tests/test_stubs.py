@@ -14,7 +14,7 @@ from pathlib import Path
 from typing import Any, Tuple
 
 from karzhoul.cli.command import main
-from karzhoul.stubs import module_of
+from karzhoul.mapping.typed import module_of
 
 from .support import PERSONS, ProgramTest, needs_program
 

@@ -13,7 +13,7 @@ from pathlib import Path
 from typing import Dict, List
 
 import karzhoul
-from karzhoul.stubs import module_of
+from karzhoul.mapping.typed import module_of
 
 from .support import HERE
 

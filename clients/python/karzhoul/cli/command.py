@@ -13,12 +13,12 @@ from contextlib import closing
 from pathlib import Path
 from typing import Any, List, Mapping, Optional, Sequence, Union
 
-from .. import stubs
 from ..classes import printing
 from ..classes.mapping import FORMS
 from ..console import command as browsing
 from ..exporting import command as going
 from ..jpql.statements import LanguageName
+from ..mapping import typed
 from ..mapping.given import WrongMapping, given_of, mapping_data
 from ..mapping.linter import lint
 from ..mapping.schema import mapping_schema
@@ -287,7 +287,7 @@ def run_stubs(said: argparse.Namespace) -> int:
         print(f"{said.mapping}:{finding}", file=sys.stderr)
     if report.findings:
         return WRONG
-    module = stubs.module_of(
+    module = typed.module_of(
         json.loads(data), Path(said.mapping).name if Path(said.mapping).is_file() else "a mapping"
     )
     if said.output:
