@@ -57,8 +57,9 @@ def check(
     text: str, entities: Mapping[str, EntityDescription], given: Optional[Kinds] = None,
     language: LanguageName = "profile",
 ) -> List[QueryFinding]:
-    """What is wrong with a query in a language over these entities, as `unit.entities_of` describes
-    them, and with the parameters that are given; without these, nothing is asked of parameters."""
+    """What is wrong with a query in a language over these entities, as `mapping.unit.entities_of`
+    describes them, and with the parameters that are given; without these, nothing is asked of
+    parameters."""
     teller = _Teller(text)
     size = len(text.encode(errors="replace"))
     if size > jpql.MOST_BYTES:

@@ -68,7 +68,7 @@ class Queries:
         **named: Any,
     ) -> Rows:
         """The rows of a query, from the `first` on and at most `max`: a row of one item is that
-        item, any other one a list whose items have names, as `row.name` (`rows.Row`)."""
+        item, any other one a list whose items have names, as `row.name` (`queries.rows.Row`)."""
         return self._asked(text, result_class, params, end_program_after, named).rows(first, max)
 
     def query_single(
@@ -217,8 +217,8 @@ class Queries:
         seconds: Optional[float],
         named: Dict[str, Any],
     ) -> _Asked:
-        """A query that is asked so, which is refused here where it is none. Who calls this is called
-        by the application, whose line a warning names."""
+        """A query that is asked so, which is refused here where it is none. Who calls this is
+        called by the application, whose line a warning names."""
         seconds = _seconds(seconds, named)
         check_query(text, result_class, params)
         given = _given(params, named) if named or params is not None else None

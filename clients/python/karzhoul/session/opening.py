@@ -31,7 +31,7 @@ def open(
 ) -> EntityManagerFactory:
     """Starts the program over a mapping (a file, a pipe, or what such a file says), or over classes
     (a list of them or their module), and a database file; without one the store is in memory, and
-    goes with the factory (`memory.MemoryStore`). `":memory:"` is a `ValueError`.
+    goes with the factory (`store.memory.MemoryStore`). `":memory:"` is a `ValueError`.
 
     Classes have their numbers in `karzhoul.lock.json` beside their module, or in the file `lock`.
     Where they are wrong it is a `DeclarationError`, with the lines, and where the store has what
@@ -54,8 +54,8 @@ def open(
 
     A mapping that is refused is a `refusals.Mapping` that says where it is wrong, a store a
     `Damaged`, or a `StoreFault` that says what is in the way. `program` names the program to start
-    (`finding.find_program` tells where it is looked for else). With `echo` each line, its reply
-    and its time are told on standard error; the logger `karzhoul` hears them at DEBUG.
+    (`store.finding.find_program` tells where it is looked for else). With `echo` each line, its
+    reply and its time are told on standard error; the logger `karzhoul` hears them at DEBUG.
     """
     if db == ":memory:":
         raise ValueError("':memory:' would be a file of that name: leave db out for one in memory")

@@ -3,7 +3,7 @@ cells before anything is written.
 
 It knows the cells that such a mapping drops, moves and fills, and which cells its rows have then.
 Whether the rows are otherwise those that the mapping writes, only the program knows:
-`command.run_migrate` asks it over a copy.
+`cli.command.run_migrate` asks it over a copy.
 """
 
 from __future__ import annotations
