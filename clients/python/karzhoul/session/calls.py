@@ -600,7 +600,7 @@ class Calls:
         began = perf_counter()
         try:
             with self._waiting:
-                replies = self.program.replies(calls, timeout)
+                replies = calls.replies = self.program.replies(calls, timeout)
         except KarzhoulError as fault:
             if isinstance(fault, Restarted):  # They weren't sent, and never will be.
                 self._calls = None
@@ -608,6 +608,5 @@ class Calls:
             self._run.map.known.forget()
             self._tally.tell_fault(calls.lines, fault)
             raise
-        calls.replies = replies
         self._tally.note(calls.lines, replies, perf_counter() - began)
         return replies
