@@ -24,7 +24,7 @@ HERE = Path(__file__).resolve().parent
 CLIENT = HERE.parents[1] / "clients" / "python"
 sys.path[:0] = [str(HERE), str(CLIENT)]
 import lending  # noqa: E402
-from karzhoul.finding import find_program  # noqa: E402
+from karzhoul.store.finding import find_program  # noqa: E402
 from karzhoul.server.asking import asked  # noqa: E402
 from karzhoul.server.way import Way  # noqa: E402
 

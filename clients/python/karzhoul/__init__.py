@@ -21,11 +21,7 @@ from .classes.fields import (
     one_to_many, one_to_one, typed, validates, version,
 )
 from .classes.values import WrongValue
-from .connecting import connect
-from .entities import Collection, EmbeddedId, Entity, Event
-from .factory import EntityManagerFactory, open
-from .lines import FlushModeType, LifecycleEvent, LockModeType
-from .managers import EntityManager
+from .objects.entities import Collection, EmbeddedId, Entity, Event
 from .refusals import (
     BadLine, Busy, Damaged, Disconnected, EntityExists, EntityNotFound, GivenUp, IllegalArgument,
     IllegalState, KarzhoulError, Limit, LineLimit, Listener, ManagerLimit, Mapping, NoFreeManager,
@@ -33,8 +29,13 @@ from .refusals import (
     OptimisticLock, OutOfMemory, Overflow, Persistence, ProgramEnded, ProgramNotFound, QueryLimit,
     Refused, Restarted, Rollback, StoreFault, StoreInMemory, TextLimit, TransactionRequired,
 )
-from .tally import Statistics
-from .transactions import Attempt, EntityTransaction
+from .server.connecting import connect
+from .session.factory import EntityManagerFactory
+from .session.managers import EntityManager
+from .session.opening import open
+from .session.transactions import Attempt, EntityTransaction
+from .wire.lines import FlushModeType, LifecycleEvent, LockModeType
+from .wire.tally import Statistics
 
 __version__ = "0.2.0"
 

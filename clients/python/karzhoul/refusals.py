@@ -7,10 +7,10 @@ import re
 from typing import TYPE_CHECKING, Any, ClassVar, Dict, Optional, Sequence, Tuple, Type
 
 if TYPE_CHECKING:
-    from .concern import Concern
-    from .entities import Entity, Event
-    from .factory import EntityManagerFactory
-    from .runs import Run
+    from .objects.concern import Concern
+    from .objects.entities import Entity, Event
+    from .session.factory import EntityManagerFactory
+    from .session.runs import Run
 
 
 class KarzhoulError(Exception):
@@ -207,7 +207,7 @@ class Refused(KarzhoulError):
         """What can be told of it: of a query each mistake with its line, column and word, of an
         entity or a member which one is meant, of a refused flush or commit the objects and members
         that it is about, as they stand now, and else what the refusal means."""
-        from .explaining import explained
+        from .explain.explaining import explained
 
         return self._sentence or explained(self, self._factory)
 
@@ -306,7 +306,7 @@ class Rollback(Refused, number=14):
             return None
         cause = refusal_of(self.detail, self.events, self.line)
         if isinstance(cause, Limit):
-            from .limits import told_apart
+            from .explain.limits import told_apart
 
             cause = told_apart(cause)
         cause._factory, cause._run, cause._concern = self._factory, self._run, self._concern

@@ -10,7 +10,7 @@ from pathlib import Path
 from typing import Any, Iterator, List, Tuple
 
 import karzhoul
-from karzhoul.command import main
+from karzhoul.cli.command import main
 
 from .support import HERE, PROGRAM, FolderTest
 

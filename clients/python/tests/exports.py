@@ -13,7 +13,7 @@ from types import ModuleType
 from typing import Any, Iterator, List, Tuple
 from uuid import UUID
 
-from karzhoul.command import main
+from karzhoul.cli.command import main
 
 from .classed import HEAD, ClassesTest
 from .support import PROGRAM

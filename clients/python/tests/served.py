@@ -9,8 +9,8 @@ import threading
 from pathlib import Path
 from typing import Any, Coroutine, List, Mapping, Optional, Union
 
-from karzhoul.factory import started
-from karzhoul.program import Program
+from karzhoul.store.starting import started
+from karzhoul.store.program import Program
 from karzhoul.server.files import files_beside
 from karzhoul.server.plain import Listener
 from karzhoul.server.service import Service

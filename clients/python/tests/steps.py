@@ -13,7 +13,7 @@ from typing import Any, Callable
 
 import karzhoul
 
-_PACKAGE = os.path.dirname(karzhoul.__file__)
+_PACKAGE = os.path.dirname(karzhoul.__file__) + os.sep
 
 
 def interrupted_at_step(number: int, work: Callable[[], object]) -> bool:
@@ -29,7 +29,7 @@ def interrupted_at_step(number: int, work: Callable[[], object]) -> bool:
         is_step = event == "c_return" or (
             event == "call" and not frame.f_code.co_flags & inspect.CO_GENERATOR
         )
-        if is_step and (os.path.dirname(file) == _PACKAGE or file == contextlib.__file__):
+        if is_step and (file.startswith(_PACKAGE) or file == contextlib.__file__):
             left -= 1
             if left == 0:
                 handler: Any = signal.getsignal(signal.SIGINT)

@@ -15,7 +15,7 @@ from typing import Any, Dict, Iterator, List, NamedTuple, Optional
 from unittest import mock
 
 import karzhoul
-from karzhoul.program import Exchange
+from karzhoul.store.program import Exchange
 
 HERE = Path(__file__).resolve().parent
 TOP = HERE.parents[2]

@@ -14,10 +14,10 @@ import sys
 import unittest
 from typing import Any, Iterator, Tuple
 
-from karzhoul import beginnings
-from karzhoul.command import main
-from karzhoul.linter import Fault, lint
-from karzhoul.schema import mapping_schema
+from karzhoul.cli import beginnings
+from karzhoul.cli.command import main
+from karzhoul.mapping.linter import Fault, lint
+from karzhoul.mapping.schema import mapping_schema
 
 from .support import PROGRAM, TOP, FolderTest, needs_program, package_elsewhere
 from .test_linter import worked_mappings

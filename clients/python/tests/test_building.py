@@ -44,7 +44,7 @@ class Wheels(FolderTest):
         self.assertTrue(name.endswith("-py3-none-any.whl"), name)
         with zipfile.ZipFile(Path(self.place, name)) as wheel:
             self.assertEqual([it for it in wheel.namelist() if "jpa" in it or "NOTICES" in it], [])
-            self.assertIn("karzhoul/linter/rules.py", wheel.namelist())
+            self.assertIn("karzhoul/mapping/linter/rules.py", wheel.namelist())
 
     @unittest.skipIf(sys.version_info < (3, 11), "Python reads TOML from version 3.11 on")
     def test_it_has_the_metadata_of_pyproject(self) -> None:
@@ -95,7 +95,7 @@ class Wheels(FolderTest):
             "PYTHONPATH": str(there),
             "KARZHOUL_PROGRAM": str(there / "bin" / "jpa"),
         }
-        code = "from karzhoul.finding import find_program; print(find_program())"
+        code = "from karzhoul.store.finding import find_program; print(find_program())"
         found = subprocess.run(
             [sys.executable, "-c", code], cwd=self.place, env=env, capture_output=True, text=True
         )

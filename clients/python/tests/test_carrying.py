@@ -9,11 +9,11 @@ import unittest
 from unittest import mock
 
 import karzhoul
-from karzhoul import dumping, loading
-from karzhoul.dumping import tops_in_order
-from karzhoul.progress import Progress
-from karzhoul.records import shapes_of
-from karzhoul.writing import Writer
+from karzhoul.records import dumping, loading
+from karzhoul.records.dumping import tops_in_order
+from karzhoul.records.progress import Progress
+from karzhoul.records.records import shapes_of
+from karzhoul.records.writing import Writer
 
 from .carried import CARRIED, Carrying, cells
 from .support import needs_program
@@ -73,7 +73,7 @@ class Dumps(Carrying):
         self.assertEqual((status, out), (0, f"{file}: 19 objects of 5 entities\n"))
         self.assertEqual(file.read_text(encoding="utf-8"), self.dumped(self.db))
         file.unlink()
-        with mock.patch("karzhoul.carrying.Ended", side_effect=KeyboardInterrupt):
+        with mock.patch("karzhoul.cli.carrying.Ended", side_effect=KeyboardInterrupt):
             self.assertEqual(self.ran("dump", self.db, "-o", file)[0], 130)
         self.assertEqual([path.name for path in self.place.glob("dump*")], [])
 

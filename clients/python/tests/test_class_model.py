@@ -10,7 +10,7 @@ from typing import Any, Dict, List, NamedTuple, Set, Tuple
 
 from karzhoul import NotUnique
 from karzhoul.classes.changes import make
-from karzhoul.linter import lint
+from karzhoul.mapping.linter import lint
 
 from .classed import ClassesTest
 from .support import needs_program

@@ -11,7 +11,7 @@ from typing import Any, Dict, List
 
 import karzhoul
 from karzhoul import Collection, LifecycleEvent
-from karzhoul.shell import Shell
+from karzhoul.cli.shell import Shell
 
 from .support import HERE, PROGRAM, TOP, counted, needs_program, played, present
 

@@ -20,11 +20,11 @@ from unittest import mock
 from xml.etree import ElementTree
 
 import karzhoul
-from karzhoul import show
-from karzhoul.command import main
-from karzhoul.diagram import diagram
-from karzhoul.shell import Shell, members_of, usage
-from karzhoul.unit import entities_of
+from karzhoul.showing import tables as show
+from karzhoul.cli.command import main
+from karzhoul.showing.diagram import diagram
+from karzhoul.cli.shell import Shell, members_of, usage
+from karzhoul.mapping.unit import entities_of
 
 from .support import HERE, PERSONS, PROGRAM, FolderTest, examples, needs_program, played
 
@@ -180,7 +180,7 @@ class Show(WithStore):
             opened.append(app)
             raise KeyboardInterrupt
 
-        with mock.patch("karzhoul.show.tables", interrupted):
+        with mock.patch("karzhoul.showing.tables.tables", interrupted):
             self.assertEqual(self.over("show", self.db), (130, "", "karzhoul: interrupted\n"))
         self.assertIsNotNone(opened[0].program.fault)
         self.assertEqual(self.over("show", self.db)[0], 0)
@@ -257,17 +257,16 @@ class CheckAlone(FolderTest):
         self.addCleanup(nowhere.stop)
 
     def test_it_starts_no_program(self) -> None:
-        with mock.patch("karzhoul.factory.open", side_effect=AssertionError):
+        with mock.patch("karzhoul.session.opening.open", side_effect=AssertionError):
             self.assertEqual(alone("check", self.mapping), (0, f"{self.mapping}: good\n", ""))
 
     def test_the_program_is_asked_where_that_is_wanted(self) -> None:
-        with mock.patch(
-            "karzhoul.factory.find_program", side_effect=karzhoul.ProgramNotFound("there is none")
-        ):
+        there_is_none = karzhoul.ProgramNotFound("there is none")
+        with mock.patch("karzhoul.session.opening.find_program", side_effect=there_is_none):
             self.assertEqual(
                 alone("check", "--with-program", self.mapping), (4, "", "karzhoul: there is none\n")
             )
-        with mock.patch("karzhoul.factory.open", side_effect=karzhoul.Mapping("model")):
+        with mock.patch("karzhoul.session.opening.open", side_effect=karzhoul.Mapping("model")):
             status, out, _ = alone("check", "--with-program", self.mapping)
         self.assertEqual(
             (status, out),
@@ -306,7 +305,7 @@ class CheckAlone(FolderTest):
             self.assertEqual((status, err), (4, f"karzhoul: {told}\n"))
 
     def test_an_interrupt_is_a_line(self) -> None:
-        with mock.patch("karzhoul.command.lint", side_effect=KeyboardInterrupt):
+        with mock.patch("karzhoul.cli.command.lint", side_effect=KeyboardInterrupt):
             self.assertEqual(alone("check", self.mapping), (130, "", "karzhoul: interrupted\n"))
 
     def test_a_reader_that_has_enough_is_no_fault(self) -> None:

@@ -153,7 +153,7 @@ class FullDisk(FolderTest):
             fill()
 
     def test_the_words_of_a_disk(self) -> None:
-        from karzhoul.opening import why_unwritten
+        from karzhoul.store.opening import why_unwritten
 
         told = why_unwritten(self.place / "app.db", 1)
         self.assertIn("MB of room left", told)

@@ -8,8 +8,8 @@ from contextlib import contextmanager
 from typing import Any, Callable, Iterator, List
 
 import karzhoul
-from karzhoul.line_check import faults_of_line
-from karzhoul.shell import Shell
+from karzhoul.explain.line_check import faults_of_line
+from karzhoul.cli.shell import Shell
 
 from .support import PROGRAM, ProgramTest, needs_program
 

@@ -15,7 +15,7 @@ from types import ModuleType
 from typing import Any, List, Optional, Sequence, Tuple
 from unittest import mock
 
-from karzhoul.command import main
+from karzhoul.cli.command import main
 
 from . import random_stores
 from .carried import cells

@@ -15,12 +15,14 @@ from functools import partial
 from typing import Any, List, Sequence
 from unittest import mock
 
-from karzhoul import dumping, factory
-from karzhoul.command import main
+from karzhoul.records import dumping
+from karzhoul.session import opening
+from karzhoul.store import starting
+from karzhoul.cli.command import main
 from karzhoul.exporting.naming import snake
 from karzhoul.exporting.rows import Row, Rows
-from karzhoul.program import Program
-from karzhoul.records import Record
+from karzhoul.store.program import Program
+from karzhoul.records.records import Record
 
 from .carried import CARRIED, Carrying, cells
 from .exports import Exporting, files_of_at_most, rows_of
@@ -293,13 +295,13 @@ class WrongExports(Exporting):
             return row(rows, record)
 
         started: List[Program] = []
-        start = factory.started
+        start = starting.started
 
         def kept(*words: Any, **more: Any) -> Program:
             started.append(start(*words, **more))
             return started[-1]
 
-        with mock.patch.object(factory, "started", kept), mock.patch.object(Rows, "row", killed):
+        with mock.patch.object(opening, "started", kept), mock.patch.object(Rows, "row", killed):
             for words in (("--sqlite", self.out), ("--sql", self.sql, "--dialect", "sqlite")):
                 self.assertIn("the program was ended by signal 9",
                               self.stopped(*self.common, *words))

@@ -13,7 +13,7 @@ from typing import Any, Optional, Tuple
 from unittest import mock
 
 import karzhoul
-from karzhoul.finding import find_program
+from karzhoul.store.finding import find_program
 
 from .support import PERSONS, STUB, TOP, FolderTest
 
@@ -31,7 +31,7 @@ class Finding(FolderTest):
     def setUp(self) -> None:
         super().setUp()
         self.place = self.place.resolve()
-        said: Any = mock.patch("karzhoul.finding._said", set())
+        said: Any = mock.patch("karzhoul.store.finding._said", set())
         env: Any = mock.patch.dict(os.environ)
         for patch in (said, env):
             patch.start()
@@ -41,7 +41,7 @@ class Finding(FolderTest):
     def found(self, package: Path, given: Optional[Path] = None) -> Tuple[str, str]:
         """The program that is found twice, and what is said then."""
         said = io.StringIO()
-        with mock.patch("karzhoul.finding._PACKAGE", package), contextlib.redirect_stderr(said):
+        with mock.patch("karzhoul.store.finding._PACKAGE", package), contextlib.redirect_stderr(said):
             first = find_program(given)
             self.assertEqual(find_program(given), first)
         return first, said.getvalue()

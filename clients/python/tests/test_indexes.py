@@ -13,8 +13,8 @@ from typing import Any, Callable, Dict, List, Optional, Sequence, Tuple
 from unittest import mock
 
 import karzhoul
-from karzhoul.command import main
-from karzhoul.program import Exchange, Program
+from karzhoul.cli.command import main
+from karzhoul.store.program import Exchange, Program
 
 from .classed import ClassesTest
 from .served import Here

@@ -138,7 +138,7 @@ class AtEachStep(Interrupted):
 
     def interrupt_at_step(self, number: int, work: Callable[[], object]) -> bool:
         """Does work, interrupted at its step of this number; whether it has as many."""
-        left, package = number, os.path.dirname(karzhoul.__file__)
+        left, package = number, os.path.dirname(karzhoul.__file__) + os.sep
 
         def profile(frame: Any, event: str, _: object) -> None:
             nonlocal left
@@ -150,7 +150,7 @@ class AtEachStep(Interrupted):
                 or event == "call"
                 and not frame.f_code.co_flags & inspect.CO_GENERATOR
             )
-            if is_step and (os.path.dirname(file) == package or file == contextlib.__file__):
+            if is_step and (file.startswith(package) or file == contextlib.__file__):
                 left -= 1
                 if left == 0:
                     handler: Any = signal.getsignal(signal.SIGINT)

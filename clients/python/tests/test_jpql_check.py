@@ -7,10 +7,10 @@ import re
 import unittest
 from typing import Dict, Iterator, List, Optional, Tuple
 
-from karzhoul import jpql
-from karzhoul.jpql import LanguageName
-from karzhoul.jpql_check import BYTES, INT, TEXT, Kind, Kinds, QueryFinding, check
-from karzhoul.unit import entities_of
+from karzhoul.jpql import statements as jpql
+from karzhoul.jpql.statements import LanguageName
+from karzhoul.jpql.check import BYTES, INT, TEXT, Kind, Kinds, QueryFinding, check
+from karzhoul.mapping.unit import entities_of
 
 from .support import TOP
 

@@ -8,7 +8,7 @@ from typing import Any, Callable, Type
 from unittest import mock
 
 import karzhoul
-from karzhoul.limits import kind_of
+from karzhoul.explain.limits import kind_of
 from karzhoul.refusals import refusal_of
 
 from .support import PERSONS, ProgramTest, needs_program, played

@@ -13,7 +13,7 @@ import unittest
 from pathlib import Path
 from typing import Any, Callable, Dict, Iterator, List, Optional, Sequence, Set, Tuple
 
-from karzhoul.linter import Fault, Report, lint
+from karzhoul.mapping.linter import Fault, Report, lint
 
 from .support import (
     HERE, PERSONS, PROGRAM, SERVES_REVISION_2, TOP, examples, long_text, needs_program,

@@ -11,9 +11,9 @@ import sys
 from typing import List, Tuple
 from unittest import mock
 
-from karzhoul.command import main
-from karzhoul.given import given_of
-from karzhoul.linter import lint
+from karzhoul.cli.command import main
+from karzhoul.mapping.given import given_of
+from karzhoul.mapping.linter import lint
 
 from .classed import HEAD, ClassesTest
 from .support import PROGRAM, needs_program

@@ -16,8 +16,8 @@ from typing import Any, Callable, Iterator, List, Tuple
 from unittest import mock
 
 import karzhoul
-from karzhoul import memory
-from karzhoul.memory import MemoryStore
+from karzhoul.store import memory
+from karzhoul.store.memory import MemoryStore
 
 from .support import HERE, PERSONS, PROGRAM, FolderTest, needs_program, present
 
@@ -25,7 +25,7 @@ OPENED = """
 import sys
 sys.path.insert(0, {package!r})
 import karzhoul
-from karzhoul import memory
+from karzhoul.store import memory
 from pathlib import Path
 
 memory.MEMORY = Path({place!r})
@@ -311,7 +311,7 @@ FULL = """
 import os, subprocess, sys
 sys.path.insert(0, {package!r})
 import karzhoul
-from karzhoul import memory
+from karzhoul.store import memory
 from pathlib import Path
 
 memory.MEMORY = Path({place!r})

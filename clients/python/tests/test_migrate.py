@@ -20,8 +20,9 @@ from typing import Any, List, NamedTuple, Optional, Sequence, Tuple
 from unittest import mock
 
 import karzhoul
-from karzhoul import DeclarationError, NotBroughtOver, factory
-from karzhoul.command import main
+from karzhoul import DeclarationError, NotBroughtOver
+from karzhoul.store import starting
+from karzhoul.cli.command import main
 from karzhoul.migrating.feeding import Feed
 
 from .carried import cells
@@ -583,7 +584,7 @@ def ending(name):
     setattr(os, name, call)
 for name in ("link", "replace", "unlink", "mkdir", "rmdir", "fsync"):
     ending(name)
-from karzhoul.command import main
+from karzhoul.cli.command import main
 sys.exit(main(sys.argv[2:]))
 """
 
@@ -619,7 +620,7 @@ class Stopped(Migrated):
     def done(self) -> Tuple[int, str]:
         """The status of a run and its words, right behind one that was killed, whose program may
         still end."""
-        with mock.patch.object(factory, "PATIENCE", 60):
+        with mock.patch.object(starting, "PATIENCE", 60):
             status, _, err = self.ran(*self.words())
         return status, err
 

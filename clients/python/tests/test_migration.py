@@ -11,7 +11,7 @@ from typing import Any, Dict, Iterator, List, Optional, Tuple
 from unittest import mock
 
 import karzhoul
-from karzhoul.migration import outlook
+from karzhoul.store.migration import outlook
 
 from .support import PERSONS, PROGRAM, TOP, FolderTest, needs_program, needs_revision_2
 from .test_command import alone
@@ -82,7 +82,7 @@ class Told(WithStore):
     def test_a_store_of_persons(self) -> None:
         self.laid("migrate-person-store")
         before = self.db.read_bytes()
-        with mock.patch("karzhoul.factory.open", side_effect=AssertionError):
+        with mock.patch("karzhoul.session.opening.open", side_effect=AssertionError):
             self.assertEqual(self.told("--dry-run"), (0, PERSON_STORE, ""))
         self.assertEqual(self.db.read_bytes(), before)
 
@@ -317,7 +317,7 @@ class Asked(WithStore):
             return mock.Mock()
 
         self.opened: List[Tuple[bool, Cells]] = []
-        return mock.patch("karzhoul.factory.open", side_effect=opened)
+        return mock.patch("karzhoul.session.opening.open", side_effect=opened)
 
     def test_a_dry_run_over_a_copy(self) -> None:
         self.laid("migrate-person-store")

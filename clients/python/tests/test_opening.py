@@ -12,7 +12,8 @@ from pathlib import Path
 from unittest import mock
 
 import karzhoul
-from karzhoul import factory, opening
+from karzhoul.store import starting
+from karzhoul.store import opening
 
 from .support import FLAT, HERE, PROGRAM, FolderTest, needs_program
 
@@ -40,7 +41,7 @@ class Opening(FolderTest):
             held = f"(process {app.program.pid}), which this process started"
             self.fails("another program has it open, and one at a time has a file: ", held)
             words = (
-                "import karzhoul, karzhoul.factory\nkarzhoul.factory.PATIENCE = 0\n"
+                "import karzhoul, karzhoul.store.starting\nkarzhoul.store.starting.PATIENCE = 0\n"
                 f"karzhoul.open({str(FLAT)!r}, {str(self.db)!r})"
             )
             env = {**os.environ, "PYTHONPATH": str(HERE.parent), "KARZHOUL_PROGRAM": str(PROGRAM)}
@@ -59,7 +60,7 @@ class Opening(FolderTest):
     def test_a_locked_file_where_locks_are_not_listed(self) -> None:
         with karzhoul.open(FLAT, self.db, program=PROGRAM):
             with mock.patch.object(opening, "_LOCKS", self.place / "none"):
-                with mock.patch.object(factory, "PATIENCE", 0):
+                with mock.patch.object(starting, "PATIENCE", 0):
                     self.fails("another program has it open, and one at a time has a file")
 
     def test_a_file_that_becomes_free_is_waited_for(self) -> None:
@@ -105,7 +106,7 @@ class Opening(FolderTest):
     def test_one_that_is_in_use_is_waited_for_some_seconds(self) -> None:
         with karzhoul.open(FLAT, self.db, program=PROGRAM):
             with mock.patch.object(opening, "held_by", lambda _: opening.Held.BY_OTHERS):
-                with mock.patch.object(factory, "PATIENCE", 0.2):
+                with mock.patch.object(starting, "PATIENCE", 0.2):
                     self.fails("another program has it open")
 
     def test_folders(self) -> None:

@@ -20,7 +20,7 @@ from pathlib import Path
 from typing import Any, Callable, Iterator, List, Tuple
 
 import karzhoul
-from karzhoul.beginnings import first_mapping
+from karzhoul.cli.beginnings import first_mapping
 
 from .support import PROGRAM, TOP, needs_program
 

@@ -124,7 +124,7 @@ class Commands(FolderTest):
     def run_desk(self, *words: Any) -> Tuple[int, str, str]:
         out, err = io.StringIO(), io.StringIO()
         # As where the package lies in no clone, whose program would be started else.
-        with mock.patch("karzhoul.finding._PACKAGE", self.folder), mock.patch.dict(
+        with mock.patch("karzhoul.store.finding._PACKAGE", self.folder), mock.patch.dict(
             os.environ, {"KARZHOUL_PROGRAM": str(PROGRAM)}
         ):
             with contextlib.redirect_stdout(out), contextlib.redirect_stderr(err):

@@ -474,7 +474,7 @@ class Calls(Desk):
             (transaction.rollback, ["Ada", 0]), (transaction.commit, ["Bob", 1]),
         ]
         for end, wanted in ends:
-            self.app._callbacks.clear()
+            self.app._events.callbacks.clear()
             self.on(PRE_UPDATE, lambda person, end=end: end())  # type: ignore[misc]
             with self.assertRaises(karzhoul.IllegalState) as raised, transaction:
                 present(self.em, self.Person, 1).name = "Bob"

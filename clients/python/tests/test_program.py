@@ -18,7 +18,7 @@ from pathlib import Path
 from unittest import mock
 
 import karzhoul
-from karzhoul.program import Exchange, Program
+from karzhoul.store.program import Exchange, Program
 
 from .support import FLAT, HERE, PERSONS, PROGRAM, STUB, ProgramTest, needs_program, played
 

@@ -7,7 +7,7 @@ import random
 import unittest
 from typing import Any, Dict, List
 
-from karzhoul.replies import loaded_in, rows_of_values_in
+from karzhoul.wire.replies import is_reply, loaded_in, rows_of_values_in
 
 TEXTS = [
     "", "Ada", 'a"b', "a\\", '\\"', "é\n", ']},{"entity":"Item","values":[', '"values":[', "]}]}",
@@ -97,3 +97,23 @@ class Loaded(unittest.TestCase):
             {"events": [["PostLoad", 1], ["PrePersist", 2]], "ok": [{"object": 1}]},
         ):
             self.assertIsNone(loaded_in(spelled(said)), said)
+
+
+class Shape(unittest.TestCase):
+    def test_what_is_a_reply(self) -> None:
+        for said in (
+            {"events": [], "ok": None}, {"events": [], "error": {"name": "Limit"}},
+            {"events": [["PreUpdate", 3]], "ok": [[1, "a"], {"hex": "00fF"}]},
+            {"events": [["PostLoad", 1, "own"]], "ok": {}},
+        ):
+            self.assertTrue(is_reply(spelled(said)), said)
+
+    def test_what_is_none(self) -> None:
+        for said in (
+            7, [], {"ok": None}, {"events": []}, {"events": {}, "ok": 1}, {"events": [], "error": {}},
+            {"events": [["PostFoo", 1]], "ok": None}, {"events": [["PostLoad"]], "ok": None},
+            {"events": [["PostLoad", "1"]], "ok": None}, {"events": [], "ok": [{"object": "1"}]},
+            {"events": [], "ok": {"hex": "0"}},
+        ):
+            self.assertFalse(is_reply(spelled(said)), said)
+        self.assertFalse(is_reply(b'{"events":[],"ok":'))

@@ -15,7 +15,8 @@ from typing import Any, Callable, List, Optional
 from unittest import mock
 
 import karzhoul
-from karzhoul import EntityManager, pausing
+from karzhoul import EntityManager
+from karzhoul.session import pausing
 
 from .support import PERSONS, PROGRAM, FolderTest, needs_program, played
 

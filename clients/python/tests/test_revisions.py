@@ -7,7 +7,7 @@ import sys
 import tempfile
 import unittest
 
-from karzhoul.linter import lint
+from karzhoul.mapping.linter import lint
 
 from .support import PROGRAM, TOP, needs_program, needs_revision_2, package_elsewhere
 from .test_tutorial import blocks, follow

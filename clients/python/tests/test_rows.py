@@ -9,8 +9,8 @@ from typing import Any, Callable, List
 from unittest import mock
 
 import karzhoul
-from karzhoul.rewriting import counting, with_lists
-from karzhoul.rows import Names, Row, Rows
+from karzhoul.queries.rewriting import counting, with_lists
+from karzhoul.queries.rows import Names, Row, Rows
 
 from .support import ORDERS, ManagerTest, counted, needs_program
 
@@ -311,7 +311,7 @@ class Asked(ManagerTest):
         self.assertEqual(self.em.query("SELECT p FROM Person p").one(), self.person)
 
     def test_names_are_read_where_one_is_asked_for(self) -> None:
-        with mock.patch("karzhoul.jpql.statement_of", side_effect=AssertionError):
+        with mock.patch("karzhoul.jpql.statements.statement_of", side_effect=AssertionError):
             rows = self.em.query("SELECT o.number, o.amount FROM Order o")
             self.assertEqual(rows[0][0], 1)
 

@@ -14,9 +14,9 @@ from unittest import mock
 
 import karzhoul
 from karzhoul import LifecycleEvent, Restarted
-from karzhoul.foresight import Foresight
-from karzhoul.program import Exchange, Program
-from karzhoul.runs import Run
+from karzhoul.objects.foresight import Foresight
+from karzhoul.objects.identity import IdentityMap
+from karzhoul.store.program import Exchange, Program
 
 from .steps import interrupted_at_step
 from .support import HERE, PERSONS, PROGRAM, FolderTest, needs_program, present
@@ -348,14 +348,15 @@ class Many(RunsTest):
         """Without a callback: so the values of what is found are asked for with it."""
         foresight = self.Person._karzhoul_foresight
         taken: List[bool] = []
-        one_shown = Run.one_shown
+        one_shown = IdentityMap.one_shown
 
-        def noted(run: Run, *given: Any) -> Any:
-            found = one_shown(run, *given)
+        def noted(objects: IdentityMap, *given: Any) -> Any:
+            found = one_shown(objects, *given)
             taken.append(found is not None)
             return found
 
-        with mock.patch.object(Foresight, "note"), mock.patch.object(Run, "one_shown", noted):
+        shown = mock.patch.object(IdentityMap, "one_shown", noted)
+        with mock.patch.object(Foresight, "note"), shown:
             foresight.is_on = True
             self.many(False)
         self.assertGreater(taken.count(True), 100)
@@ -581,6 +582,9 @@ class ByCall(RunsTest):
         self.assertEqual(self.names(), list(NAMES))
 
 
+MAY_ASK = {"cli/shell.py", "session/calls.py", "console/objects.py"}
+
+
 @needs_program
 class Lines(RunsTest):
     """The one place that sends."""
@@ -613,8 +617,10 @@ class Lines(RunsTest):
 
     def test_only_the_prompt_asks_by_numbers_that_were_typed(self) -> None:
         """Everything else sends a line with the run of what it names."""
-        for path in sorted(Path(HERE.parent, "karzhoul").glob("*.py")):
-            if path.name not in ("shell.py", "calls.py"):
+        for path in sorted(Path(HERE.parent, "karzhoul").rglob("*.py")):
+            # (A server has an `ask` of its own, in numbers of the program.)
+            place = f"{path.parent.name}/{path.name}"
+            if place not in MAY_ASK and path.parent.name != "server":
                 text = path.read_text(encoding="utf-8")
                 self.assertNotRegex(text, r"\.(ask|send_line)\(", path.name)
 

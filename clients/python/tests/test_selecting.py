@@ -15,7 +15,7 @@ from typing import Any, Dict, List, Tuple
 from unittest import mock
 
 import karzhoul
-from karzhoul.command import main
+from karzhoul.cli.command import main
 
 from .support import HERE, PERSONS, PROGRAM, needs_program
 

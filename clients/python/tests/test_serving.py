@@ -21,7 +21,7 @@ from typing import Any, Dict, List, NamedTuple, Optional
 from unittest import mock
 
 import karzhoul
-from karzhoul.command import main
+from karzhoul.cli.command import main
 from karzhoul.server.way import Way
 
 from .served import SECONDS, Talk

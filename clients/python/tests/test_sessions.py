@@ -19,7 +19,7 @@ from unittest import mock
 
 import karzhoul
 from karzhoul import Event, LifecycleEvent
-from karzhoul.runs import Run
+from karzhoul.session.reading import Reader
 
 from .support import HERE, ORDERS, PERSONS, PROGRAM, ManagerTest, ProgramTest, needs_program, played
 
@@ -213,7 +213,7 @@ class Within(ProgramTest):
         for kind in (TimeoutError, ValueError, LookupError):
             ada = self.Person(name="Ada")
             self.em.persist(ada)
-            with mock.patch.object(Run, "answer", mock.Mock(side_effect=Late(kind))):
+            with mock.patch.object(Reader, "answer", mock.Mock(side_effect=Late(kind))):
                 with self.assertRaises(kind):
                     self.em.flush()
             self.assertTrue(self.em.contains(ada))

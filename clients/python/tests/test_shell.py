@@ -13,9 +13,9 @@ from typing import Any, ContextManager, List, Tuple
 from unittest import mock
 
 import karzhoul
-from karzhoul.asked import statement_of, titles_of
-from karzhoul.command import main
-from karzhoul.shell import Shell
+from karzhoul.showing.asked import statement_of, titles_of
+from karzhoul.cli.command import main
+from karzhoul.cli.shell import Shell
 
 from .carried import CARRIED
 from .support import HERE, PROGRAM, needs_program
@@ -82,7 +82,7 @@ class Statements(unittest.TestCase):
         self.assertEqual(self.says("show Person 9"), ["there is no Person 9"])
         self.assertEqual(self.says("show #99"), ["#99 is no object that was told here"])
         self.assertIn("refused: IllegalArgument(entity)", self.says("show Nobody 1"))
-        with mock.patch("karzhoul.asked._MOST_MEMBERS", 1):
+        with mock.patch("karzhoul.showing.asked._MOST_MEMBERS", 1):
             self.assertIn("  orders   [#6 Order 1, and 1 more]", self.says("show Person 1"))
 
     def test_a_change_is_committed_unless_a_transaction_is_open(self) -> None:

@@ -13,8 +13,8 @@ import unittest
 from pathlib import Path
 from typing import Any, Tuple
 
-from karzhoul.command import main
-from karzhoul.stubs import module_of
+from karzhoul.cli.command import main
+from karzhoul.mapping.typed import module_of
 
 from .support import PERSONS, ProgramTest, needs_program
 

@@ -10,7 +10,7 @@ import unittest
 from typing import List
 
 import karzhoul
-from karzhoul.tally import Tally
+from karzhoul.wire.tally import Tally
 
 from .support import PERSONS, PROGRAM, ProgramTest, needs_program
 

@@ -14,7 +14,8 @@ from typing import Any, Callable, Iterator, List
 from unittest import mock
 
 import karzhoul
-from karzhoul import LifecycleEvent, NoFreeManager, Restarted, places
+from karzhoul import LifecycleEvent, NoFreeManager, Restarted
+from karzhoul.session import places
 
 from .steps import interrupted_at_step
 from .support import PERSONS, PROGRAM, FolderTest, needs_program, present

@@ -13,7 +13,7 @@ from typing import Any, Callable, Dict, Type
 
 import karzhoul
 from karzhoul import FlushModeType, LockModeType
-from karzhoul.lines import CALLS
+from karzhoul.wire.lines import CALLS
 
 from .support import HERE, examples, played, present
 

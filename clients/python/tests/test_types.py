@@ -13,7 +13,7 @@ from pathlib import Path
 from typing import Dict, List
 
 import karzhoul
-from karzhoul.stubs import module_of
+from karzhoul.mapping.typed import module_of
 
 from .support import HERE
 
@@ -205,7 +205,7 @@ class TypedClasses(unittest.TestCase):
         )
         wanted = [
             "shop.Customer", "int", "Union[str, None]", "str",
-            "karzhoul.entities.Collection[shop.Order]",
+            "karzhoul.objects.entities.Collection[shop.Order]",
             "shop.Customer",
         ]
         wanted += [

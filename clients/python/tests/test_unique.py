@@ -13,7 +13,7 @@ from typing import Any, Callable, Dict, List
 import karzhoul
 from karzhoul import FlushModeType, LifecycleEvent, NotBroughtOver, NotUnique
 from karzhoul.classes.changes import make
-from karzhoul.show import tables
+from karzhoul.showing.tables import tables
 
 from .classed import ClassesTest
 from .support import HERE, PROGRAM, needs_program

@@ -11,7 +11,8 @@ from typing import Any
 from unittest import mock
 
 import karzhoul
-from karzhoul import NotUnique, factory
+from karzhoul import NotUnique
+from karzhoul.store import starting
 
 from .classed import ClassesTest
 from .support import HERE, PROGRAM, needs_program
@@ -29,7 +30,7 @@ here, folder, name, db, lock, program, left = sys.argv[1:]
 sys.path[:0] = [here, folder]
 import karzhoul
 from karzhoul.classes import unique
-from karzhoul.program import Program
+from karzhoul.store.program import Program
 unique._AT_ONCE, left, replies = 5, [int(left)], Program.replies
 def counted(self, *words, **more):
     left[0] -= 1
@@ -53,7 +54,7 @@ class Making(ClassesTest):
 
     def judge(self, module: Any, count: int) -> None:
         """Each member has its key, and so its value is refused."""
-        with mock.patch.object(factory, "PATIENCE", 60):
+        with mock.patch.object(starting, "PATIENCE", 60):
             app = self.open(module)
         with app:
             with app.begin() as manager:
@@ -89,7 +90,7 @@ class Making(ClassesTest):
 
     def judge_back(self) -> None:
         """The classes of before are opened again over the store, and take what was unique."""
-        with mock.patch.object(factory, "PATIENCE", 60):
+        with mock.patch.object(starting, "PATIENCE", 60):
             app = self.open(STORED)
         with app:
             with app.begin() as manager:

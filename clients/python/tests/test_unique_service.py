@@ -14,7 +14,8 @@ from typing import Any, List
 from unittest import mock
 
 import karzhoul
-from karzhoul import NotUnique, factory
+from karzhoul import NotUnique
+from karzhoul.store import starting
 
 from .classed import ClassesTest
 from .support import PROGRAM, needs_program
@@ -163,7 +164,7 @@ class Service(ClassesTest):
             time.sleep(chance.uniform(0, 0.5))
             child.send_signal(signal.SIGKILL)
             child.communicate()
-            with mock.patch.object(factory, "PATIENCE", 60):
+            with mock.patch.object(starting, "PATIENCE", 60):
                 self.open(self.models).close()
         self.assertEqual(committed, 6)
         with self.open(self.models) as app:

@@ -17,9 +17,10 @@ from typing import Any, Callable, Dict, List, Optional
 from unittest import mock
 
 import karzhoul
-from karzhoul import Entity, FlushModeType, LifecycleEvent, LockModeType, shown
+from karzhoul import Entity, FlushModeType, LifecycleEvent, LockModeType
+from karzhoul.objects import shown
 from karzhoul.refusals import KarzhoulError
-from karzhoul.runs import Run
+from karzhoul.session.reading import Reader
 
 from .steps import interrupted_at_step
 from .support import ORDERS, PROGRAM, ManagerTest, counted, needs_program, present
@@ -95,7 +96,7 @@ class Asked(ManagerTest):
             rows = self.em.query("SELECT o FROM Order o")
             self.assertEqual([order.amount for order in rows], [*range(10, 15), 20, None])
 
-        with mock.patch.object(Run, "show", side_effect=AssertionError):
+        with mock.patch.object(Reader, "show", side_effect=AssertionError):
             self.assertEqual(self.asked_by(read), ["query", "values"])
         [last] = self.em.query("SELECT o FROM Order o WHERE o.number = 20")
         self.assertEqual(last.person.name, "Eve")
@@ -382,7 +383,7 @@ class Between(ManagerTest):
             nonlocal left, ran
             if event not in ("call", "c_return") or ran:
                 return
-            if os.path.dirname(frame.f_code.co_filename) != package:
+            if not frame.f_code.co_filename.startswith(package + os.sep):
                 return
             left -= 1
             if left == 0:

@@ -11,11 +11,11 @@ from decimal import Decimal
 from typing import Any, Dict, List
 
 import karzhoul
-from karzhoul import jpql
-from karzhoul.jpql_check import INT, TEXT, Kinds, check
-from karzhoul.line_check import faults_of_line
-from karzhoul.rewriting import counting
-from karzhoul.unit import entities_of
+from karzhoul.jpql import statements as jpql
+from karzhoul.jpql.check import INT, TEXT, Kinds, check
+from karzhoul.explain.line_check import faults_of_line
+from karzhoul.queries.rewriting import counting
+from karzhoul.mapping.unit import entities_of
 
 from .classed import ClassesTest
 from .support import PERSONS, PROGRAM, TOP, FolderTest, counted, needs_program

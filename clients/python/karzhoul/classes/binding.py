@@ -7,10 +7,10 @@ from typing import TYPE_CHECKING, Any, Callable, Dict, Iterator, List, Mapping, 
 from typing import Tuple, Type, Union
 from weakref import WeakKeyDictionary, WeakSet
 
-from ..entities import Attribute, Entity, Event, check_names
-from ..indexes import WHY_NOT, Known, index_line
-from ..lines import LifecycleEvent
-from ..unit import MemberKind
+from ..objects.entities import Attribute, Entity, Event, check_names
+from ..mapping.indexes import WHY_NOT, Known, index_line
+from ..wire.lines import LifecycleEvent
+from ..mapping.unit import MemberKind
 from . import types
 from .checks import chain
 from .declared import CALLBACKS, KINDS, TO_MANY, Declared, Member, Model
@@ -19,7 +19,7 @@ from .fields import MISSING
 from .values import WrongValue, from_stored, to_stored
 
 if TYPE_CHECKING:
-    from ..factory import EntityManagerFactory
+    from ..session.factory import EntityManagerFactory
 
 _OPEN: WeakKeyDictionary[type, WeakSet[EntityManagerFactory]] = WeakKeyDictionary()
 

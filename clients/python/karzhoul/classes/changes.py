@@ -22,8 +22,8 @@ from .types import StoredType, Unfit
 from .unique import Constraint, Uniques, doubles, keyless, linked, make_keys, sweep
 
 if TYPE_CHECKING:
-    from ..factory import EntityManagerFactory
-    from ..managers import EntityManager
+    from ..session.factory import EntityManagerFactory
+    from ..session.managers import EntityManager
 
 Start = Callable[[Mapping[str, Any], Optional[Binding]], "EntityManagerFactory"]
 _FORMS_OF = f"SELECT f.at, f.form FROM {FORMS} f"

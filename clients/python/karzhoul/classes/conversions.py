@@ -7,9 +7,9 @@ from dataclasses import dataclass, field
 from functools import lru_cache
 from typing import Any, Dict, Iterable, List, Mapping, NamedTuple, Optional, Sequence, Set, Tuple
 
-from .. import jpql
-from ..jpql import Block, Node, Statement, Token, read
-from ..rewriting import Edits, is_list
+from ..jpql import statements as jpql
+from ..jpql.statements import Block, Node, Statement, Token, read
+from ..queries.rewriting import Edits, is_list
 from .binding import embedded_of
 from .checks import chain, member_of
 from .declared import OWN_ID, Member, Model

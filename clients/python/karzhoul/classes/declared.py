@@ -7,8 +7,8 @@ from dataclasses import dataclass, field as member, replace
 from types import ModuleType
 from typing import Any, ClassVar, Dict, Iterable, Iterator, List, Optional, Tuple, Type, Union
 
-from ..entities import Entity
-from ..unit import OWN_ENTITIES
+from ..objects.entities import Entity
+from ..mapping.unit import OWN_ENTITIES
 from . import types
 from .annotations import Annotated, Scope, Unread, own_annotations
 from .embedded import Embedded, Part, check_optional, is_embedded, parts_of

@@ -6,7 +6,7 @@ from dataclasses import dataclass
 from typing import Any, ClassVar, Dict, Iterable, Mapping, NoReturn, Optional
 from typing import Tuple, Type, TypeVar
 
-from ..misfits import unknown
+from ..objects.misfits import unknown
 from .annotations import Scope, Unread, own_annotations
 from .faults import Faults
 from .fields import (

@@ -8,7 +8,7 @@ import sys
 from pathlib import Path
 from typing import Any
 
-from ..given import given_of
+from ..mapping.given import given_of
 from . import lock as locks
 from .changes import make
 from .faults import DeclarationError

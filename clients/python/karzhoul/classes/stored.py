@@ -8,7 +8,7 @@ from enum import Enum
 from typing import Any, Callable, Dict
 from uuid import UUID
 
-from ..entities import Entity
+from ..objects.entities import Entity
 from . import types
 from .annotations import Annotated, Unread
 from .fields import Field

@@ -17,10 +17,10 @@ from operator import attrgetter
 from typing import TYPE_CHECKING, Any, Dict, Iterable, Iterator, List, Optional, Sequence, Set
 from typing import Tuple
 
-from ..concern import Noted
-from ..entities import Entity
-from ..jpql import Bulk, read, tokens_of
-from ..lines import line_of, text_spelled
+from ..objects.concern import Noted
+from ..objects.entities import Entity
+from ..jpql.statements import Bulk, read, tokens_of
+from ..wire.lines import line_of, text_spelled
 from ..refusals import KarzhoulError, NotUnique, OptimisticLock, Refused, Rollback
 from .checks import chain, member_of
 from .declared import Member, Model
@@ -28,8 +28,8 @@ from .lock import Lock, root_of
 from .mapping import UNIQUE, unique_link
 
 if TYPE_CHECKING:
-    from ..managers import EntityManager
-    from ..pending import Due
+    from ..session.managers import EntityManager
+    from ..session.pending import Due
 
 # A longer value is told by its digest.
 _LONGEST = 500

@@ -4,11 +4,11 @@ from __future__ import annotations
 
 from typing import Any, Dict, Mapping, Sequence
 
-from ..entities import Entity
-from ..jpql import LanguageName
-from ..jpql_check import Kinds, QueryFinding, check
+from ..objects.entities import Entity
+from ..jpql.statements import LanguageName
+from ..jpql.check import Kinds, QueryFinding, check
 from ..refusals import Refused
-from ..unit import EntityDescription
+from ..mapping.unit import EntityDescription
 
 Answer = Dict[str, Any]
 

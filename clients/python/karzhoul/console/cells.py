@@ -6,8 +6,8 @@ from __future__ import annotations
 import re
 from typing import Any, List, NamedTuple, Optional, Tuple, Union
 
-from ..jpql_check import BYTES, INT, TEXT, Kind
-from ..show import value_text
+from ..jpql.check import BYTES, INT, TEXT, Kind
+from ..explain.texts import value_text
 
 Plain = Union[None, int, str, bytes]
 Cell = Optional[List[str]]

@@ -5,13 +5,13 @@ from __future__ import annotations
 
 from typing import Any, Callable, Dict, List, Mapping, NamedTuple, Optional
 
-from ..entities import Attribute, Entity
-from ..factory import EntityManagerFactory
-from ..managers import EntityManager
+from ..objects.entities import Attribute, Entity
+from ..session.factory import EntityManagerFactory
+from ..session.managers import EntityManager
 from ..refusals import KarzhoulError, ProgramEnded, Restarted
-from ..show import value_text
-from ..transactions import is_of_callback
-from ..unit import EntityDescription, Member, MemberKind
+from ..explain.texts import value_text
+from ..session.transactions import is_of_callback
+from ..mapping.unit import EntityDescription, Member, MemberKind
 from .answers import Answer, Declined, refusal_of
 from .cells import Reference, Unread, reference_of, said_reference, value_of
 from .objects import Objects

@@ -4,12 +4,12 @@ from __future__ import annotations
 
 from typing import Any, Dict, List, Mapping, Optional, Sequence
 
-from ..asked import titles_of
-from ..entities import Entity
-from ..factory import EntityManagerFactory
-from ..lines import spelled
-from ..managers import EntityManager
-from ..unit import EntityDescription, Member, MemberKind
+from ..showing.asked import titles_of
+from ..objects.entities import Entity
+from ..session.factory import EntityManagerFactory
+from ..wire.lines import spelled
+from ..session.managers import EntityManager
+from ..mapping.unit import EntityDescription, Member, MemberKind
 from .answers import Answer
 from .cells import Plain, Reference, Unread, cell_of, kind_of, said_reference
 

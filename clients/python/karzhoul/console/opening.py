@@ -7,11 +7,12 @@ import json
 from pathlib import Path
 from typing import List, Optional
 
-from ..connecting import connect
-from ..factory import EntityManagerFactory, open as opened
-from ..given import given_of, mapping_data
-from ..jpql import LanguageName
-from ..migration import outlook
+from ..server.connecting import connect
+from ..session.factory import EntityManagerFactory
+from ..session.opening import open as opened
+from ..mapping.given import given_of, mapping_data
+from ..jpql.statements import LanguageName
+from ..store.migration import outlook
 from ..refusals import Misused
 
 

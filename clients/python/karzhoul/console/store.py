@@ -7,15 +7,15 @@ import threading
 from contextlib import contextmanager
 from typing import Any, Dict, Iterator, List, Mapping, Optional, Sequence
 
-from ..factory import EntityManagerFactory
-from ..jpql import Unreadable, parameters_of, statement_of
-from ..lines import line_of, spelled, text_spelled
-from ..lookups import lookups_of
-from ..managers import EntityManager
+from ..session.factory import EntityManagerFactory
+from ..jpql.statements import Unreadable, parameters_of, statement_of
+from ..wire.lines import line_of, spelled, text_spelled
+from ..queries.lookups import lookups_of
+from ..session.managers import EntityManager
 from ..refusals import Misused, ProgramEnded, Restarted
-from ..rows import Names
-from ..spelling import row_of_cells
-from ..unit import EntityDescription, entities_of, shown_entities
+from ..queries.rows import Names
+from ..records.spelling import row_of_cells
+from ..mapping.unit import EntityDescription, entities_of, shown_entities
 from .answers import Answer, Declined, declined, mistakes_of, refusal_of, said_mistake
 from .cells import Plain, Reference, Unread, kind_of, value_of
 from .changing import Changes, tell_lost

@@ -10,8 +10,8 @@ from datetime import timezone, tzinfo
 from pathlib import Path
 from typing import Any, Dict, List, Mapping, Optional, Tuple
 
-from ..given import WrongMapping
-from ..linter import lint
+from ..mapping.given import WrongMapping
+from ..mapping.linter import lint
 from ..migrating.sides import Side
 from .dialects import Dialect
 from .javaforms import POSTGRESQL, Times, form_of

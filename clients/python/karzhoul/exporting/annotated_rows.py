@@ -5,10 +5,10 @@ from __future__ import annotations
 from typing import Any, Callable, Dict, Iterator, List, Mapping, NoReturn, Optional, Tuple
 
 from ..classes.types import Unfit
-from ..dumping import Stored
-from ..factory import EntityManagerFactory
-from ..progress import Progress
-from ..records import Key, Record, Value
+from ..records.dumping import Stored
+from ..session.factory import EntityManagerFactory
+from ..records.progress import Progress
+from ..records.records import Key, Record, Value
 from ..refusals import KarzhoulError
 from .annotated import HELD, PLACE, Annotated, Generator, Place, Said
 from .dialects import Dialect

@@ -5,7 +5,7 @@ from __future__ import annotations
 from typing import Any, Callable, Dict, List, Optional, Sequence
 
 from ..classes.types import Iso, Json, Money, Plainly, StoredType, Truth, Unfit, Unique
-from ..records import Value
+from ..records.records import Value
 from .javaforms import JavaForm
 from .tables import Table
 

@@ -11,14 +11,15 @@ from dataclasses import replace
 from pathlib import Path
 from typing import Any, Dict, Iterator, List, Mapping, Optional, Sequence, Tuple
 
-from .. import factory
+from ..session import opening
+from ..session.factory import EntityManagerFactory
 from ..classes.mapping import FORMS
-from ..converters import value_of
-from ..dumping import Stored
+from ..mapping.converters import value_of
+from ..records.dumping import Stored
 from ..migrating.sides import Side, mapped
-from ..migration import outlook
-from ..progress import Progress
-from ..records import bare
+from ..store.migration import outlook
+from ..records.progress import Progress
+from ..records.records import bare
 from ..refusals import KarzhoulError, Misused
 from . import annotated_rows
 from .annotated import Annotated, annotated
@@ -171,9 +172,9 @@ def _refuse_older(side: Side, db: Path) -> None:
 @contextmanager
 def opened(
     side: Side, db: Path, program: Optional[str]
-) -> Iterator[factory.EntityManagerFactory]:
+) -> Iterator[EntityManagerFactory]:
     """A store that is read, over a mapping by which nobody hears of it."""
-    with factory.open(bare(side.mapping), str(db), program=program) as app:
+    with opening.open(bare(side.mapping), str(db), program=program) as app:
         try:
             yield app
         except KeyboardInterrupt:
@@ -182,7 +183,7 @@ def opened(
 
 
 def tables_of(
-    side: Side, app: factory.EntityManagerFactory, said: argparse.Namespace, dialect: Dialect
+    side: Side, app: EntityManagerFactory, said: argparse.Namespace, dialect: Dialect
 ) -> Tables:
     """The tables that the words of a command make of a store; a `NoTables` says what a database
     doesn't take."""
@@ -200,7 +201,7 @@ def tables_of(
 
 
 def write(
-    app: factory.EntityManagerFactory, tables: Tables, dialect: Dialect, target: Target
+    app: EntityManagerFactory, tables: Tables, dialect: Dialect, target: Target
 ) -> int:
     """Writes a store as tables; how many objects it has."""
     stored, rows, counts = Stored(app), Rows(tables, dialect), counts_of(app, tables.side.shapes)

@@ -10,7 +10,7 @@ from pathlib import Path
 from typing import Dict, Iterator, List, Optional
 
 from ..classes import lock as locks
-from ..finding import find_program
+from ..store.finding import find_program
 from ..migrating.bringing import MOST_FAULTS
 from ..migrating.feeding import Feed
 from ..migrating.judging import judge
@@ -18,7 +18,7 @@ from ..migrating.places import is_whole
 from ..migrating.sides import mapped
 from ..migrating.singles import Singles
 from ..migrating.writing import NewStore, carrying
-from ..progress import Progress
+from ..records.progress import Progress
 from ..refusals import Damaged, KarzhoulError, ProgramEnded
 from .exported import WRONG, check_new, side_of, stopped
 from .naming import Names, given_names

@@ -14,7 +14,7 @@ from contextlib import contextmanager, suppress
 from pathlib import Path
 from typing import Any, Dict, Iterator, Optional, Tuple
 
-from ..connecting import check_alike
+from ..server.connecting import check_alike
 from ..migrating.sides import Side, mapped
 from ..refusals import KarzhoulError
 from ..server.asking import asked, copied

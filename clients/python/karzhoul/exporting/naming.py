@@ -6,7 +6,7 @@ import hashlib
 import re
 from typing import Dict, List, Mapping, Sequence, Tuple
 
-from ..arguments import meant
+from ..mapping.meant import meant
 from ..refusals import Misused
 
 AS_MAPPED, SNAKE = "mapping", "snake"

@@ -6,11 +6,11 @@ import sqlite3
 from typing import Callable, Dict, Iterator, List, Optional, Sequence, Tuple, Union
 
 from ..classes.types import Unfit as UnfitValue
-from ..dumping import tops_in_order
+from ..records.dumping import tops_in_order
 from ..migrating.bringing import Brought
 from ..migrating.plans import Led
-from ..records import Key, Shape, Unfit, Value, fitting, named
-from ..unit import Member
+from ..records.records import Key, Shape, Unfit, Value, fitting, named
+from ..mapping.unit import Member
 from .dialects import quoted
 from .sqlite import columns_of
 from .tables import KEY, LINK, OWNER, TARGET, VALUE, VERSION, Column, Table, Tables

@@ -5,7 +5,7 @@ from __future__ import annotations
 from typing import Any, Callable, Dict, Iterator, List, NoReturn, Optional, Tuple
 
 from ..classes.types import Unfit
-from ..records import Record, Shape
+from ..records.records import Record, Shape
 from ..refusals import KarzhoulError
 from .dialects import Dialect, Make
 from .tables import CLASS, KEY, LINK, OWNER, VALUE, VERSION, Column, Table, Tables

@@ -10,8 +10,8 @@ from ..classes.types import Plainly, StoredType
 from ..classes.unique import Uniques
 from ..migrating.forms import plain_type
 from ..migrating.sides import Side
-from ..records import Shape
-from ..unit import Member
+from ..records.records import Shape
+from ..mapping.unit import Member
 from .naming import Names, collisions
 
 CLASS, KEY, VERSION, VALUE, LINK = "class", "key", "version", "value", "link"

@@ -4,7 +4,7 @@ from __future__ import annotations
 
 from typing import Dict, Iterable, Union
 
-from ..factory import EntityManagerFactory
+from ..session.factory import EntityManagerFactory
 from .script import Script
 from .sqlite import File
 

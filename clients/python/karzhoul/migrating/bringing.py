@@ -5,13 +5,13 @@ from __future__ import annotations
 from dataclasses import dataclass, field
 from typing import Any, Dict, Iterator, List, Mapping, Optional, Sequence, Set, Tuple, Union
 
-from ..arguments import meant
+from ..mapping.meant import meant
 from ..classes.embedded import Embedded
 from ..classes.types import StoredType
 from ..classes.types import Unfit as UnfitValue
 from ..classes.values import WrongValue
-from ..records import Key, Record, Shape, Unfit, Value, fitting, key_fitting, named
-from ..unit import Member
+from ..records.records import Key, Record, Shape, Unfit, Value, fitting, key_fitting, named
+from ..mapping.unit import Member
 from .forms import plain_type
 from .names import check_whole, flattened
 from .olds import Old, OldStore, Reference

@@ -10,14 +10,15 @@ from pathlib import Path
 from types import ModuleType
 from typing import Any, Dict, Iterator, List, Optional
 
-from .. import factory
+from ..session import opening
+from ..session.factory import EntityManagerFactory
 from ..classes.mapping import FORMS
-from ..dumping import Stored
-from ..finding import find_program
-from ..given import WrongMapping
-from ..migration import outlook
-from ..progress import Progress
-from ..records import bare
+from ..records.dumping import Stored
+from ..store.finding import find_program
+from ..mapping.given import WrongMapping
+from ..store.migration import outlook
+from ..records.progress import Progress
+from ..records.records import bare
 from ..refusals import Damaged, KarzhoulError, Misused
 from ..refusals import Mapping as MappingRefused
 from .bringing import MOST_FAULTS, Bringer
@@ -132,18 +133,18 @@ class _Migration:
                 "over for good: name the mapping that it was written with by --from"
             )
 
-    def _held(self) -> factory.EntityManagerFactory:
+    def _held(self) -> EntityManagerFactory:
         """The old store, opened, with nothing in its log that the file lacks: at the end of a
         program all of it is in the file."""
         while True:
-            app = factory.open(
+            app = opening.open(
                 bare(self._plan.old.mapping), self._places.db, program=self._said.program
             )
             if not self._places.has_log():
                 return app
             app.close()
 
-    def _look(self, app: factory.EntityManagerFactory) -> OldStore:
+    def _look(self, app: EntityManagerFactory) -> OldStore:
         """What the old store says of itself."""
         old = self._plan.old
         manager = app.create_entity_manager()
@@ -157,7 +158,7 @@ class _Migration:
             self._counts[name] = int(manager.one(f"SELECT COUNT(e) {where}"))
         return OldStore(old, app)
 
-    def _told_lost(self, app: factory.EntityManagerFactory) -> List[str]:
+    def _told_lost(self, app: EntityManagerFactory) -> List[str]:
         """What would be lost, and isn't said to go; what is said is told with its number."""
         manager, found = app.create_entity_manager(), []
         for name, plan in self._plan.classes.items():
@@ -219,7 +220,7 @@ class _Migration:
 
     # ---- objects
 
-    def _tried(self, app: factory.EntityManagerFactory, store: OldStore) -> int:
+    def _tried(self, app: EntityManagerFactory, store: OldStore) -> int:
         """Makes all new objects, and stores none."""
         bringer = Bringer(self._plan, store)
         singles = Singles(self._plan.new, bringer)
@@ -235,11 +236,11 @@ class _Migration:
         faults = bringer.faults + singles.faults
         return self._stopped(faults) if faults else 0
 
-    def _records(self, app: factory.EntityManagerFactory) -> Iterator[Any]:
+    def _records(self, app: EntityManagerFactory) -> Iterator[Any]:
         stored = Stored(app)
         return stored.in_order({name: stored.keys(name) for name in self._plan.old.shapes})
 
-    def _bring(self, app: factory.EntityManagerFactory, store: OldStore) -> int:
+    def _bring(self, app: EntityManagerFactory, store: OldStore) -> int:
         """Makes the new store, and has the program judge it."""
         side = self._plan.new
         feed = Feed(self._program, carrying(side.mapping), self._places.new)

@@ -11,9 +11,9 @@ from pathlib import Path
 from subprocess import PIPE, Popen
 from typing import Any, Deque, Dict, List, Mapping, Optional, Tuple
 
-from ..opening import what_bars_writing, why_unopened
-from ..program import refusal_told
-from ..records import Key, named
+from ..store.opening import what_bars_writing, why_unopened
+from ..store.program import refusal_told
+from ..records.records import Key, named
 from ..refusals import KarzhoulError, ProgramEnded, StoreFault
 
 # So many texts of lines wait at most.

@@ -8,7 +8,7 @@ from typing import Callable, Dict, Optional
 
 from ..classes.changes import may_become, scale_of
 from ..classes.types import Iso, Json, Money, Plainly, Span, StoredType, Truth, Unique, Unfit
-from ..records import Value
+from ..records.records import Value
 
 Convert = Callable[[Value], Value]
 _SIMPLE: Dict[str, Callable[[], StoredType]] = {

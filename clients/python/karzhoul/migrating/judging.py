@@ -5,7 +5,7 @@ from __future__ import annotations
 from pathlib import Path
 from typing import Mapping, Optional
 
-from .. import factory
+from ..session import opening
 from ..classes.changes import settle
 from ..classes.mapping import UNIQUE
 from ..refusals import KarzhoulError
@@ -20,10 +20,10 @@ def judge(
     a `KarzhoulError` where they are others than were written."""
     if side.made is not None and any(it["name"] == UNIQUE for it in side.mapping["entities"]):
         # By the mapping of the writing, in which a version is a number that no commit raises.
-        with factory.open(carrying(side.mapping), db, program=program) as app:
+        with opening.open(carrying(side.mapping), db, program=program) as app:
             settle(app, side.made)
     said = str(lock) if lock is not None else None
-    with factory.open(side.given, db, program=program, lock=said) as app, app.begin() as manager:
+    with opening.open(side.given, db, program=program, lock=said) as app, app.begin() as manager:
         for name in side.shapes:
             count = manager.one(f"SELECT COUNT(e) FROM {name} e WHERE TYPE(e) = {name}")
             if count != counts.get(name, 0):

@@ -4,11 +4,11 @@ from __future__ import annotations
 
 from typing import Any, List, Mapping, NamedTuple
 
-from ..arguments import meant
+from ..mapping.meant import meant
 from ..classes.types import StoredType
-from ..factory import EntityManagerFactory
-from ..managers import EntityManager
-from ..records import Key, Record, Shape, named
+from ..session.factory import EntityManagerFactory
+from ..session.managers import EntityManager
+from ..records.records import Key, Record, Shape, named
 from .names import shown, stored_name, whole
 from .sides import Place, Side
 

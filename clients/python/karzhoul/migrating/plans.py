@@ -7,12 +7,12 @@ from dataclasses import dataclass, field
 from types import ModuleType
 from typing import Any, Callable, Collection, Dict, Iterator, List, Mapping, NamedTuple, Optional
 
-from ..arguments import meant
+from ..mapping.meant import meant
 from ..classes.declared import Member as ClassMember
 from ..classes.fields import MISSING
-from ..converters import value_of
-from ..records import Key, Record, Shape, Value
-from ..unit import OWN_MEMBERS, Member
+from ..mapping.converters import value_of
+from ..records.records import Key, Record, Shape, Value
+from ..mapping.unit import OWN_MEMBERS, Member
 from .forms import conversion, keeps, plain_type
 from .sides import Side
 

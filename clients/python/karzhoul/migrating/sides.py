@@ -13,10 +13,10 @@ from ..classes.declared import Member as ClassMember
 from ..classes.faults import DeclarationError
 from ..classes.mapping import UNIQUE, gone_name
 from ..classes.types import StoredType
-from ..given import WrongMapping, given_of
-from ..linter import lint
-from ..records import Shape, shapes_of
-from ..unit import OWN_ENTITIES
+from ..mapping.given import WrongMapping, given_of
+from ..mapping.linter import lint
+from ..records.records import Shape, shapes_of
+from ..mapping.unit import OWN_ENTITIES
 from .forms import type_of
 from .names import shown
 

@@ -5,7 +5,7 @@ from __future__ import annotations
 from typing import Any, Dict, List, Tuple
 
 from ..classes.unique import Constraint, Uniques
-from ..records import Key, named
+from ..records.records import Key, named
 from .bringing import Brought
 from .plans import Led
 from .sides import Side

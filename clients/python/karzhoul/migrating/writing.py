@@ -10,11 +10,11 @@ from __future__ import annotations
 from typing import Any, Callable, Dict, Iterator, List, Mapping, NamedTuple, Optional, Protocol
 from typing import Set, Tuple, Union
 
-from ..lines import spelled, text_spelled
-from ..loading import MOST_UNUSED
-from ..records import GREATEST, Key, bare, named
-from ..tally import MOST_OBJECTS
-from ..unit import Member
+from ..wire.lines import spelled, text_spelled
+from ..records.loading import MOST_UNUSED
+from ..records.records import GREATEST, Key, bare, named
+from ..wire.tally import MOST_OBJECTS
+from ..mapping.unit import Member
 from .bringing import Brought
 from .feeding import About, Feed
 from .plans import Led

@@ -8,8 +8,8 @@ from contextlib import contextmanager, suppress
 from pathlib import Path
 from typing import Any, BinaryIO, Dict, Iterator, List
 
-from ..factory import started
-from ..program import Words
+from ..store.starting import started
+from ..store.program import Words
 from ..refusals import KarzhoulError
 from .way import Way
 

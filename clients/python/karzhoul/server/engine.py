@@ -10,7 +10,7 @@ from collections import deque
 from contextlib import suppress
 from typing import Callable, Deque, List, Optional, Tuple
 
-from ..program import Program
+from ..store.program import Program
 from .files import Files
 
 Take = Callable[[Optional[bytes]], None]

@@ -12,8 +12,8 @@ from __future__ import annotations
 from collections import deque
 from typing import TYPE_CHECKING, Deque, Optional, Protocol
 
-from ..places import MOST
-from ..tally import MOST_OBJECTS
+from ..session.places import MOST
+from ..wire.tally import MOST_OBJECTS
 
 if TYPE_CHECKING:
     from .connection import Connection

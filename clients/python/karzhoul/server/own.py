@@ -10,7 +10,7 @@ import os
 import time
 from typing import TYPE_CHECKING, Any, Dict
 
-from ..places import MOST
+from ..session.places import MOST
 from .copying import Copy
 from .counts import memory_of
 from .refusals import NULL, answer, refusal

@@ -12,7 +12,7 @@ from contextlib import suppress
 from pathlib import Path
 from typing import Callable, List, Optional, Union
 
-from ..program import Program
+from ..store.program import Program
 from ..refusals import Misused
 from .address import Address
 from .connection import Connection

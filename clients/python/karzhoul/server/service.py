@@ -9,8 +9,8 @@ import time
 from collections import deque
 from typing import Any, Callable, Coroutine, Deque, Dict, List, Optional, Set, Tuple
 
-from ..places import MOST
-from ..program import Program
+from ..session.places import MOST
+from ..store.program import Program
 from ..refusals import KarzhoulError
 from .connection import Connection, Manager
 from .counts import Counts

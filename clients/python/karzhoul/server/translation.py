@@ -16,7 +16,7 @@ from array import array
 from bisect import bisect_left
 from typing import Any, Callable, Dict, List, Match, NamedTuple, NoReturn, Tuple, Union
 
-from ..lines import CALLS, GREATEST, LEAST, OPTIONAL, OWN_CALLS
+from ..wire.lines import CALLS, GREATEST, LEAST, OPTIONAL, OWN_CALLS
 from ..refusals import MOST_LINE_BYTES
 
 _MEMBERS = {**CALLS, **OWN_CALLS}

@@ -71,7 +71,7 @@ final class Serving implements AutoCloseable {
         List<String> command = new ArrayList<>(List.of("serve", folder.resolve("app.db").toString(), "--mapping",
                 mapping.toString(), "--listen", address, "--program", Programs.path()));
         command.addAll(more);
-        server = python(before + "import sys; from karzhoul.command import main; sys.exit(main(sys.argv[1:]))", command);
+        server = python(before + "import sys; from karzhoul.cli.command import main; sys.exit(main(sys.argv[1:]))", command);
         log = server.errorReader(StandardCharsets.UTF_8);
         awaitLog("serving");
     }

@@ -1,0 +1,218 @@
+"""What to say of a query's text that can't be read: which word was meant, what of JPQL isn't
+served, and else what may stand there."""
+
+from __future__ import annotations
+
+import difflib
+from typing import Dict, List, Optional, Sequence, Tuple
+
+from .statements import AGGREGATES, LANGUAGES, LanguageName, Token, Unreadable
+
+_CASE = "CASE isn't served: COALESCE and NULLIF are"
+_DATES = "dates and times aren't served: store whole numbers or texts"
+_NUMBERS = "this function isn't served: ABS and MOD are the functions of numbers"
+_TEXTS = "this function isn't served: those of texts are LENGTH, CONCAT, SUBSTRING and LOCATE"
+_WIDER = (
+    "this function is of the wider language, language='wide'; those of texts are LENGTH, CONCAT, "
+    "SUBSTRING and LOCATE here"
+)
+_SORTED_BY = (
+    "ORDER BY takes values in the wider language, language='wide': here it takes paths, as p.id, and "
+    "names behind AS"
+)
+_TRUTH = "truth values aren't served: compare a whole number"
+_PLACES = "hand in first=.. and max=.. beside the text"
+_MAPS = "maps aren't served"
+# What follows on such words of JPQL, or of other dialects, is why they aren't served.
+UNSERVED: Dict[str, str] = {
+    "ALL": "ALL, ANY and SOME aren't served: EXISTS (SELECT ..) is",
+    "ANY": "ALL, ANY and SOME aren't served: EXISTS (SELECT ..) is",
+    "SOME": "ALL, ANY and SOME aren't served: EXISTS (SELECT ..) is",
+    "AVG": "AVG isn't served: ask for SUM and COUNT",
+    "CASE": _CASE,
+    "WHEN": _CASE,
+    "THEN": _CASE,
+    "ELSE": _CASE,
+    "CAST": "CAST isn't served",
+    "CROSS": "CROSS JOIN isn't served: write a comma between the entities",
+    "CURRENT_DATE": _DATES,
+    "CURRENT_TIME": _DATES,
+    "CURRENT_TIMESTAMP": _DATES,
+    "LOCAL": _DATES,
+    "EXTRACT": _DATES,
+    "ENTRY": _MAPS,
+    "KEY": _MAPS,
+    "VALUE": _MAPS,
+    "EXCEPT": "a query is one SELECT: UNION, INTERSECT and EXCEPT aren't served",
+    "INTERSECT": "a query is one SELECT: UNION, INTERSECT and EXCEPT aren't served",
+    "UNION": "a query is one SELECT: UNION, INTERSECT and EXCEPT aren't served",
+    "FALSE": _TRUTH,
+    "TRUE": _TRUTH,
+    "FETCH": "JOIN FETCH isn't served: manager.fetch(objects, 'relation') reads for all of them",
+    "FULL": "FULL and RIGHT JOIN aren't served: JOIN and LEFT JOIN are",
+    "RIGHT": "FULL and RIGHT JOIN aren't served: JOIN and LEFT JOIN are",
+    "FUNCTION": "functions of the database aren't served",
+    "ILIKE": "ILIKE isn't served: LIKE is, with upper and lower case apart",
+    "INDEX": "INDEX isn't served: lists have the order of their members' keys",
+    "INSERT": "INSERT isn't served: manager.persist_all(..) stores new objects",
+    "LIMIT": _PLACES,
+    "OFFSET": _PLACES,
+    "LOWER": _WIDER,
+    "REPLACE": _TEXTS,
+    "TRIM": _WIDER,
+    "UPPER": _WIDER,
+    "NEW": "SELECT NEW isn't served: rows have their items by name",
+    "NULLS": "NULLS FIRST and NULLS LAST aren't served: nulls come first, and last with DESC",
+    "OBJECT": "OBJECT(..) isn't served: select the variable alone",
+    "TREAT": "TREAT isn't served: let FROM range over the subclass, or ask TYPE(variable)",
+    "CEILING": _NUMBERS,
+    "EXP": _NUMBERS,
+    "FLOOR": _NUMBERS,
+    "LN": _NUMBERS,
+    "POWER": _NUMBERS,
+    "ROUND": _NUMBERS,
+    "SIGN": _NUMBERS,
+    "SQRT": _NUMBERS,
+}
+_MARKS = {
+    "!=": "'<>' is meant",
+    "||": "'||' isn't served: CONCAT is",
+    '"': "a text stands in single quotes",
+    ";": "a statement ends without ';'",
+    "/": "division isn't served",
+    "%": "MOD(a, b) is meant",
+    "{": "literals of dates aren't served, and parameters are :name or ?1",
+}
+
+
+def spelled(token: Token) -> str:
+    """A token as a reader sees it."""
+    if token.sort == "end":
+        return "the end of the text"
+    return f"'{token.said}'"
+
+
+def unserved(word: str, language: LanguageName) -> Optional[str]:
+    """Why a word of JPQL, or of other dialects, isn't served in a language; None where it is, or is
+    no such word."""
+    is_served = word.upper() in LANGUAGES[language].functions
+    return None if is_served else UNSERVED.get(word.upper())
+
+
+def syntax_told(
+    fault: Unreadable, tokens: Sequence[Token], language: LanguageName
+) -> Tuple[Token, str]:
+    """The token to look at, of those that were read, and what to say of it."""
+    token, before = fault.token, fault.before
+    if fault.why:
+        return token, fault.why
+    if token.sort == "odd":
+        return token, _MARKS.get(token.said, f"{spelled(token)} stands in no query")
+    earlier = [each for each in tokens if each.end <= token.at][-2:]
+    return (
+        _unserved([token], language)
+        or _misspelt(token, 0.6, fault.expected, language)
+        or _unserved(earlier[::-1], language)
+        or _sorted_by_value(token, tokens, language)
+        or _called(token, before, language)
+        or _misplaced(token, before)
+        or _misspelt(before, 0.7, fault.expected, language)
+        or (token, _expected(token, before, fault.expected, language))
+    )
+
+
+def _unserved(tokens: Sequence[Token], language: LanguageName) -> Optional[Tuple[Token, str]]:
+    """The first of these tokens that isn't served."""
+    for each in tokens:
+        why = unserved(each.said, language) if each.sort == "word" else None
+        if why is not None:
+            return each, why
+    return None
+
+
+def _sorted_by_value(
+    token: Token, tokens: Sequence[Token], language: LanguageName
+) -> Optional[Tuple[Token, str]]:
+    """A value in ORDER BY, which takes none in this language."""
+    earlier = [each for each in tokens if each.end <= token.at]
+    pairs = zip(earlier, earlier[1:])
+    is_behind = any(one.is_word("ORDER") and other.is_word("BY") for one, other in pairs)
+    if LANGUAGES[language].orders_by_values or not is_behind:
+        return None
+    begins = earlier[-1].is_word("BY") or earlier[-1].is_mark(",")
+    is_value = token.sort in ("integer", "text", "parameter") or _is_function(token, language)
+    if begins and (is_value or token.is_mark("(")) or any(map(token.is_mark, "+-*")):
+        return token, _SORTED_BY
+    return None
+
+
+def _is_function(token: Token, language: LanguageName) -> bool:
+    functions = (*LANGUAGES[language].functions, *AGGREGATES, "SIZE")
+    return token.sort == "word" and token.said.upper() in functions
+
+
+def _called(
+    token: Token, before: Optional[Token], language: LanguageName
+) -> Optional[Tuple[Token, str]]:
+    """A function that there isn't, or a number that isn't whole."""
+    if before is not None and token.is_mark("(") and before.sort == "word":
+        return before, _no_function(before.said, language)
+    sides = [each for each in (token, before) if each is not None]
+    has_point = any(each.is_mark(".") for each in sides)
+    if has_point and any(each.sort == "integer" for each in sides):
+        return token, "numbers with a fraction aren't served"
+    return None
+
+
+def _no_function(word: str, language: LanguageName) -> str:
+    functions = [*LANGUAGES[language].functions, *AGGREGATES, "SIZE", "TYPE", "EXISTS"]
+    near = difflib.get_close_matches(word.upper(), functions, n=1)
+    meant = f": did you mean {near[0]}?" if near else f"; there are {', '.join(functions)}"
+    return f"there is no function {word}{meant}"
+
+
+def _misplaced(token: Token, before: Optional[Token]) -> Optional[Tuple[Token, str]]:
+    """Words that stand where they may not."""
+    if token.is_word("SELECT"):
+        return token, "a nested SELECT stands in EXISTS alone"
+    if token.is_word("NULL"):
+        return token, "nothing is compared with NULL: IS NULL and IS NOT NULL ask for it"
+    if token.is_mark("*") and before is not None:
+        if before.is_mark("("):
+            return token, "COUNT takes a variable or a path, as COUNT(p)"
+        if before.is_word("SELECT") or before.is_word("DISTINCT"):
+            return token, "SELECT takes variables and paths, as SELECT p FROM Person p"
+    return None
+
+
+def _is_keyword(token: Token, language: LanguageName) -> bool:
+    return token.sort == "word" and token.said.upper() in LANGUAGES[language].keywords
+
+
+def _misspelt(
+    token: Optional[Token], cutoff: float, expected: List[str], language: LanguageName
+) -> Optional[Tuple[Token, str]]:
+    """The keyword that was meant by a token, or by the one before, which was taken for a name."""
+    if token is None or token.sort != "word" or _is_keyword(token, language):
+        return None
+    keywords = [word for word in expected if word in LANGUAGES[language].keywords]
+    near = difflib.get_close_matches(token.said.upper(), keywords, n=1, cutoff=cutoff)
+    return (token, f"did you mean {near[0]}?") if near else None
+
+
+def _expected(
+    token: Token, before: Optional[Token], expected: List[str], language: LanguageName
+) -> str:
+    """What may stand there."""
+    if "a variable" in expected and before is not None and before.sort == "word":
+        if token.sort == "end" or _is_keyword(token, language):
+            shown = f"{before.said} {before.said[0].lower()}"
+            return f"a variable is missing behind {before.said}, as in {shown}"
+    hidden = {"AS", "NOT", "DISTINCT", "OUTER", "OF"}
+    hidden |= {"a path"} if "a value" in expected else set()
+    words = [each for each in expected if each not in hidden]
+    listed = ", ".join(words[:-1]) + f" or {words[-1]}" if len(words) > 1 else "".join(words)
+    is_name_wanted = any(word in ("a name", "a variable", "a path") for word in words)
+    reserved = ", and it is a keyword" if is_name_wanted and _is_keyword(token, language) else ""
+    stands = "the text ends" if token.sort == "end" else f"{spelled(token)} stands"
+    return f"{stands} where {listed or 'nothing'} is expected{reserved}"
