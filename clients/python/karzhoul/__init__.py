@@ -28,10 +28,11 @@ from .lines import FlushModeType, LifecycleEvent, LockModeType
 from .managers import EntityManager
 from .refusals import (
     BadLine, Busy, Damaged, Disconnected, EntityExists, EntityNotFound, GivenUp, IllegalArgument,
-    IllegalState, KarzhoulError, Limit, LineLimit, Listener, ManagerLimit, Mapping, NoFreeManager,
-    NoResult, NoSuchManager, NoSuchObject, NonUniqueResult, NotServed, NotUnique, ObjectLimit,
-    OptimisticLock, OutOfMemory, Overflow, Persistence, ProgramEnded, ProgramNotFound, QueryLimit,
-    Refused, Restarted, Rollback, StoreFault, StoreInMemory, TextLimit, TransactionRequired,
+    IllegalState, KarzhoulError, Limit, LineLimit, Listener, ManagerLimit, Mapping, Misused,
+    NoFreeManager, NoResult, NoSuchManager, NoSuchObject, NonUniqueResult, NotServed, NotUnique,
+    ObjectLimit, OptimisticLock, OutOfMemory, Overflow, Persistence, ProgramEnded, ProgramNotFound,
+    QueryLimit, Refused, Restarted, Rollback, StoreFault, StoreInMemory, TextLimit,
+    TransactionRequired,
 )
 from .tally import Statistics
 from .transactions import Attempt, EntityTransaction
@@ -47,7 +48,7 @@ __all__ = [
     "money", "naive", "one_to_many", "one_to_one", "typed", "validates", "version", "FlushModeType",
     "LifecycleEvent", "LockModeType", "Statistics", "refusals", "BadLine", "Busy", "Damaged",
     "Disconnected", "EntityExists", "EntityNotFound", "GivenUp", "IllegalArgument", "IllegalState",
-    "KarzhoulError", "Limit", "LineLimit", "Listener", "ManagerLimit", "NoFreeManager",
+    "KarzhoulError", "Limit", "LineLimit", "Listener", "ManagerLimit", "Misused", "NoFreeManager",
     "NoResult", "NoSuchManager", "NoSuchObject", "NonUniqueResult", "NotServed", "NotUnique",
     "ObjectLimit", "OptimisticLock", "OutOfMemory", "Overflow", "Persistence", "ProgramEnded",
     "ProgramNotFound", "QueryLimit", "Refused", "Restarted", "Rollback", "StoreFault",
