@@ -134,6 +134,14 @@ class Query(Shops):
                       str(raised.exception))
 
 
+    def test_a_refusal_of_a_manager_has_their_names(self) -> None:
+        manager = self.fill().create_entity_manager()
+        with self.assertRaises(karzhoul.IllegalArgument) as raised:
+            manager.query("SELECT s.x FROM Shop s")
+        self.assertEqual(str(raised.exception), "1:10: x: Shop has no member x; it has id, name, "
+                         "email, home.city, home.street, fee [IllegalArgument(typing)]")
+
+
 @needs_program
 class Unique(Shops):
     def test_what_is_unique_is_looked_up(self) -> None:
