@@ -24,10 +24,11 @@ from .classes.values import WrongValue
 from .objects.entities import Collection, EmbeddedId, Entity, Event
 from .refusals import (
     BadLine, Busy, Damaged, Disconnected, EntityExists, EntityNotFound, GivenUp, IllegalArgument,
-    IllegalState, KarzhoulError, Limit, LineLimit, Listener, ManagerLimit, Mapping, NoFreeManager,
-    NoResult, NoSuchManager, NoSuchObject, NonUniqueResult, NotServed, NotUnique, ObjectLimit,
-    OptimisticLock, OutOfMemory, Overflow, Persistence, ProgramEnded, ProgramNotFound, QueryLimit,
-    Refused, Restarted, Rollback, StoreFault, StoreInMemory, TextLimit, TransactionRequired,
+    IllegalState, KarzhoulError, Limit, LineLimit, Listener, ManagerLimit, Mapping, Misused,
+    NoFreeManager, NoResult, NoSuchManager, NoSuchObject, NonUniqueResult, NotServed, NotUnique,
+    ObjectLimit, OptimisticLock, OutOfMemory, Overflow, Persistence, ProgramEnded, ProgramNotFound,
+    QueryLimit, Refused, Restarted, Rollback, StoreFault, StoreInMemory, TextLimit,
+    TransactionRequired,
 )
 from .server.connecting import connect
 from .session.factory import EntityManagerFactory
@@ -48,7 +49,7 @@ __all__ = [
     "money", "naive", "one_to_many", "one_to_one", "typed", "validates", "version", "FlushModeType",
     "LifecycleEvent", "LockModeType", "Statistics", "refusals", "BadLine", "Busy", "Damaged",
     "Disconnected", "EntityExists", "EntityNotFound", "GivenUp", "IllegalArgument", "IllegalState",
-    "KarzhoulError", "Limit", "LineLimit", "Listener", "ManagerLimit", "NoFreeManager",
+    "KarzhoulError", "Limit", "LineLimit", "Listener", "ManagerLimit", "Misused", "NoFreeManager",
     "NoResult", "NoSuchManager", "NoSuchObject", "NonUniqueResult", "NotServed", "NotUnique",
     "ObjectLimit", "OptimisticLock", "OutOfMemory", "Overflow", "Persistence", "ProgramEnded",
     "ProgramNotFound", "QueryLimit", "Refused", "Restarted", "Rollback", "StoreFault",

@@ -6,6 +6,8 @@ from __future__ import annotations
 import re
 from typing import TYPE_CHECKING, Any, ClassVar, Dict, Optional, Sequence, Tuple, Type
 
+from .objects.misfits import shown
+
 if TYPE_CHECKING:
     from .objects.concern import Concern
     from .objects.entities import Entity, Event
@@ -131,7 +133,7 @@ class NotUnique(KarzhoulError):
         return _copied_not_unique, (self.args, told)
 
     def __str__(self) -> str:
-        names, values = " and ".join(self.attributes), " and ".join(map(repr, self.values))
+        names, values = " and ".join(self.attributes), " and ".join(map(shown, self.values))
         unique = "is unique" if len(self.attributes) == 1 else "are unique together"
         raced = ", which another commit took first" if self.is_raced else ""
         return f"{self.entity}.{names} {unique}, and {self._told} would both have {values}{raced}"
@@ -483,8 +485,8 @@ def refusal_of(text: str, events: Tuple[Event, ...] = (), line: str = "") -> Ref
 
 
 __all__ = [
-    "Disconnected", "GivenUp", "KarzhoulError", "LineLimit", "ManagerLimit", "NoFreeManager",
-    "NotServed",
+    "Disconnected", "GivenUp", "KarzhoulError", "LineLimit", "ManagerLimit", "Misused",
+    "NoFreeManager", "NotServed",
     "ObjectLimit", "ProgramEnded", "ProgramNotFound", "QueryLimit", "Refused", "Restarted",
     "StoreInMemory", "TextLimit", *REFUSALS,
 ]

@@ -79,6 +79,25 @@ class Played(unittest.TestCase):
         words = "first= is a number of rows, and no bool"
         self.refused(TypeError, words, lambda _, manager: manager.query(text, first=True))
 
+    def test_a_parameter_that_has_the_name_of_another_word(self) -> None:
+        for name, sort in (("end_program_after", "seconds"), ("timeout", "seconds")):
+            self.refused(
+                TypeError,
+                f"{name}= is a number of {sort}, and no str: a parameter :{name} is handed in by "
+                f"params={{'{name}': ..}}",
+                lambda _, em, name=name: em.query("SELECT p FROM Person p", **{name: "a"}),
+            )
+        text = "SELECT p FROM Person p WHERE p.name = :result_class"
+        self.refused(
+            TypeError, "a parameter :result_class is handed in by params={'result_class': ..}",
+            lambda _, manager: manager.query(text, result_class="Ada"),
+        )
+        for call in ("query", "one", "first", "one_or_none", "scalars", "explain"):
+            self.refused(
+                TypeError, "a query is a text, as 'SELECT p FROM Person p', and none is given",
+                lambda _, manager, call=call: getattr(manager, call)(),
+            )
+
     def test_a_callback_that_does_nothing(self) -> None:
         def generator(_: karzhoul.Event) -> Iterator[None]:
             yield
@@ -139,6 +158,30 @@ class Mappings(unittest.TestCase):
 
 @needs_program
 class Served(ProgramTest):
+    def test_parameters_that_are_called_text_and_self(self) -> None:
+        asked = "SELECT p.name FROM Person p WHERE p.name = :text OR p.name = :self"
+        given: Any = {"text": "Ada", "self": "Bob"}
+        with self.app.begin() as manager:
+            for name in ("Ada", "Bob", "Eve"):
+                manager.persist(self.Person(name=name))
+            self.assertEqual(manager.query(asked, **given), ["Ada", "Bob"])
+            self.assertEqual(manager.scalars(asked, **given), ["Ada", "Bob"])
+            self.assertEqual(manager.first(asked, **given), "Ada")
+            self.assertEqual(list(manager.iterate(asked, **given)), ["Ada", "Bob"])
+            self.assertEqual(list(manager.page(asked, 1, 1, **given)), ["Ada"])
+            same: Any = {"text": "Eve", "self": "Eve"}
+            self.assertEqual(manager.one(asked, **same), "Eve")
+            self.assertEqual(manager.one_or_none(asked, **same), "Eve")
+            self.assertEqual(manager.explain(asked, **given), ["looks at all of Person"])
+            deleted = "DELETE FROM Person p WHERE p.name = :text OR p.name = :self"
+            self.assertEqual(manager.execute_update(deleted, **given), 2)
+            # A text may be said by its name, as it always could.
+            self.assertEqual(manager.query(text="SELECT p.name FROM Person p"), ["Eve"])
+            found = manager.one_or_none(
+                text="SELECT p.name FROM Person p WHERE p.name = :name", name="Eve"
+            )
+            self.assertEqual(found, "Eve")
+
     def test_a_parameter_by_its_number(self) -> None:
         person = self.committed(name="Ada")
         found: List[karzhoul.Entity] = self.em.query(

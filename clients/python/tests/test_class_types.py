@@ -12,6 +12,7 @@ from uuid import UUID
 
 from karzhoul.classes import types
 from karzhoul.classes.types import StoredType, Unfit
+from karzhoul.classes.values import WrongValue, from_stored, to_stored
 
 HOUR = timedelta(hours=1)
 
@@ -140,6 +141,29 @@ class Forms(unittest.TestCase):
             for value in values:
                 with self.subTest(form=kind.form, value=value), self.assertRaises(Unfit):
                     kind.from_stored(value)
+
+    def test_a_message_has_no_long_value(self) -> None:
+        """A value may have 65,535 bytes, and a message may stand in a log."""
+        long: List[Any] = ["x" * 60_000, b"x" * 60_000, ["x" * 60_000], "x" * 70_000]
+        kinds = [kind for kind, _ in ORDERED] + [types.Json(list), types.OwnType("Own", int, str, str)]
+        told: List[str] = []
+        for kind in kinds:
+            for value in long:
+                for work in (to_stored,) if isinstance(value, list) else (to_stored, from_stored):
+                    try:
+                        work(kind, value, "Loan.due")
+                    except WrongValue as fault:
+                        told.append(str(fault))
+        self.assertGreater(len(told), 60)
+        self.assertLess(max(map(len, told)), 1_000)
+        with self.assertRaises(WrongValue) as raised:
+            to_stored(types.Iso(date), "a" * 59_999 + "z", "Loan.due")
+        self.assertRegex(
+            str(raised.exception), r"^Loan.due is a date, and 'aa+ \.\. \(60,000 characters\) \.\. aa+z' "
+        )
+        with self.assertRaises(WrongValue) as raised:
+            to_stored(types.Iso(date), "a" * 150, "Loan.due")
+        self.assertIn(f"and '{'a' * 150}' ", str(raised.exception))
 
     def test_the_ends_of_money(self) -> None:
         kind = types.Money(2)

@@ -160,6 +160,16 @@ class Follows(Mirroring):
         second.more, second.member = second.more[:1], company
         manager.remove(manager.query("SELECT l FROM Loan l WHERE l.number = 3")[0])
 
+    def test_a_row_that_has_changed_is_told_once(self) -> None:
+        module = self.serve_library()
+        self.done(*self.common, "--once")
+        with self.connected(module) as app, app.begin() as manager:
+            first, second, _ = manager.query("SELECT m FROM Member m ORDER BY m.id")
+            first.photo, second.email = b"new", "new@x"
+            manager.remove(manager.query("SELECT l FROM Loan l WHERE l.number = 3")[0])
+        self.assertIn(" 3 rows written or removed", self.done(*self.common, "--once"))
+        self.assertEqual(rows_of(self.out, "SELECT email FROM Member WHERE id = 2"), [("new@x",)])
+
     def test_a_mapping_of_the_server_has_no_classes(self) -> None:
         self.serve_library()
         self.done(*self.common, "--once")

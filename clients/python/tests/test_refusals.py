@@ -6,10 +6,11 @@ from __future__ import annotations
 import json
 import re
 import sqlite3
+import sys
 import tempfile
 import unittest
 from pathlib import Path
-from typing import Callable, Type, TypeVar
+from typing import Any, Callable, Type, TypeVar
 
 import karzhoul
 from karzhoul import refusals
@@ -40,6 +41,30 @@ class Table(unittest.TestCase):
             karzhoul.Refused, karzhoul.NotServed, karzhoul.ProgramEnded, karzhoul.ProgramNotFound,
         ):
             self.assertTrue(issubclass(kind, karzhoul.KarzhoulError))
+
+    def test_each_exception_that_the_papers_name_is_of_the_package(self) -> None:
+        root = Path(__file__).parents[3]
+        papers = "".join(
+            file.read_text()
+            for file in (root / "README.md", root / "clients/python/README.md",
+                         root / "docs/OPERATING.md", root / "docs/CARRY-OVER.md")
+        )
+        words = set(re.findall(r"`(?:karzhoul\.)?([A-Z]\w+)[`(]", papers))
+        kinds = [
+            kind for name, module in list(sys.modules.items()) if name.startswith("karzhoul")
+            for kind in vars(module).values()
+            if isinstance(kind, type) and issubclass(kind, Exception)
+            and kind.__module__.startswith("karzhoul") and kind.__name__ in words
+        ]
+        self.assertIn(karzhoul.Misused, kinds)
+        for kind in kinds:
+            self.assertIs(getattr(karzhoul, kind.__name__, None), kind)
+
+    def test_a_long_value_that_is_not_unique_is_cut(self) -> None:
+        it: Any = object()
+        told = str(karzhoul.NotUnique("Member", ["email"], ["a" * 60_000], it, it))
+        self.assertIn(" .. (60,000 characters) .. ", told)
+        self.assertLess(len(told), 500)
 
     def test_texts(self) -> None:
         for text in (

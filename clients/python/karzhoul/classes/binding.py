@@ -10,9 +10,10 @@ from weakref import WeakKeyDictionary, WeakSet
 from ..objects.entities import Attribute, Entity, Event, check_names
 from ..mapping.indexes import WHY_NOT, Known, index_line
 from ..wire.lines import LifecycleEvent
+from ..objects.misfits import shown
 from ..mapping.unit import MemberKind
 from . import types
-from .checks import chain
+from .checks import chain, member_of
 from .declared import CALLBACKS, KINDS, TO_MANY, Declared, Member, Model
 from .embedded import Embedded, has_required
 from .fields import MISSING
@@ -110,7 +111,7 @@ class EmbeddedAttribute(Attribute):
         if type(value) is not kind and not (value is None and may_be_none):
             assert kind is not None
             none = ", and never None: declare it as .. | None where it may be"
-            wrong = none if value is None else f", and {value!r} is none"
+            wrong = none if value is None else f", and {shown(value)} is none"
             raise WrongValue(f"{self.said} is of {kind.__name__}{wrong}")
         return [
             self._leaves[leaf.name].line(entity, part) for leaf, part in parts_with(
@@ -221,13 +222,13 @@ class Binding:
         kinds = [it.kind for it in chain(self.model, self.model[name])[0].of("key", "generated")]
         if isinstance(key, Embedded) and [type(key)] != kinds:
             named = kinds[0].__name__ if kinds[0] is not None else ", ".join(it.said for it in parts)
-            raise WrongValue(f"{told} is {named}, and {key!r} is none")
+            raise WrongValue(f"{told} is {named}, and {shown(key)} is none")
         if len(parts) == 1 and not isinstance(key, (Embedded, list, tuple)):
             return key if key is None else _part_of_key(parts[0], key, told)
         values = list(key._values().values()) if isinstance(key, Embedded) else key
         if not isinstance(values, (list, tuple)) or len(values) != len(parts):
             named = ", ".join(it.said for it in parts)
-            raise WrongValue(f"{told} is {named} in a tuple, and not {key!r}")
+            raise WrongValue(f"{told} is {named} in a tuple, and not {shown(key)}")
         return tuple(
             each if each is None else _part_of_key(part, each, f"{part.said} in {told}")
             for part, each in zip(parts, values)
@@ -244,15 +245,22 @@ class Binding:
                 del leaves[entity.name], leaves[known[1]]
 
     def index_lines(self) -> List[bytes]:
-        """The lines that say which attributes will be looked up."""
+        """The lines that say which attributes will be looked up: those that are asked for, and each
+        that is unique by itself."""
         return [
             index_line(name, said)
             for name, entity in self.model.items()
-            for said in dict.fromkeys(
-                leaf.name for member in entity.members.values() for leaf in member.leaves()
-                if leaf.field.index
-            )
+            for said in dict.fromkeys([
+                *(leaf.name for member in entity.members.values() for leaf in member.leaves()
+                  if leaf.field.index),
+                *(names[0] for names in entity.unique if self._is_looked_up(entity, names)),
+            ])
         ]
+
+    def _is_looked_up(self, entity: Declared, names: Sequence[str]) -> bool:
+        """Whether what is unique is one value, which objects are asked for by."""
+        member = member_of(self.model, entity.name, names[0])
+        return len(names) == 1 and member is not None and not _why_not(member)
 
     def known_members(self) -> Dict[str, Dict[str, Known]]:
         """The members of each entity, by the names by which queries know them."""

@@ -12,6 +12,7 @@ from types import ModuleType
 from typing import TYPE_CHECKING, Any, Callable, Dict, Iterable, Iterator, List, Mapping
 from typing import NamedTuple, Optional, Tuple, Union
 
+from ..objects.misfits import shown
 from ..refusals import Damaged, KarzhoulError, Refused
 from . import lock as locks
 from .binding import Binding
@@ -443,7 +444,7 @@ def _check_values(manager: Any, column: _Column, kind: StoredType) -> None:
                 found = manager.query(
                     f"SELECT e FROM {entity.name} e WHERE {path} = :value", value=value, max=1
                 )
-                raise Unfit(f"{_named(found[0])} has {value!r}, which {why}: change it first, or "
+                raise Unfit(f"{_named(found[0])} has {shown(value)}, which {why}: change it first, or "
                             f"{_OTHER}") from None
     finally:
         manager.factory.conversions = conversions

@@ -9,6 +9,7 @@ from typing import Any, Dict, Iterable, List, Mapping, NamedTuple, Optional, Seq
 
 from ..jpql import statements as jpql
 from ..jpql.statements import Block, Node, Statement, Token, read
+from ..objects.misfits import cut, shown
 from ..queries.rewriting import Edits, is_list
 from .binding import embedded_of
 from .checks import chain, member_of
@@ -73,14 +74,18 @@ class Conversions:
     def flattened(self, text: str) -> str:
         """An UPDATE with the parts of embedded values by their names in the mapping, which alone
         can be set; any other text as it is."""
+        return self.flattening(text).text()
+
+    def flattening(self, text: str) -> Edits:
+        """What makes an UPDATE so."""
         try:
             tokens = jpql.tokens_of(text)
         except jpql.Unreadable:
-            return text
+            return Edits(text)
         if len(tokens) < 4 or not tokens[0].is_word("UPDATE"):
-            return text
+            return Edits(text)
         variable = tokens[3] if tokens[2].is_word("AS") else tokens[2]
-        reader = _Reader(self._model, text, Analysis(text))
+        reader = Reader(self._model, text, Analysis(text))
         for at, token in enumerate(tokens):
             if token.said == variable.said and token.sort == "word":
                 words = [token]
@@ -88,7 +93,7 @@ class Conversions:
                     at += 2
                     words.append(tokens[at])
                 reader.rename(words, {variable.said: tokens[1].said})
-        return reader.edits.text()
+        return reader.edits
 
     def _analyse(self, text: str) -> Analysis:
         text = self.flattened(text)
@@ -96,7 +101,7 @@ class Conversions:
         found = Analysis(text)
         if statement is None:
             return found  # The program refuses it, or knows more of queries.
-        reader = _Reader(self._model, text, found)
+        reader = Reader(self._model, text, found)
         reader.read(statement)
         found.text = reader.edits.text()
         if not any(found.items) and not any(found.wholes):
@@ -135,7 +140,7 @@ def _joined(found: Analysis, row: Any) -> Any:
 Scope = Mapping[str, str]
 
 
-class _Reader:
+class Reader:
     """Tells the types in a statement."""
 
     def __init__(self, model: Model, text: str, found: Analysis) -> None:
@@ -358,7 +363,8 @@ class _Reader:
         try:
             stored = kind[0].to_stored(kind[0].from_literal(value))
         except Unfit as why:
-            raise WrongValue(f"{kind[1]} is {kind[0].what}, and {value!r} {why}") from None
+            told = f"{shown(value)} {cut(str(why))}"
+            raise WrongValue(f"{kind[1]} is {kind[0].what}, and {told}") from None
         said = "'{}'".format(stored.replace("'", "''")) if isinstance(stored, str) else str(stored)
         if said != self._text[node.at : node.end] and not isinstance(stored, bytes):
             self.edits.replace(node.at, node.end, said)

@@ -6,7 +6,7 @@ from dataclasses import dataclass
 from typing import Any, ClassVar, Dict, Iterable, Mapping, NoReturn, Optional
 from typing import Tuple, Type, TypeVar
 
-from ..objects.misfits import unknown
+from ..objects.misfits import shown, unknown
 from .annotations import Scope, Unread, own_annotations
 from .faults import Faults
 from .fields import (
@@ -39,7 +39,7 @@ class Part:
         if self.type is not None:
             return from_stored(self.type, to_stored(self.type, value, what), what)
         if type(value) is not self.kind:
-            raise WrongValue(f"{what} is {self._what}, and {value!r} is none")
+            raise WrongValue(f"{what} is {self._what}, and {shown(value)} is none")
         return value
 
     @property

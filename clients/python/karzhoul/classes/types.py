@@ -25,6 +25,8 @@ from enum import Enum
 from typing import Any, Callable, Dict, List, Mapping, Tuple, Type, Union
 from uuid import UUID
 
+from ..objects.misfits import shown
+
 Plain = Union[int, str, bytes]
 LEAST, GREATEST, MOST_BYTES = -(2**63), 2**63 - 1, 65_535
 _TAKEN: Mapping[type, Tuple[type, ...]] = {
@@ -332,7 +334,7 @@ class OwnType(StoredType):
         try:
             return self._plain.to_stored(stored)
         except Unfit as fault:
-            raise Unfit(f"is stored as {stored!r}, which {fault}") from None
+            raise Unfit(f"is stored as {shown(stored)}, which {fault}") from None
 
     def from_stored(self, stored: Any) -> Any:
         try:

@@ -21,6 +21,7 @@ from ..objects.concern import Noted
 from ..objects.entities import Entity
 from ..jpql.statements import Bulk, read, tokens_of
 from ..wire.lines import line_of, text_spelled
+from ..objects.misfits import shown
 from ..refusals import KarzhoulError, NotUnique, OptimisticLock, Refused, Rollback
 from .checks import chain, member_of
 from .declared import Member, Model
@@ -428,7 +429,7 @@ def doubles(manager: Any, constraint: Constraint) -> Iterator[str]:
 def _told(member: Member, value: Any) -> str:
     if member.type is None:
         return str(value).strip("<>")
-    return repr(member.type.from_stored(value))
+    return shown(member.type.from_stored(value))
 
 
 # So many objects get their keys in one commit, and a run that has made so many is restarted before.

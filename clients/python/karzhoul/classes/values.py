@@ -4,6 +4,7 @@ from __future__ import annotations
 
 from typing import Any
 
+from ..objects.misfits import cut, shown
 from . import types
 
 
@@ -16,7 +17,7 @@ def to_stored(kind: types.StoredType, value: Any, what: str) -> types.Plain:
     try:
         return kind.to_stored(value)
     except types.Unfit as why:
-        raise WrongValue(f"{what} is {kind.what}, and {value!r} {why}") from None
+        raise WrongValue(f"{what} is {kind.what}, and {shown(value)} {cut(str(why))}") from None
 
 
 def from_stored(kind: types.StoredType, stored: Any, what: str) -> Any:
@@ -24,4 +25,5 @@ def from_stored(kind: types.StoredType, stored: Any, what: str) -> Any:
     try:
         return kind.from_stored(stored)
     except types.Unfit as why:
-        raise WrongValue(f"{what} is {kind.what}, and what is stored, {stored!r}, {why}") from None
+        told = f"{shown(stored)}, {cut(str(why))}"
+        raise WrongValue(f"{what} is {kind.what}, and what is stored, {told}") from None

@@ -14,24 +14,27 @@ from functools import cached_property
 from pathlib import Path
 from typing import Any, Dict, Iterator, List, Mapping, Optional, Sequence, Tuple
 
-from ..explain.texts import value_text
-from ..jpql.check import BYTES, INT, TEXT, Kind, check
-from ..jpql.statements import LanguageName
-from ..mapping.given import given_of, mapping_data
-from ..mapping.linter import lint
-from ..mapping.unit import entities_of
+from ..classes.binding import Binding
+from ..classes.declared import declared_by
+from ..classes.naming import Named, Naming, NoName, naming_of
 from ..objects.entities import Entity
-from ..queries.rows import Names
-from ..records.records import bare
-from ..records.spelling import row_of_cells, said_value, value_cell
-from ..refusals import KarzhoulError, Misused, Refused, StoreFault
-from ..refusals import Mapping as MappingRefused
 from ..session.opening import open as opened
-from ..showing.asked import titles_of
-from ..showing.tables import grid
 from ..store.finding import find_program
+from ..mapping.given import Given, given_of, mapping_data
+from ..mapping.indexes import index_lines, named_in_words
+from ..jpql.statements import LanguageName
+from ..jpql.check import BYTES, INT, TEXT, Kind
+from ..mapping.linter import lint
 from ..store.opening import why_unopened
 from ..store.printed import printed
+from ..records.records import bare
+from ..refusals import KarzhoulError, Misused, Refused, StoreFault
+from ..refusals import Mapping as MappingRefused
+from ..queries.rows import Names
+from ..showing.tables import grid
+from ..explain.texts import value_text
+from ..records.spelling import row_of_cells, said_value, value_cell
+from ..mapping.unit import entities_of
 
 WRONG, REFUSED = 1, 3
 _QUERY = """Prints the rows that a SELECT finds in a store, as a table. docs/QUERIES.md has the
@@ -52,7 +55,7 @@ def add_command(commands: Any, takes: List[argparse.ArgumentParser]) -> None:
     asked.add_argument(
         "words", nargs="+", metavar="MAPPING DB SELECT", type=str,
         help="the mapping file, or a module of classes (else that of --mapping), the database file, "
-        "and the SELECT, in quotes",
+        "and the SELECT, in quotes: by the names of the classes, and with values as they are stored",
     )
     asked.add_argument("--mapping", help="the mapping file (else mapping.json)")
     asked.add_argument("--param", action="append", default=[], metavar="NAME=VALUE", help=_PARAM)
@@ -70,7 +73,8 @@ def add_command(commands: Any, takes: List[argparse.ArgumentParser]) -> None:
     )
     asked.add_argument(
         "--index", action="append", default=[], metavar="ENTITY.NAME",
-        help="with --manager: it was told this index; may stand several times",
+        help="with --manager: it was told this index, beside those of classes with index=True and "
+        "unique=True; may stand several times",
     )
     asked.set_defaults(run=run_query)
 
@@ -90,20 +94,26 @@ def run_query(said: argparse.Namespace) -> int:
         return WRONG
     if not Path(said.db).is_file():
         raise FileNotFoundError(f"there is no file {said.db}")
-    query = _Query(said, data)
+    query = _Query(said, data, naming_of(given))
     try:
-        _write(said, query)
+        _write(said, query, given)
+    except _NoIndex as fault:
+        return _refused("IllegalArgument(name)", [str(fault)])
+    except NoName:
+        return _refused("IllegalArgument(typing)", query.mistakes())
     except StoreFault as fault:
         why = fault.why or f"{said.db} can't be opened: {why_unopened(Path(said.db).absolute())}"
         raise KarzhoulError(f"StoreFault: {why}") from fault
     except MappingRefused:
         raise
     except Refused as refused:
-        mistakes = query.mistakes()
-        told = mistakes or refused.explain().splitlines()
-        print("\n  ".join([f"karzhoul: {refused.word}", *told]), file=sys.stderr)
-        return REFUSED
+        return _refused(refused.word, query.mistakes() or refused.explain().splitlines())
     return 0
+
+
+def _refused(word: str, told: Sequence[str]) -> int:
+    print("\n  ".join([f"karzhoul: {word}", *told]), file=sys.stderr)
+    return REFUSED
 
 
 def _take_words(said: argparse.Namespace) -> None:
@@ -117,33 +127,45 @@ def _take_words(said: argparse.Namespace) -> None:
     said.db, said.text = words
 
 
-def _write(said: argparse.Namespace, query: _Query) -> None:
+def _write(said: argparse.Namespace, query: _Query, given: Given) -> None:
     if said.explain:
-        for line in query.plan(said.manager, said.index):
+        indexes = _indexes(given, query, said.index) if said.manager else ()
+        for line in query.plan(said.manager, indexes):
             print(line)
     elif said.json:
         for row in query.rows():
             print(json.dumps(row, ensure_ascii=False, separators=(",", ":")))
     elif said.csv:
-        _write_csv(said.text, query.rows())
+        _write_csv(query)
     else:
         rows = [_items(row) for row in query.rows()]
         cells = [[_shown(item) for item in row] for row in rows]
-        table = grid(titles_of(said.text, len(rows[0])), cells) if rows else []
+        table = grid(query.titles(len(rows[0])), cells) if rows else []
         count = f"{len(rows) or 'no'} row{'' if len(rows) == 1 else 's'}"
         print("\n".join([*table, count]))
 
 
-def _write_csv(text: str, rows: Iterator[Any]) -> None:
+def _write_csv(query: _Query) -> None:
     titles: Optional[Sequence[str]] = None
-    for row in rows:
+    for row in query.rows():
         items = _items(row)
         if titles is None:
-            titles = titles_of(text, len(items))
+            titles = query.titles(len(items))
             print(row_of_cells(titles))
         print(row_of_cells(_cell(item) for item in items))
     if titles is None:
-        print(row_of_cells(Names(text).fields))
+        print(row_of_cells(query.titles()))
+
+
+def _indexes(given: Given, query: _Query, words: Sequence[str]) -> List[str]:
+    """The indexes that a manager is told: those of classes, and those that are named."""
+    binding = None if isinstance(given, str) else Binding(declared_by(given))
+    named = named_in_words(words)
+    try:
+        lines = index_lines(query.data, named, binding)
+    except Misused as fault:  # The program would refuse it, in less words.
+        raise _NoIndex(str(fault)) from None
+    return [f"{it['entity']}.{it['name']}" for it in map(json.loads, lines)]
 
 
 # ---- items as the program tells them
@@ -152,6 +174,10 @@ def _write_csv(text: str, rows: Iterator[Any]) -> None:
 def _items(row: Any) -> List[Any]:
     """The items of a row: of one item the row is that item."""
     return row if isinstance(row, list) else [row]
+
+
+class _NoIndex(ValueError):
+    """What is named can have no index."""
 
 
 class _Name(str):
@@ -176,14 +202,24 @@ def _cell(item: Any) -> Optional[str]:
 
 
 class _Query:
-    """A SELECT over a store."""
+    """A SELECT over a store, by the names of its mapping or its classes."""
 
-    def __init__(self, said: argparse.Namespace, data: bytes) -> None:
-        self._mapping, self._data, self._db, self._text = said.mapping, data, said.db, said.text
+    def __init__(self, said: argparse.Namespace, data: bytes, naming: Naming) -> None:
+        self._mapping, self.data, self._db, self._said = said.mapping, data, said.db, said.text
+        self._naming = naming
         self._program = find_program(said.program)
         self._params = dict(map(_param, said.param))
         self._language: LanguageName = said.language
         self._is_wide = self._language == "wide"
+
+    @cached_property
+    def _named(self) -> Named:
+        return self._naming.named(self._said)
+
+    def titles(self, count: Optional[int] = None) -> List[str]:
+        """What the items of a row are called, of which there are so many."""
+        fields = Names(self._named.text).fields
+        return self._named.titles(len(fields) if count is None else count, self._naming)
 
     def rows(self) -> Iterator[Any]:
         """The rows as JSON says them; a `Refused` where it is refused."""
@@ -211,14 +247,15 @@ class _Query:
             )
         if not self._takes("--query"):
             raise KarzhoulError(f"{self._program} is an older program, which tells no plans")
-        with _as_file(self._mapping, self._data) as mapping:
+        with _as_file(self._mapping, self.data) as mapping:
             words = [self._program, "--mapping", mapping]
             words += ["--db", os.path.abspath(self._db)] if of_file else []
-            words += ["--query", self._text]
+            words += ["--query", self._named.text]
             for name, value in self._params.items():
                 words += ["--param", f"{name}={_json(value)}"]
             words += ["--language", "wide"] if self._is_wide else []
-            yield from printed([*words, *more])
+            for line in printed([*words, *more]):
+                yield self._naming.told(line) if "--explain" in more else line
 
     def _takes(self, option: str) -> bool:
         """Whether the program takes an option, as its help says."""
@@ -234,15 +271,16 @@ class _Query:
     def _rows_by_calls(self) -> Iterator[Any]:
         """The rows by the calls of a manager, of a program that takes no query in its words."""
         params = {name: _shown(value) for name, value in self._params.items()}
-        with opened(bare(json.loads(self._data)), self._db, program=self._program) as app:
-            for row in app.create_entity_manager().query(self._text, params=params):
+        with opened(bare(json.loads(self.data)), self._db, program=self._program) as app:
+            for row in app.create_entity_manager().query(self._named.text, params=params):
                 yield [_said(item) for item in row] if isinstance(row, list) else _said(row)
 
     def mistakes(self) -> List[str]:
         """What the client's own check finds in it."""
-        entities = entities_of(json.loads(self._data))
+        entities = entities_of(json.loads(self.data))
         kinds = {name: _kind(value) for name, value in self._params.items()}
-        return [str(finding) for finding in check(self._text, entities, kinds, self._language)]
+        found = self._naming.mistakes(self._said, entities, kinds, self._language)
+        return [str(finding) for finding in found]
 
 
 def _said(item: Any) -> Any:

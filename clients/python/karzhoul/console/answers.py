@@ -4,9 +4,10 @@ from __future__ import annotations
 
 from typing import Any, Dict, Mapping, Sequence
 
+from ..classes.naming import Naming
 from ..objects.entities import Entity
 from ..jpql.statements import LanguageName
-from ..jpql.check import Kinds, QueryFinding, check
+from ..jpql.check import Kinds, QueryFinding
 from ..refusals import Refused
 from ..mapping.unit import EntityDescription
 
@@ -22,11 +23,13 @@ class Declined(Exception):
 
 
 def mistakes_of(
-    text: str, kinds: Kinds, entities: Mapping[str, EntityDescription], language: LanguageName
+    text: str, kinds: Kinds, entities: Mapping[str, EntityDescription], language: LanguageName,
+    naming: Naming,
 ) -> Sequence[QueryFinding]:
-    """What is wrong with a query by the linter."""
+    """What is wrong with a query by the linter, whose names are those of classes where it has any.
+    """
     try:
-        return check(text, entities, kinds, language)
+        return naming.mistakes(text, entities, kinds, language)
     except RecursionError:  # The program says what there is to say.
         return ()
 
@@ -44,7 +47,7 @@ def refusal_of(fault: BaseException, mistakes: Sequence[QueryFinding] = ()) -> A
     transaction ends."""
     if isinstance(fault, Declined):
         return fault.answer
-    word = fault.word if isinstance(fault, Refused) else type(fault).__name__
+    word: str = getattr(fault, "word", type(fault).__name__)
     told = fault.explain().splitlines() if isinstance(fault, Refused) else [_said(fault)]
     return declined(word, told, mistakes)
 

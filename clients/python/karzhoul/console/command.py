@@ -28,6 +28,9 @@ def add_command(commands: Any, common: argparse.ArgumentParser) -> None:
     add("--write", action="store_true", help="changes may be made; without it the store is read")
     add("--language", choices=("profile", "wide"),
         help="the language of queries: a mapping has the profile, and classes have the wide one")
+    add("--index", action="append", default=[], metavar="CLASS.MEMBER",
+        help="keep an index of an attribute, as Title.name, for as long as it runs; classes say "
+        "index=True themselves")
     add("--end-program-after", type=_seconds, default=_SECONDS, metavar="SECONDS",
         help="give a query up after so many seconds, where no transaction is open (%(default)g)")
     add("--port", type=int, default=0, help="the port of the page (a free one)")

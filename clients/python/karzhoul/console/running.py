@@ -16,7 +16,7 @@ from types import FrameType
 from typing import Iterator, Optional
 
 from .actions import Actions
-from .opening import lines_of, opened_for, title_of
+from .opening import lines_of, naming_for, opened_for, title_of
 from .serving import Console
 from .store import Store, require_classes
 
@@ -25,7 +25,9 @@ def serve(said: argparse.Namespace) -> int:
     """Serves the page until Ctrl-C or SIGTERM, which both end it well."""
     with opened_for(said) as app:
         require_classes(app, said.write)
-        store = Store(app, title_of(said), said.write, said.end_program_after)
+        store = Store(
+            app, title_of(said), said.write, said.end_program_after, naming_for(said)
+        )
         with Console(Actions(store), said.port) as console:
             threading.Thread(target=console.serve_forever, daemon=True).start()
             try:

@@ -7,6 +7,7 @@ import threading
 from contextlib import contextmanager
 from typing import Any, Dict, Iterator, List, Mapping, Optional, Sequence
 
+from ..classes.naming import Naming
 from ..session.factory import EntityManagerFactory
 from ..jpql.statements import Unreadable, parameters_of, statement_of
 from ..wire.lines import line_of, spelled, text_spelled
@@ -32,10 +33,12 @@ class Store:
     """A store as the console reads and changes it."""
 
     def __init__(
-        self, app: EntityManagerFactory, name: str, can_write: bool, seconds: Optional[float]
+        self, app: EntityManagerFactory, name: str, can_write: bool, seconds: Optional[float],
+        naming: Optional[Naming] = None,
     ) -> None:
-        """With what it is called, whether it may be changed, and after how many seconds a query is
-        given up where no transaction is open."""
+        """With what it is called, whether it may be changed, after how many seconds a query is
+        given up where no transaction is open, and the names that queries may have."""
+        self._naming = naming or Naming({})
         self._app, self._name, self._can_write, self._seconds = app, name, can_write, seconds
         self._every = entities_of(app.mapping)
         self._entities = shown_entities(app.mapping)
@@ -129,7 +132,8 @@ class Store:
         """The query of all objects of an entity, in the order of their keys where it may be."""
         text = f"SELECT e FROM {entity.name} e"
         ordered = f"{text} ORDER BY {', '.join(f'e.{part.name}' for part in entity.key)}"
-        return text if mistakes_of(ordered, {}, self._every, self._app.language) else ordered
+        is_wrong = mistakes_of(ordered, {}, self._every, self._app.language, self._naming)
+        return text if is_wrong else self._naming.told(ordered)
 
     def check(self, text: str, params: Params) -> Answer:
         """What the linter says of a query, and which parameters it has."""
@@ -144,7 +148,7 @@ class Store:
 
     def _mistakes(self, text: str, params: Params) -> Sequence[Any]:
         kinds = {name: kind_of(value) for name, value in params.items()}
-        return mistakes_of(text, kinds, self._every, self._app.language)
+        return mistakes_of(text, kinds, self._every, self._app.language, self._naming)
 
     # ---- rows
 
@@ -156,7 +160,7 @@ class Store:
             try:
                 with self._reading(mistakes) as manager:
                     rows = self._rows(manager, text, params, first, most + 1)
-                    table = self.objects.table(text, rows[:most])
+                    table = self._table(text, rows[:most])
             except Exception as fault:
                 raise self._declined(fault, mistakes) from fault
         return {**table, "first": first, "more": len(rows) > most}
@@ -168,7 +172,8 @@ class Store:
         if mistakes:
             raise Declined(declined(mistakes[0].refusal, [mistakes[0].message], mistakes))
         with self._turn():
-            return {"lookups": lookups_of(self._app, text, params)}
+            told = lookups_of(self._app, self._naming.named(text).text, params)
+            return {"lookups": list(map(self._naming.told, told))}
 
     def csv(self, text: str, params: Params) -> str:
         """All rows of a SELECT as CSV: their table, an object by its name."""
@@ -177,9 +182,7 @@ class Store:
         with self._turn():
             try:
                 with self._reading(mistakes) as manager:
-                    table = self.objects.table(
-                        text, self._rows(manager, text, params, None, None)
-                    )
+                    table = self._table(text, self._rows(manager, text, params, None, None))
             except Exception as fault:
                 raise self._declined(fault, mistakes) from fault
         titles = table["titles"] or list(Names(text).fields)
@@ -188,7 +191,10 @@ class Store:
 
     def _declined(self, fault: BaseException, mistakes: Sequence[Any]) -> Declined:
         answer = self._refusal(fault)
-        answer["refused"]["mistakes"] = [said_mistake(it) for it in mistakes]
+        refused = answer["refused"]
+        refused["mistakes"] = [said_mistake(it) for it in mistakes]
+        if mistakes and mistakes[0].refusal == refused["word"]:
+            refused["told"] = [str(it) for it in mistakes]  # By the names that were typed.
         return Declined(answer)
 
     def _require_select(self, text: str) -> None:
@@ -203,13 +209,22 @@ class Store:
     ) -> List[Any]:
         """The rows as they are stored, also where classes are bound."""
         given = ",".join(f"{text_spelled(name)}:{spelled(it)}" for name, it in params.items())
-        members = {"em": str(manager.number), "text": text_spelled(text), "params": f"{{{given}}}"}
+        asked = text_spelled(self._naming.named(text).text)
+        members = {"em": str(manager.number), "text": asked, "params": f"{{{given}}}"}
         if first is not None:
             members.update(first=str(first), max=str(most))
         seconds = self._seconds if self._changes.manager is None else None
         run = self._app._run
         rows: List[Any] = self._app.ask_lines(run, [line_of("query", members)], timeout=seconds)[0]
         return rows
+
+    def _table(self, text: str, rows: Sequence[Any]) -> Answer:
+        """Rows as a table, whose columns have the names of classes."""
+        table = self.objects.table(text, rows)
+        titles = table["titles"]
+        if titles[:1] != [""]:  # Else they are objects, with their members.
+            titles = self._naming.named(text).titles(len(titles), self._naming)
+        return {**table, "titles": list(map(self._naming.told, titles))}
 
     # ---- one object
 

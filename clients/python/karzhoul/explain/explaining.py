@@ -85,9 +85,12 @@ def _told(refused: Refused, factory: Optional[EntityManagerFactory]) -> Iterator
 
 def _of_query(said: Mapping[str, Any], factory: EntityManagerFactory) -> Iterator[str]:
     if isinstance(said.get("text"), str):
+        from ..classes.naming import Naming
+
+        naming = Naming({} if factory.binding is None else factory.binding.model)
         entities = entities_of(factory.mapping)
         for each in check(said["text"], entities, _kinds(said, factory), factory.language):
-            yield str(each)
+            yield naming.told(str(each))
 
 
 def _of_argument(

@@ -36,10 +36,7 @@ def follow(fresh: Path, out: Path, tables: Sequence[Table]) -> int:
             store.execute("PRAGMA main.journal_mode = WAL")
         before = store.total_changes
         store.execute("BEGIN IMMEDIATE")
-        for table in tables:
-            for statement in _rows_changed(table):
-                store.execute(statement)
-        rows = store.total_changes - before
+        rows = sum(_changed(store, table) for table in tables)
         for statement in _numbers_changed(tables):
             store.execute(statement)
         store.execute("COMMIT" if store.total_changes > before else "ROLLBACK")
@@ -62,10 +59,20 @@ def _refuse_others(store: sqlite3.Connection, out: Path) -> None:
                                 "or by other --names, --name and --as. Name another file")
 
 
+def _changed(store: sqlite3.Connection, table: Table) -> int:
+    """Changes the rows of a table; how many were written or removed, each told once."""
+    gone, removal, writing = _rows_changed(table)
+    [[count]] = store.execute(gone).fetchall()
+    store.execute(removal)
+    return int(count) + store.execute(writing).rowcount
+
+
 def _rows_changed(table: Table) -> Iterator[str]:
-    """What changes the rows of a table. Of what is unique a row may have what another one had: so
-    those that changed are removed first."""
+    """How many rows of a table are gone, and what changes its rows. Of what is unique a row may
+    have what another one had: so those that changed are removed first."""
     name, key = quoted(table.name), _alike("=", table.key)
+    yield (f"SELECT count(*) FROM main.{name} AS mine WHERE NOT EXISTS "
+           f"(SELECT 1 FROM fresh.{name} AS its WHERE {key})")
     rest = [it.name for it in table.columns if it.name not in table.key]
     same = " AND ".join([key, *([_alike("IS", rest)] if rest else [])])
     yield (f"DELETE FROM main.{name} AS mine WHERE NOT EXISTS "

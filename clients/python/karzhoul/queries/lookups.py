@@ -6,14 +6,19 @@ import json
 import os
 from typing import TYPE_CHECKING, Any, Dict, Iterator, List, Mapping, Sequence, Tuple
 
+from ..classes.naming import Naming
 from ..objects.entities import Entity
-from ..refusals import KarzhoulError, ProgramEnded
 from ..store.finding import find_program
+from ..mapping.indexes import index_line
 from ..store.printed import mapping_file, printed
 from ..store.program import Program
+from ..refusals import BadLine, KarzhoulError, ProgramEnded
+from ..records.spelling import said_value
 
 if TYPE_CHECKING:
     from ..session.factory import EntityManagerFactory
+
+_INDEXES = b'{"serve":"indexes"}'
 
 
 def lookups_of(factory: EntityManagerFactory, text: str, values: Mapping[str, Any]) -> List[str]:
@@ -23,18 +28,29 @@ def lookups_of(factory: EntityManagerFactory, text: str, values: Mapping[str, An
     with mapping_file(json.dumps(factory.mapping).encode()) as mapping:
         words = [program, "--mapping", mapping, "--query", text, "--explain"]
         words += ["--language", factory.language] if factory.language != "profile" else []
-        for entity, name in _indexes(factory.index_lines):
+        for entity, name in _indexes(factory.index_lines if own else _served(factory)):
             words += ["--index", f"{entity}.{name}"]
         for parameter, value in values.items():
             words += ["--param", f"{parameter}={_said(value)}"]
         try:
-            return list(printed(words))
+            told = list(printed(words))
         except ProgramEnded as ended:
             if "--db" not in ended.told and "--index" not in ended.told:
                 raise
             raise KarzhoulError(
                 f"{program} is an older program, which doesn't tell how a manager finds objects"
             ) from ended
+    return told if factory.binding is None else list(map(Naming(factory.binding.model).told, told))
+
+
+def _served(factory: EntityManagerFactory) -> List[bytes]:
+    """The lines of the indexes that a server's program was told; of an older server those that this
+    connection has asked."""
+    try:
+        [found] = factory.ask_lines(None, [_INDEXES])
+    except BadLine:
+        return list(factory.index_lines)
+    return [index_line(entity, name) for entity, name in found]
 
 
 def _indexes(lines: Sequence[bytes]) -> Iterator[Tuple[str, str]]:

@@ -28,6 +28,8 @@ Limit = Optional[int]
 Result = Union[None, str, Type[Any]]
 # Beyond `_seconds` and `_asked`, and the call that the application makes.
 _ABOVE = 4
+# In the place of a text that isn't the first argument: it is the one by the name `text`, if any is.
+_BY_NAME: Any = object()
 
 
 class Queries:
@@ -35,8 +37,10 @@ class Queries:
 
     A parameter is handed in by its name, as `query(text, name="Ada")`, or in `params`, as
     `params={"name": "Ada"}` or `params={1: "Ada"}` for `?1`. A list is a parameter of IN, as in
-    "o.number IN :numbers". With a `result_class` each row has an item of that class, or a None in
-    its place; else this is a `TypeError`.
+    "o.number IN :numbers". `query(text="SELECT ..")` says the text by its name, and behind a text
+    `text` is a parameter, as any name is but those of the words that a method takes. With a
+    `result_class` each row has an item of that class, or a None in its place; else this is a
+    `TypeError`.
 
     With `end_program_after`, a query that isn't answered within so many seconds is `GivenUp`: the
     program is ended, since it serves one call at a time and knows no other way to leave one. So
@@ -58,7 +62,8 @@ class Queries:
 
     def query(
         self,
-        text: str,
+        text: str = _BY_NAME,
+        /,
         result_class: Result = None,
         *,
         params: Params = None,
@@ -73,7 +78,8 @@ class Queries:
 
     def query_single(
         self,
-        text: str,
+        text: str = _BY_NAME,
+        /,
         result_class: Result = None,
         *,
         params: Params = None,
@@ -89,7 +95,8 @@ class Queries:
 
     def one_or_none(
         self,
-        text: str,
+        text: str = _BY_NAME,
+        /,
         result_class: Result = None,
         *,
         params: Params = None,
@@ -105,7 +112,8 @@ class Queries:
 
     def first(
         self,
-        text: str,
+        text: str = _BY_NAME,
+        /,
         result_class: Result = None,
         *,
         params: Params = None,
@@ -118,7 +126,8 @@ class Queries:
 
     def scalars(
         self,
-        text: str,
+        text: str = _BY_NAME,
+        /,
         result_class: Result = None,
         *,
         params: Params = None,
@@ -186,7 +195,9 @@ class Queries:
         asked = self._asked(text, result_class, params, end_program_after, named)
         return _iterated(asked, by_key(text, keys), size)
 
-    def explain(self, text: str, *, params: Params = None, **named: Any) -> List[str]:
+    def explain(
+        self, text: str = _BY_NAME, /, *, params: Params = None, **named: Any
+    ) -> List[str]:
         """By what the program finds the objects for a SELECT, a line for each of its variables, as
         `looks up Title by the index of name`; indexes are those of `open`. The text is judged as
         `query` judges it, and nothing is asked of the store."""
@@ -194,7 +205,8 @@ class Queries:
 
     def execute_update(
         self,
-        text: str,
+        text: str = _BY_NAME,
+        /,
         *,
         params: Params = None,
         end_program_after: Optional[float] = None,
@@ -206,7 +218,7 @@ class Queries:
         changes it is refused."""
         asked = self._asked(text, None, params, end_program_after, named)
         if self.keeper is not None:
-            self.keeper.check_statement(text)
+            self.keeper.check_statement(asked.text)
         return int(asked.answers([asked.line("executeUpdate")], is_one=True)[0])
 
     def _asked(
@@ -219,13 +231,27 @@ class Queries:
     ) -> _Asked:
         """A query that is asked so, which is refused here where it is none. Who calls this is
         called by the application, whose line a warning names."""
+        if text is _BY_NAME:
+            if "text" not in named:
+                raise TypeError("a query is a text, as 'SELECT p FROM Person p', and none is given")
+            text = named.pop("text")
         seconds = _seconds(seconds, named)
         check_query(text, result_class, params)
         given = _given(params, named) if named or params is not None else None
-        wanted = None
-        if result_class is not None:
-            wanted = item_class(self.factory._classes, result_class)
+        wanted = None if result_class is None else self._wanted(text, result_class)
         return _Asked(self, text, wanted, given, seconds)
+
+    def _wanted(self, text: str, result_class: Union[str, Type[Any]]) -> Type[Any]:
+        """The class of an item of each row; a `TypeError` where it was handed in as a parameter."""
+        try:
+            return item_class(self.factory._classes, result_class)
+        except KeyError:
+            if ":result_class" not in text:
+                raise
+        raise TypeError(
+            f"result_class= is the class of an item, and {result_class!r} is no entity: a "
+            "parameter :result_class is handed in by params={'result_class': ..}"
+        )
 
 
 class _Asked(NamedTuple):
@@ -360,10 +386,20 @@ def _seconds(given: Optional[float], named: Dict[str, Any]) -> Optional[float]:
         if given is not None:
             raise TypeError("timeout is the former name of end_program_after: both are given")
         word, given = "timeout", former
+    if given is None:
+        return None
+    try:
+        is_above = given > 0
+    except TypeError:
+        raise TypeError(
+            f"{word}= is a number of seconds, and no {type(given).__name__}: a parameter :{word} "
+            f"is handed in by params={{{word!r}: ..}}"
+        ) from None
+    if not is_above:
+        raise ValueError(f"{word}={given!r} is no number of seconds above 0")
+    if former is not None:
         told = "timeout ends the program for all threads, and is called end_program_after now"
         warnings.warn(told, DeprecationWarning, stacklevel=_ABOVE)
-    if given is not None and not given > 0:
-        raise ValueError(f"{word}={given!r} is no number of seconds above 0")
     return given
 
 

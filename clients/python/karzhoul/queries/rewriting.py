@@ -35,6 +35,22 @@ class Edits:
             text = text[:at] + by + text[end:]
         return text
 
+    def before(self, at: int, end: int) -> Tuple[int, int]:
+        """Where in the text as it was a part of the changed one is; of a part of what was put there,
+        what that was put for."""
+        return self._before(at, False), self._before(end, True)
+
+    def _before(self, at: int, is_end: bool) -> int:
+        grown = 0
+        for first, until, by in sorted(self._made):
+            here = first + grown
+            if at - is_end < here:
+                break
+            if at - is_end < here + len(by):
+                return until if is_end else first
+            grown += len(by) - (until - first)
+        return at - grown
+
 
 # ---- lists
 

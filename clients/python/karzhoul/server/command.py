@@ -114,7 +114,7 @@ def run_serve(said: argparse.Namespace) -> int:
             raise
 
     told = json.dumps(json.loads(mapping)).encode()
-    return serve(settings, listening, start, Served(told, language))
+    return serve(settings, listening, start, Served(told, language, lines))
 
 
 def run_backup(said: argparse.Namespace) -> int:

@@ -299,8 +299,9 @@ def connect(
     the token, is a `Disconnected`, and classes that aren't the server's a `ProgramNotFound`.
 
     What needs the file isn't to be had: the server has it. So it has the indexes too, which its
-    command names, and those that are `index=True` in these classes are asked of it. A connection that ends rolls back what
-    isn't committed; `reopen` connects again, and waits for the server as long.
+    command names, and those that are `index=True` or `unique=True` in these classes are asked of
+    it. A connection that ends rolls back what isn't committed; `reopen` connects again, and waits
+    for the server as long.
     """
     if wait is not None and not (wait >= 0 and math.isfinite(wait)):
         raise ValueError(f"wait={wait!r} is no number of seconds from 0 on")

@@ -1,5 +1,5 @@
 """The server's own calls, `{"serve":".."}`: who one is, what is served, a turn at a manager, the
-status, and a backup. They are no calls of the program."""
+status, the indexes, and a backup. They are no calls of the program."""
 
 from __future__ import annotations
 
@@ -81,8 +81,10 @@ class Own:
             self._turn(connection, said)
         elif word == "backup":
             self._backup(connection)
+        elif word == "indexes":
+            connection.say(answer(self._service.indexes()))
         else:
-            why = 'there are {"serve":"hello"}, "status", "turn" and "backup"'
+            why = 'there are {"serve":"hello"}, "status", "indexes", "turn" and "backup"'
             self._service.refuse(connection, refusal("BadLine", why))
 
     def _hello(self, connection: Connection, said: Dict[str, Any]) -> None:

@@ -3,6 +3,7 @@
 from __future__ import annotations
 
 import asyncio
+import json
 import socket
 import struct
 import time
@@ -61,6 +62,8 @@ class Service:
         self.made = self.created = 0
         self.still, self.renewal, self.watch = Stillness(self), Renewal(self), Watch(self)
         self.is_ending = False
+        # What connections have asked this program to look up, beside what it serves.
+        self._asked: Dict[Tuple[str, str], None] = {}
         # Its status, once it has ended.
         self.ended: asyncio.Future[int] = asyncio.get_running_loop().create_future()
         self._tasks: Set[asyncio.Task[None]] = set()
@@ -70,6 +73,10 @@ class Service:
         """How many numbers of a kind the run has given, of which it has 1,000,000: of objects, or
         of managers where these are more, as where many only read."""
         return max(self.made, self.created)
+
+    def indexes(self) -> List[Tuple[str, str]]:
+        """What the program was told to look up: entities, each with the name of a member."""
+        return list(dict.fromkeys([*map(_indexed, self.served.index_lines), *self._asked]))
 
     # ---- connections
 
@@ -287,6 +294,8 @@ class Service:
         text, self.made = connection.translation.reply(call.word, reply, made)
         self.counts.objects += self.made - made
         refused = self.counts.refused(reply) if reply.startswith(b'{"error":') else ""
+        if call.word == "index" and not refused:
+            self._asked[_indexed(call.line)] = None
         self._note(connection, call, refused, reply)
         return refused, text
 
@@ -378,6 +387,7 @@ class Service:
         self.engine.left()
         self.still.note_idle()
         self.active = self.made = self.created = 0
+        self._asked = {}
         for connection in list(self.connections):
             is_lost = not connection.translation.is_empty
             connection.managers, connection.reserved = {}, 0
@@ -436,6 +446,12 @@ class Service:
 
 def _nothing(_: Optional[bytes]) -> None:
     """What comes of a line that nobody waits for."""
+
+
+def _indexed(line: bytes) -> Tuple[str, str]:
+    """What a line says to look up."""
+    said: Dict[str, str] = json.loads(line)
+    return said["entity"], said["name"]
 
 
 def _peer(transport: asyncio.Transport) -> str:

@@ -3,7 +3,7 @@
 from __future__ import annotations
 
 from dataclasses import dataclass
-from typing import TYPE_CHECKING, Optional
+from typing import TYPE_CHECKING, Optional, Sequence
 
 from .address import Address
 
@@ -15,10 +15,12 @@ LEAST_TOKEN = 32
 
 @dataclass(frozen=True)
 class Served:
-    """What is served: the mapping, as JSON without a line feed, and the language of queries."""
+    """What is served: the mapping, as JSON without a line feed, the language of queries, and the
+    lines that each program is told of what will be looked up."""
 
     mapping: bytes
     language: str
+    index_lines: Sequence[bytes] = ()
 
 
 @dataclass(frozen=True)

@@ -47,6 +47,8 @@ class EntityManager(Queries, AbstractContextManager["EntityManager"]):
     """A manager of objects, whose context lasts over its commits.
     `EntityManagerFactory.create_entity_manager` makes one."""
 
+    number: int
+
     def __init__(self, run: Run, number: int, place: Place, is_begun: bool = False) -> None:
         """With its place, which is taken where the factory has places, and whether its transaction
         is open already, for the block that begins it."""

@@ -48,9 +48,9 @@ def open(
     mapping has the profile. A program that serves no wide one is a `ProgramNotFound`.
 
     `indexes={"Title": ["name"]}` names attributes, and parts of keys, of which the program keeps an
-    index, as of those that are `index=True` in classes: it is told so whenever it is started. What
-    can have none is a `ValueError`, which says what there is, before anything is opened. No answer
-    is another one for an index (`index` of docs/CALLS.md).
+    index, as of those that are `index=True` or `unique=True` in classes: it is told so whenever it
+    is started. What can have none is a `Misused`, a `ValueError` which says what there is, before
+    anything is opened. No answer is another one for an index (`index` of docs/CALLS.md).
 
     A mapping that is refused is a `refusals.Mapping` that says where it is wrong, a store a
     `Damaged`, or a `StoreFault` that says what is in the way. `program` names the program to start
