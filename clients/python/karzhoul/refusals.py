@@ -6,7 +6,7 @@ from __future__ import annotations
 import re
 from typing import TYPE_CHECKING, Any, ClassVar, Dict, Optional, Sequence, Tuple, Type
 
-from .objects.misfits import shown
+from .told import shown
 
 if TYPE_CHECKING:
     from .objects.concern import Concern

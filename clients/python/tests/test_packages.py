@@ -11,7 +11,7 @@ import karzhoul
 
 PACKAGE = Path(karzhoul.__file__).parent
 LAYERS: Tuple[Tuple[str, ...], ...] = (
-    ("refusals",), ("wire",), ("mapping",), ("jpql",), ("store",), ("objects", "classes", "queries"),
+    ("told",), ("refusals",), ("wire",), ("mapping",), ("jpql",), ("store",), ("objects", "classes", "queries"),
     ("stubs", "explain"), ("session",), ("showing",), ("records",), ("server",), ("migrating",),
     ("exporting",), ("console",), ("cli",),
 )

@@ -582,7 +582,7 @@ class ByCall(RunsTest):
         self.assertEqual(self.names(), list(NAMES))
 
 
-MAY_ASK = {"cli/shell.py", "session/calls.py", "console/objects.py"}
+MAY_ASK = {"cli/shell.py", "session/calls.py"}
 
 
 @needs_program

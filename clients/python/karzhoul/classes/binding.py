@@ -10,13 +10,12 @@ from weakref import WeakKeyDictionary, WeakSet
 from ..objects.entities import Attribute, Entity, Event, check_names
 from ..mapping.indexes import WHY_NOT, Known, index_line
 from ..wire.lines import LifecycleEvent
-from ..objects.misfits import shown
+from ..told import shown
 from ..mapping.unit import MemberKind
 from . import types
 from .checks import chain, member_of
 from .declared import CALLBACKS, KINDS, TO_MANY, Declared, Member, Model
 from .embedded import Embedded, has_required
-from .fields import MISSING
 from .values import WrongValue, from_stored, to_stored
 
 if TYPE_CHECKING:

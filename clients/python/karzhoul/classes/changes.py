@@ -12,7 +12,7 @@ from types import ModuleType
 from typing import TYPE_CHECKING, Any, Callable, Dict, Iterable, Iterator, List, Mapping
 from typing import NamedTuple, Optional, Tuple, Union
 
-from ..objects.misfits import shown
+from ..told import shown
 from ..refusals import Damaged, KarzhoulError, Refused
 from . import lock as locks
 from .binding import Binding

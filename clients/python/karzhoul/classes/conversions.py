@@ -9,7 +9,7 @@ from typing import Any, Dict, Iterable, List, Mapping, NamedTuple, Optional, Seq
 
 from ..jpql import statements as jpql
 from ..jpql.statements import Block, Node, Statement, Token, read
-from ..objects.misfits import cut, shown
+from ..told import cut, shown
 from ..queries.rewriting import Edits, is_list
 from .binding import embedded_of
 from .checks import chain, member_of

@@ -6,7 +6,8 @@ from dataclasses import dataclass
 from typing import Any, ClassVar, Dict, Iterable, Mapping, NoReturn, Optional
 from typing import Tuple, Type, TypeVar
 
-from ..objects.misfits import shown, unknown
+from ..objects.misfits import unknown
+from ..told import shown
 from .annotations import Scope, Unread, own_annotations
 from .faults import Faults
 from .fields import (

@@ -6,7 +6,6 @@ from __future__ import annotations
 import re
 from typing import Any, Dict, List, Mapping, NamedTuple, Optional, Sequence, Tuple
 
-from ..showing.asked import titles_of
 from ..jpql.statements import LanguageName, read
 from ..jpql.check import Kinds, QueryFinding, check
 from ..queries.rewriting import Edits
@@ -42,6 +41,8 @@ class Named(NamedTuple):
         fields = Names(self.said).fields
         if len(fields) == count:
             return list(fields)
+        from ..showing.asked import titles_of
+
         return [naming.told(title) for title in titles_of(self.text, count)]
 
     def found(self, finding: QueryFinding, naming: Naming) -> QueryFinding:

@@ -25,7 +25,7 @@ from enum import Enum
 from typing import Any, Callable, Dict, List, Mapping, Tuple, Type, Union
 from uuid import UUID
 
-from ..objects.misfits import shown
+from ..told import shown
 
 Plain = Union[int, str, bytes]
 LEAST, GREATEST, MOST_BYTES = -(2**63), 2**63 - 1, 65_535

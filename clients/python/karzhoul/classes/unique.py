@@ -21,7 +21,7 @@ from ..objects.concern import Noted
 from ..objects.entities import Entity
 from ..jpql.statements import Bulk, read, tokens_of
 from ..wire.lines import line_of, text_spelled
-from ..objects.misfits import shown
+from ..told import shown
 from ..refusals import KarzhoulError, NotUnique, OptimisticLock, Refused, Rollback
 from .checks import chain, member_of
 from .declared import Member, Model

@@ -4,7 +4,7 @@ from __future__ import annotations
 
 from typing import Any
 
-from ..objects.misfits import cut, shown
+from ..told import cut, shown
 from . import types
 
 

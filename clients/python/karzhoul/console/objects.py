@@ -7,7 +7,7 @@ from typing import Any, Dict, List, Mapping, Optional, Sequence
 from ..showing.asked import titles_of
 from ..objects.entities import Entity
 from ..session.factory import EntityManagerFactory
-from ..wire.lines import spelled
+from ..wire.lines import line_of, spelled
 from ..session.managers import EntityManager
 from ..mapping.unit import EntityDescription, Member, MemberKind
 from .answers import Answer
@@ -54,10 +54,10 @@ class Objects:
             if kind is None or kind.what != part.type:
                 raise Unread(f"{reference.entity}.{part.name} is {_TYPES[part.type]}")
         key = f"[{','.join(map(spelled, reference.key))}]"
-        answer = self._app.ask(
-            "find", reference.entity, em=str(manager.number), entity=f'"{reference.entity}"',
-            key=key,
-        )
+        line = line_of("find", {
+            "em": str(manager.number), "entity": f'"{reference.entity}"', "key": key,
+        })
+        [answer] = self._app.ask_lines(manager._run, [line], reference.entity)
         return answer if isinstance(answer, Entity) else None
 
     def found(self, manager: EntityManager, reference: Reference) -> Entity:

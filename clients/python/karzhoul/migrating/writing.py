@@ -7,7 +7,7 @@ when it opens the file.
 
 from __future__ import annotations
 
-from typing import Any, Callable, Dict, Iterator, List, Mapping, NamedTuple, Optional, Protocol
+from typing import Any, Callable, Dict, Iterator, List, Mapping, NamedTuple, Protocol
 from typing import Set, Tuple, Union
 
 from ..wire.lines import spelled, text_spelled

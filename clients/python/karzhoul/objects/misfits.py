@@ -11,25 +11,6 @@ _HALF = (
 )
 
 
-# So many characters are told of a value, and of why it isn't taken.
-_OF_VALUE, _OF_WORDS = 200, 500
-
-
-def shown(value: object) -> str:
-    """A value as messages tell it: they may stand in a log, and a text may have 65,535 bytes."""
-    size = f"{len(value):,} bytes" if isinstance(value, bytes) else ""
-    size = f"{len(value):,} characters" if isinstance(value, str) else size
-    return cut(repr(value), size, _OF_VALUE)
-
-
-def cut(told: str, size: str = "", longest: int = _OF_WORDS) -> str:
-    """What is told without its middle, where that is long, and how long it is."""
-    if len(told) <= longest:
-        return told
-    size = size or f"{len(told):,} characters"
-    return f"{told[: longest // 2]} .. ({size}) .. {told[-longest // 4 :]}"
-
-
 def misfit(fault: Exception, what: str, value: Any) -> Exception:
     """A fault of a value that was handed in for this, or of a list of values: of the same kind, and
     it says for what they were."""

@@ -13,7 +13,6 @@ from ..mapping.indexes import index_line
 from ..store.printed import mapping_file, printed
 from ..store.program import Program
 from ..refusals import BadLine, KarzhoulError, ProgramEnded
-from ..records.spelling import said_value
 
 if TYPE_CHECKING:
     from ..session.factory import EntityManagerFactory

@@ -10,7 +10,7 @@ import socket
 import stat
 from contextlib import suppress
 from pathlib import Path
-from typing import Callable, List, Optional, Union
+from typing import Callable, List, Union
 
 from ..store.program import Program
 from ..refusals import Misused

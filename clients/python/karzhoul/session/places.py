@@ -15,7 +15,7 @@ import os
 import threading
 import time
 from collections import deque
-from typing import TYPE_CHECKING, Deque, Dict, List, Optional
+from typing import TYPE_CHECKING, Deque, Dict, Optional
 from weakref import ref
 
 from ..refusals import NoFreeManager
