@@ -60,8 +60,8 @@ def walked(turns: Any) -> list[str]:
         wrong.append(f"a landing takes {max(cost):.0f} s, more than {most:.0f}")
     names = sorted(it.split("/")[1] for it in glob.glob("crates/*/must-fail"))
     for name in names:
-        if all(name in turns.crates_left_out(first + i) for i in range(3)):
-            wrong.append(f"the edits of must-fail/ of {name} have no turn in three landings")
+        if all(name in turns.crates_left_out(first + i) for i in range(turns.OWN)):
+            wrong.append(f"the edits of must-fail/ of {name} have no turn in {turns.OWN} landings")
     print(
         f"{len(planted)} planted edits in {len(lots)} lots: {len(round_)} landings a round,"
         f" of {sum(cost) / len(cost):.0f} s, {max(cost):.0f} at most"
