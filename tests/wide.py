@@ -182,8 +182,8 @@ UNREAD_TEXTS = [
     "SELECT n.id FROM Note n GROUP BY UPPER(n.t)", "SELECT n.id FROM Note n ORDER BY UPPER(n.t",
     "SELECT n.id FROM Note n ORDER BY UPPER(n.t) NULLS LAST", "SELECT n.id FROM Note n ORDER BY n.t = 'a'",
     "SELECT upper.id FROM Note upper", "SELECT case.id FROM Note AS case", "SELECT n.id FROM Note n JOIN n.next all",
-    "SELECT n.id FROM Note n WHERE n.id = ALL (SELECT o.id FROM Note o)",
-    "SELECT n.id FROM Note n WHERE n.id IN (SELECT o.id FROM Note o)", "SELECT some.id FROM Note n",
+    "SELECT n.id FROM Note n WHERE n.id = ALL (1, 2)", "SELECT n.id FROM Note n WHERE n.id = (SELECT o.id FROM Note o)",
+    "SELECT n.id FROM Note n WHERE n.id IN ((SELECT o.id FROM Note o))", "SELECT some.id FROM Note n",
 ]
 # A text that is ill typed, with its parameters.
 ILL_TYPED: list[tuple[str, list[str]]] = [

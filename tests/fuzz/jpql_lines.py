@@ -5,6 +5,8 @@ from __future__ import annotations
 from typing import TYPE_CHECKING, Any, Callable
 
 from fuzz.equations import Equations
+from fuzz.limits import Limits
+from fuzz.rows import Rows
 
 if TYPE_CHECKING:
     from fuzz.lines import Calls
@@ -31,6 +33,8 @@ TESTS = {
     "compare": 10, "entity": 4, "between": 3, "in": 4, "like": 4, "null": 4, "empty": 3,
     "member": 4, "type": 3, "exists": 4,
 }
+# Those of the wider language; the profile has a few of these too, and refuses them.
+WIDE_TESTS, TESTS = {**TESTS, "rows": 6}, {**TESTS, "rows": 0.15}
 
 
 class Block:
@@ -52,7 +56,7 @@ class Block:
         return Block(**{**vars(self), **others})
 
 
-class Texts(Equations):
+class Texts(Equations, Rows, Limits):
     """Makes statements by chance over a unit. Values come from the maker of calls; objects that a
     manager sees are counted, so that a query has no more tuples than it should."""
 
@@ -365,14 +369,13 @@ class Texts(Equations):
     def test(self, block: Block, depth: int) -> list[str]:
         kind = self.some([int, int, int, str, str, bytes])
         negation = self.some([[], [], [], ["NOT"]])
-        word = self.random.choices(list(TESTS), TESTS.values())[0]
-        if (
-            word == "exists"
-            and block.depth < 2
-            and block.groups is None
-            and self.product < self.calls.most_tuples / 4
-        ):
+        tests = WIDE_TESTS if self.is_wide else TESTS
+        word = self.random.choices(list(tests), tests.values())[0]
+        if word == "exists" and self.nests(block):
             return self.exists(block)
+        is_in_having = block.groups is not None and self.chance(0.05)
+        if word == "rows" and (is_in_having or self.nests(block)):
+            return self.rows(block, negation)
         if word in ("empty", "member") and block.groups is None:
             found = self.collection(block)
             if found:
@@ -390,17 +393,6 @@ class Texts(Equations):
                 *self.value(root, block, 1), self.some(["=", "<>"]), *self.value(root, block, 1),
             ]
         return self.value_test(word, kind, negation, block, depth)
-
-    def exists(self, block: Block) -> list[str]:
-        variables, sources = self.sources(block.variables, block.depth + 1)
-        inner = Block(variables, depth=block.depth + 1)
-        where = self.where(inner, 1, 0.7)
-        item = ["1"] if self.chance(0.5) else self.any_value(inner)[0]
-        return [
-            "EXISTS", "(", "SELECT",
-            *(["DISTINCT"] if self.chance(0.1) else []),
-            *item, "FROM", *sources, *where, ")",
-        ]
 
     def type_test(self, block: Block, negation: list[str]) -> list[str]:
         grouped = [path[0] for path, _ in block.groups or [] if len(path) == 1]
@@ -770,35 +762,3 @@ class Texts(Equations):
             else:
                 tokens[at:at + (word == "odd")] = [self.some(ODD)]
         return tokens
-
-    def deep(self) -> str:
-        """A text with parentheses about as deep as is allowed, or with about as many variables."""
-        entity = self.some_entity()
-        if self.chance(0.5):
-            depth = self.some([31, 32, 33])
-            return f"SELECT {'(' * depth}1{')' * depth} FROM {entity.name} p"
-        least = min(self.unit.entities.values(), key=self.count)
-        wide = [
-            f"{least.name} v{place}"
-            for place in range(self.some([8, 9, 12] if self.count(least) < 2 else [9, 12]))
-        ]
-        return f"SELECT 1 FROM {', '.join(wide)}" + (" WHERE" if self.chance(0.2) else "")
-
-    def long(self) -> str:
-        """A text about as long as is allowed."""
-        entity, length = self.some_entity(), self.some([16384, 16385, 16383, 20000])
-        before, after = f"SELECT p FROM {entity.name} p WHERE '", "' = 'a'"
-        filled = length - len(before) - len(after)
-        return before + self.some(["a" * filled, "é" * (filled // 2) + "a" * (filled % 2)]) + after
-
-    def often(self) -> str:
-        """A text in which collections become about as many values as is allowed, together."""
-        entity, count = min(self.unit.entities.values(), key=self.count), self.some([64, 1024, 4096])
-        self.parameters = {
-            "o": (("list", int), [self.some([0, 1, None])] * count),
-            "m": (("list", int), [1] * self.some([0, 0, 1, 2])),
-        }
-        tests = ["1 IN :o"] * (65536 // count) + ["1 NOT IN (:m)"]
-        self.random.shuffle(tests)
-        text = f"SELECT COUNT(p) FROM {entity.name} p WHERE {' OR '.join(tests)}"
-        return text + self.some(["", "", "", " OR", " #"])

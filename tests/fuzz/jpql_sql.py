@@ -1,22 +1,23 @@
 #!/usr/bin/env python3
-"""tests/fuzz/jpql_sql.py [--units N] [--seed S]: holds the queries of the model against SQL.
+"""tests/fuzz/jpql_sql.py [--units N] [--seed S] [--rows]: holds the queries of the model against SQL.
 
 Over random units (20, or N, each with a random sound set of objects) random SELECTs are asked of
 the model (tests/model/jpql_run.py) and, written as SQL, of sqlite3: joins, null links, conditions
 with unknown, groups, DISTINCT and ORDER BY come so from a second hand, in half of the units in the
-wider language, so by values too. Left out are SUBSTRING, LOCATE, UPPER, TRIM of a text that is given,
-LIKE with ESCAPE and what overflows, which SQL has otherwise. No program is run. Exit status 0 where
-nothing differs.
+wider language, so by values and beside rows too. Left out are SUBSTRING, LOCATE, UPPER, TRIM of a
+text that is given, LIKE with ESCAPE and what overflows, which SQL has otherwise. With --rows all
+units are in the wider language, and a quarter of the statements have values beside rows. No program
+is run. Exit status 0 where nothing differs.
 """
 from __future__ import annotations
 
 import argparse, os, random, sqlite3, sys
-from typing import TYPE_CHECKING, Any, Iterator
+from typing import TYPE_CHECKING, Any, Callable, Iterator
 
 sys.dont_write_bytecode = True
 sys.path[0] = os.path.dirname(os.path.dirname(os.path.abspath(__file__)))
 from model.cells import State, Stored
-from fuzz.jpql_lines import Texts
+from fuzz.jpql_lines import WIDE_TESTS, Texts
 from model.jpql_run import Meaning, block_paths
 from model.jpql_text import Node, parts_of, statement_of
 from model.jpql_types import IllTyped, Typing
@@ -325,14 +326,53 @@ class Sql:
         ]
         return f"CASE {' '.join(cases)} ELSE {found} END"
 
-    def exists_condition(self, node: Node, variables: dict[str, tuple[str, Entity]]) -> str:
-        block = node.block
+    def nested(
+        self,
+        block: Node,
+        variables: dict[str, tuple[str, Entity]],
+        test: Callable[[str], str] | None = None,
+    ) -> tuple[str, str]:
+        """The item of a nested SELECT, and its FROM and WHERE, where a test of the item may stand too."""
         variables, sources, conditions, _ = self.sources(block, variables)
         conditions += self.without_null_steps(
             block_paths(block.items[0].value, block.where), variables
         )
         conditions += [self.condition(block.where, variables)] if block.where else []
-        return f"EXISTS (SELECT 1 FROM {sources} WHERE {' AND '.join(conditions or ['1'])})"
+        item = self.value(block.items[0].value, variables)
+        conditions += [test(item)] if test else []
+        return item, f"FROM {sources} WHERE {' AND '.join(conditions or ['1'])}"
+
+    def exists_condition(self, node: Node, variables: dict[str, tuple[str, Entity]]) -> str:
+        return f"EXISTS (SELECT 1 {self.nested(node.block, variables)[1]})"
+
+    def rows_condition(self, node: Node, variables: dict[str, tuple[str, Entity]]) -> str:
+        """A value beside rows, which SQL has by IN and as a table of one aggregate; other comparisons
+        with ANY and ALL, which sqlite lacks, are told by the rows for which they are true, false or
+        unknown."""
+        value = self.value(node.value, variables)
+        if node.against not in ("ANY", "ALL"):
+            item, rows = self.nested(node.block, variables)
+            distinct = "DISTINCT " if node.is_distinct else ""
+            table_of = f"(SELECT {item} AS v {rows})"
+            return f"{value} {node.operator} (SELECT {node.against}({distinct}v) FROM {table_of})"
+        if node.against == "ANY" and node.operator == "=":
+            item, rows = self.nested(node.block, variables)
+            return f"{value} IN (SELECT {item} {rows})"
+        decides, otherwise = ("IS TRUE", 0) if node.against == "ANY" else ("IS FALSE", 1)
+        decided, unknown = (
+            self.rows_of(node, value, sign, variables) for sign in (decides, "IS NULL")
+        )
+        cases = f"WHEN {decided} THEN {1 - otherwise} WHEN {unknown} THEN NULL"
+        return f"CASE {cases} ELSE {otherwise} END"
+
+    def rows_of(
+        self, node: Node, value: str, sign: str, variables: dict[str, tuple[str, Entity]]
+    ) -> str:
+        """Whether there is a row of which the comparison with a value is so."""
+        def test(item: str) -> str:
+            return f"({value} {node.operator} {item}) {sign}"
+
+        return f"EXISTS (SELECT 1 {self.nested(node.block, variables, test)[1]})"
 
     # -- values
 
@@ -476,12 +516,12 @@ def compared(
     return keys[0] + sorted_rows(mine), keys[1] + sorted_rows(theirs)
 
 
-def judged(seed: str, at: int) -> tuple[int, int, list[Any]]:
+def judged(seed: str, at: int, has_rows: bool) -> tuple[int, int, list[Any]]:
     """How many statements over a random unit were compared and gave rows, and those that differ."""
     chance = random.Random(f"{seed}/{at}")
     unit = unit_of(some_mapping(f"{seed}/{at}", MAPPINGS[at % len(MAPPINGS)]))
     objects, count, full, differing = some_objects(chance, unit), 0, 0, []
-    is_wide = chance.random() < 0.5
+    is_wide = chance.random() < 0.5 or has_rows
     machine, tables = Machine(unit, State(objects), is_wide), Tables(unit, objects)
     em = machine.createEntityManager([])
     for name, key in list(objects)[:8]:
@@ -505,10 +545,13 @@ def main() -> int:
     )
     words.add_argument("--units", type=int, default=20)
     words.add_argument("--seed", default="1")
+    words.add_argument("--rows", action="store_true")
     said = words.parse_args()
+    if said.rows:
+        WIDE_TESTS["rows"] = 60
     total = full = differ = 0
     for at in range(said.units):
-        count, some, differing = judged(said.seed, at)
+        count, some, differing = judged(said.seed, at, said.rows)
         total, full, differ = total + count, full + some, differ + len(differing)
         for text, mine, theirs in differing:
             print(f"differs: {text!r}: {mine[:5]}, and SQL says {theirs[:5]}")

@@ -23,6 +23,9 @@ WIDE_KEYWORDS = KEYWORDS | set(
     "UPPER LOWER TRIM LEADING TRAILING BOTH CASE WHEN THEN ELSE END ALL ANY SOME".split()
 )
 SIDES = ("LEADING", "TRAILING", "BOTH")
+COMPARISONS = ("=", "<>", "<", "<=", ">", ">=")
+# What a comparison is when its sides change places.
+TURNED = {"=": "=", "<>": "<>", "<": ">", "<=": ">=", ">": "<", ">=": "<="}
 # How many values a function takes, from and to.
 FUNCTIONS = {
     "LENGTH": (1, 1), "CONCAT": (2, None), "SUBSTRING": (2, 3), "LOCATE": (2, 3), "ABS": (1, 1),
@@ -213,14 +216,16 @@ class Reader:
             return None
         is_distinct = self.is_word(at + 1, "DISTINCT")
         item = self.item(at + 1 + is_distinct)
-        sources = (
-            item and self.is_word(item[1], "FROM") and self.sources(self.nested_range, item[1] + 1)
-        )
+        return self.from_nested(item[0], is_distinct, item[1]) if item else None
+
+    def from_nested(self, item: Node, is_distinct: bool, at: int) -> tuple[Node, int] | None:
+        """What follows on the item of a nested SELECT: FROM and WHERE."""
+        sources = self.sources(self.nested_range, at + 1) if self.is_word(at, "FROM") else None
         found = sources and self.clauses(sources[1], (["WHERE"], self.condition))
         if not found:
             return None
         nested = Node(
-            "select", is_distinct=is_distinct, items=[item[0]], sources=sources[0],
+            "select", is_distinct=is_distinct, items=[item], sources=sources[0],
             where=found[0][0], groups=None, having=None, keys=None,
         )
         return nested, found[1]
@@ -394,6 +399,8 @@ class Reader:
             return (Node("exists", block=found[0]), found[1]) if found else None
         if self.is_word(at, "TYPE"):
             return self.type_test(at + 1)
+        if self.is_mark(at, "(") and self.is_word(at + 1, "SELECT"):
+            return self.scalar_first(at)
         return self.closed(self.condition, at) or self.value_test(at) or self.empty_test(at)
 
     def type_test(self, at: int) -> tuple[Node, int] | None:
@@ -444,13 +451,13 @@ class Reader:
         if not found:
             return None
         value, at = found
-        sort, said = self.tokens[at] if at < len(self.tokens) else ("end", "")
-        if sort == "mark" and said in ("=", "<>", "<", "<=", ">", ">="):
+        operator = self.operator(at)
+        if operator:
             other = self.value(at + 1)
             return (
-                (Node("compare", operator=said, left=value, right=other[0]), other[1])
+                (Node("compare", operator=operator, left=value, right=other[0]), other[1])
                 if other
-                else None
+                else self.against(operator, value, at + 1)
             )
         if self.is_word(at, "IS"):
             is_not = self.is_word(at + 1, "NOT")
@@ -480,9 +487,17 @@ class Reader:
             return (Node("member", value=value, path=path[0]), path[1]) if path else None
         return None
 
+    def operator(self, at: int) -> str | None:
+        """The comparison that stands here."""
+        sort, said = self.tokens[at] if at < len(self.tokens) else ("end", "")
+        return said if sort == "mark" and said in COMPARISONS else None
+
     def in_test(self, value: Node, at: int) -> tuple[Node, int] | None:
-        """IN of values in parentheses, or of a collection that was handed in for a parameter, with
-        parentheses or without."""
+        """IN of values in parentheses, of the rows of a subquery in the wider language, or of a
+        collection that was handed in for a parameter, with parentheses or without."""
+        rows = self.closed(self.nested, at) if self.is_wide else None
+        if rows:
+            return self.beside("ANY", "=", value, rows)
         found = self.list_name(at) or self.closed(self.list_name, at)
         if found:
             listed, after = found
@@ -492,6 +507,57 @@ class Reader:
         return (
             (Node("in", value=value, values=values[0], listed=None), values[1]) if values else None
         )
+
+    # -- rows of a subquery beside a value, in the wider language
+
+    def beside(
+        self, against: str, operator: str, value: Node, block: tuple[Node, int],
+        is_distinct: bool = False,
+    ) -> tuple[Node, int]:
+        """The comparison of a value with any rows of a subquery, with all, or with what an aggregate
+        gives of them: the item of the subquery is what that is of."""
+        rows = Node(
+            "rows", against=against, is_distinct=is_distinct, operator=operator, value=value,
+            block=block[0],
+        )
+        return rows, block[1]
+
+    def against(self, operator: str, value: Node, at: int) -> tuple[Node, int] | None:
+        """ALL, ANY or SOME with a subquery, or a subquery of an aggregate, behind a comparison."""
+        if not self.is_wide:
+            return None
+        for word, against in (("ALL", "ALL"), ("ANY", "ANY"), ("SOME", "ANY")):
+            if self.is_word(at, word):
+                rows = self.closed(self.nested, at + 1)
+                return self.beside(against, operator, value, rows) if rows else None
+        found = self.closed(self.scalar, at)
+        if not found:
+            return None
+        (aggregate, is_distinct, block), at = found
+        return self.beside(aggregate, operator, value, (block, at), is_distinct)
+
+    def scalar_first(self, at: int) -> tuple[Node, int] | None:
+        """A subquery of an aggregate, a comparison and a value."""
+        found = self.closed(self.scalar, at) if self.is_wide else None
+        operator = found and self.operator(found[1])
+        value = operator and self.value(found[1] + 1)
+        if not value:
+            return None
+        aggregate, is_distinct, block = found[0]
+        return self.beside(
+            aggregate, TURNED[operator], value[0], (block, value[1]), is_distinct
+        )
+
+    def scalar(self, at: int) -> tuple[tuple[str, bool, Node], int] | None:
+        """A nested SELECT of an aggregate, without a name: which it is, whether of distinct values,
+        and the SELECT of what it is of."""
+        is_one = any(self.is_word(at, "SELECT", word) for word in AGGREGATES)
+        called = self.call(at + 1) if is_one else None
+        if not called:
+            return None
+        aggregate, item = called[0], Node("item", value=called[0].value, name=None)
+        found = self.from_nested(item, False, called[1])
+        return ((aggregate.function, aggregate.is_distinct, found[0]), found[1]) if found else None
 
     def list_name(self, at: int) -> tuple[str, int] | None:
         """A parameter that a collection was handed in for."""

@@ -105,11 +105,13 @@ class Typing:
         see(name.lower() in variables, "variable")
         return variables[name.lower()]
 
-    def nested(self, block: Node, outer: dict[str, Entity]) -> None:
+    def nested(self, block: Node, outer: dict[str, Entity]) -> Entity | type | None:
+        """The kind of what a nested SELECT selects."""
         variables = self.sources(block, outer)
-        self.value(block.items[0].value, Scope(variables))
+        kind = self.value(block.items[0].value, Scope(variables))
         if block.where:
             self.condition(block.where, Scope(variables))
+        return kind
 
     def select(self, block: Node) -> None:
         variables = self.sources(block, {})
@@ -205,6 +207,14 @@ class Typing:
         see(scope.takes_exists, "EXISTS in HAVING")
         self.nested(node.block, scope.variables)
 
+    def rows_condition(self, node: Node, scope: Scope) -> None:
+        see(scope.takes_exists, "rows in HAVING")
+        kind = self.value(node.value, scope)
+        other = self.nested(node.block, scope.variables)
+        if node.against not in ("ANY", "ALL"):
+            other = self.aggregated(node.against, other)
+        self.ordered(node.operator, joined([kind, other]))
+
     def type_condition(self, node: Node, scope: Scope) -> None:
         entity = self.variable(node.variable, scope.variables)
         see(
@@ -215,7 +225,11 @@ class Typing:
 
     def compare_condition(self, node: Node, scope: Scope) -> None:
         kind = joined([self.value(node.left, scope), self.value(node.right, scope)])
-        see(node.operator in ("=", "<>") or kind is None or kind in ORDERED, "order")
+        self.ordered(node.operator, kind)
+
+    def ordered(self, operator: str, kind: Entity | type | None) -> None:
+        """What has no order is equal or not, and no more."""
+        see(operator in ("=", "<>") or kind is None or kind in ORDERED, "order")
 
     def null_condition(self, node: Node, scope: Scope) -> None:
         self.value(node.value, scope)
@@ -271,11 +285,14 @@ class Typing:
 
     def aggregate_value(self, node: Node, scope: Scope) -> type | None:
         see(scope.takes_aggregates, "an aggregate")
-        kind = self.value(node.value, scope.within_aggregate())
-        if node.function == "COUNT":
+        return self.aggregated(node.function, self.value(node.value, scope.within_aggregate()))
+
+    def aggregated(self, function: str, kind: Entity | type | None) -> type | None:
+        """The kind of what an aggregate gives of values of a kind."""
+        if function == "COUNT":
             return int
-        see(kind is None or kind in (ORDERED if node.function != "SUM" else (int,)), node.function)
-        return int if node.function == "SUM" else kind
+        see(kind is None or kind in (ORDERED if function != "SUM" else (int,)), function)
+        return int if function == "SUM" else kind
 
     def call_value(self, node: Node, scope: Scope) -> type | None:
         if node.function in ("COALESCE", "NULLIF"):

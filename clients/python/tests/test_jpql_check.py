@@ -40,15 +40,14 @@ class Worked(unittest.TestCase):
     def test_which_texts_are_statements(self) -> None:
         count = 0
         for head, *lines in blocks("queries"):
-            if head.startswith("wide "):  # The linter's language is the profile's.
-                continue
+            language: LanguageName = "wide" if head.startswith("wide ") else "profile"
             texts = list(pairs(lines))
             if head.startswith("repeated "):
                 front, again, back = (unescaped(line) for line in lines if line[:1] == ">")
                 texts = [(front + int(lines[0][2:]) * again + back, lines[-1][2:])]
             for text, answer in texts:
                 count += 1
-                found = check(text, {})
+                found = check(text, {}, {}, language)
                 told = found[0].refusal if found else None
                 with self.subTest(head, text=text):
                     if answer in ("syntax", "limit"):

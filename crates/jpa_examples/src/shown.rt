@@ -2,8 +2,8 @@
 use crate::writer::Writer;
 use jpa_value::{Boxed, Text};
 use jpql_tree::{
-    Aggregate, Arithmetic, Assignment, Block, Comparison, Condition, Function, Item, Join, Origin,
-    Path, Query, Select, Sign, SortKey, Sorted, Source, Trimmed, Value,
+    Against, Aggregate, Arithmetic, Assignment, Block, Comparison, Condition, Function, Item, Join,
+    Origin, Path, Query, Select, Sign, SortKey, Sorted, Source, Trimmed, Value,
 };
 
 fn path(out: &mut Writer, path: &Path) {
@@ -188,6 +188,18 @@ fn test(out: &mut Writer, shown: &Condition) {
     }
 }
 
+/// What of the rows of a subquery a value stands beside.
+fn against(out: &mut Writer, shown: Against) {
+    match shown {
+        Against::Any => out.add("ANY"),
+        Against::All => out.add("ALL"),
+        Against::One(called, is_distinct) => {
+            out.add(aggregate(called));
+            noted(out, " DISTINCT", is_distinct);
+        }
+    }
+}
+
 #[cycle(shown)]
 fn condition(out: &mut Writer, shown: &Condition) {
     match shown {
@@ -214,6 +226,13 @@ fn condition(out: &mut Writer, shown: &Condition) {
             out.add("EXISTS{");
             block(out, inner.get());
             out.add("}");
+        }
+        Condition::Rows(of, operation, first, inner) => {
+            tested(out, first, comparison(*operation));
+            against(out, *of);
+            out.add("{");
+            block(out, inner.get());
+            out.add("})");
         }
         _ => test(out, shown),
     }

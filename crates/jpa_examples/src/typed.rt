@@ -8,7 +8,8 @@ use jpa_model::Metamodel;
 use jpa_value::{Argument, Cause, Kind, Seq, Text};
 use jpql_text::read_query;
 use jpql_tree::Language;
-use jpql_types::{ParamType, Typed, check_query};
+use jpql_typed::Typed;
+use jpql_types::{ParamType, check_query};
 use std::alloc::Global;
 
 /// What a parameter is of: a kind, null, or an entity of the class of this number.

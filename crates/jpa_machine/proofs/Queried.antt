@@ -18,7 +18,7 @@ use Rattle.jpql_tree.specs.declared.Language.{Language}
 use Rattle.jpql_grammar.specs.declared.lists.GivenList.{GivenList}
 use Rattle.jpql_tree.specs.Names.{Text}
 use Rattle.jpql_types.specs.Statements.{checked}
-use Rattle.jpql_types.specs.declared.typed.TypedSelect.{TypedSelect}
+use Rattle.jpql_typed.specs.declared.typed.TypedSelect.{TypedSelect}
 use Rattle.jpql_eval.specs.declared.datum.Datum.{Datum}
 use Rattle.jpql_eval.specs.Answers as answers
 use Rattle.jpql_plan.specs.Selection.{selected}

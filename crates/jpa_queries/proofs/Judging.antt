@@ -7,7 +7,7 @@ use Rattle.jpa_model.specs.declared.unit.PersistenceUnit.{PersistenceUnit}
 use Rattle.jpa_context.specs.Steps.{◌>>=◌, ◌>>◌, Op, Outcome, Done, after, require, Meets, IsRefusedAs}
 use Rattle.jpa_context.specs.Work.{Work}
 use Rattle.jpa_fetch.proofs.Loaded.{refused_after}
-use Rattle.jpql_types.specs.declared.typed.TypedSelect.{TypedSelect}
+use Rattle.jpql_typed.specs.declared.typed.TypedSelect.{TypedSelect}
 use Rattle.jpql_eval.specs.declared.datum.Datum.{Datum}
 use Rattle.jpa_asked.specs.declared.asked.Asked.{Asked}
 use Rattle.jpa_asked.specs.declared.asked.Reading.{Reading}

@@ -4,7 +4,7 @@ use Rattle.std.specs.Prelude.{OnOk}
 use Rattle.jpa_behaviour.specs.Behaviour.{World}
 use Rattle.jpa_context.specs.Steps.{◌>>◌, Outcome, Done, after}
 use Rattle.jpa_context.specs.Work.{Work}
-use Rattle.jpql_types.specs.declared.typed.TypedSelect.{TypedSelect}
+use Rattle.jpql_typed.specs.declared.typed.TypedSelect.{TypedSelect}
 use Rattle.jpql_eval.specs.declared.datum.Datum.{Datum}
 use Rattle.jpa_asked.specs.declared.asked.Asked.{Asked}
 use Rattle.jpa_flush.specs.Flush.{flush_if}

@@ -12,7 +12,7 @@ use Rattle.jpa_context.specs.Steps.{◌>>=◌, ◌>>◌, Op, give, refuse, requi
 use Rattle.jpa_fetch.specs.Load.{reach}
 use Rattle.jpa_fetch.specs.Members.{collect}
 use Rattle.jpa_flush.specs.Flush.{flush_if}
-use Rattle.jpql_types.specs.declared.typed.TypedSelect.{TypedSelect}
+use Rattle.jpql_typed.specs.declared.typed.TypedSelect.{TypedSelect}
 use Rattle.jpql_eval.specs.declared.datum.Datum.{Datum}
 use Rattle.jpql_eval.specs.Answers.{Answer, gives, overflows}
 use Rattle.jpql_plan.specs.Selection.{selected}

@@ -21,7 +21,7 @@ use jpa_protocol::Item;
 use jpa_value::{Argument, Cause, Seq, State};
 use jpql_eval::{Datum, Failure};
 use jpql_first::select_first;
-use jpql_types::{Typed, TypedSelect};
+use jpql_typed::{Typed, TypedSelect};
 use std::alloc::Global;
 
 /// The SELECT that a statement is, with what stands for its parameters; `IllegalState(statement)` for

@@ -11,8 +11,8 @@ use Rattle.jpql_tree.specs.Names.{Text}
 use Rattle.jpql_grammar.specs.declared.lists.GivenList.{GivenList}
 use Rattle.jpql_text.specs.Answers.{IsRead, UsesLists}
 use Rattle.jpql_types.specs.declared.sort.Sort.{Sort}
-use Rattle.jpql_types.specs.declared.typed.Typed.{Typed}
-use Rattle.jpql_types.specs.declared.typed.TypedSelect.{TypedSelect}
+use Rattle.jpql_typed.specs.declared.typed.Typed.{Typed}
+use Rattle.jpql_typed.specs.declared.typed.TypedSelect.{TypedSelect}
 use Rattle.jpql_types.specs.Statements.{checked}
 use Rattle.jpa_questions.specs.declared.parameter.Parameter.{Parameter}
 use Rattle.jpa_questions.specs.Questions.{HasTree, IsTextRefused, Selects, bound_of, has_no_comma, lists_of, named_sort, select_if, select_of}

@@ -1,5 +1,5 @@
 -- By what a manager finds the objects for a question, in lines of words.
-use Rattle.std.specs.Prelude.{◌≡◌, ◌⊎◌, ℕ, Bool, true, false, List, [], ◌∷◌, ◌++◌, codes, slice_get, Option, Some, None}
+use Rattle.std.specs.Prelude.{◌≡◌, ◌⊎◌, ℕ, List, [], ◌∷◌, ◌++◌, codes, slice_get, Option, Some, None}
 use Rattle.std.specs.List.{flat_map}
 use Rattle.jpa_value.specs.declared.refusal.Argument.{Argument}
 use Rattle.jpa_value.specs.declared.refusal.Cause.{Cause}
@@ -11,6 +11,7 @@ use Rattle.jpa_model.specs.declared.unit.PersistenceUnit.{PersistenceUnit}
 use Rattle.jpa_model.specs.declared.unit.Relation.{Relation}
 use Rattle.jpa_model.specs.Chains.{attributes_of, relations_of, root_of}
 use Rattle.jpql_run.specs.declared.ways.FoundBy.{FoundBy}
+use Rattle.jpql_run.specs.declared.ways.Within.{Within}
 use Rattle.jpql_run.specs.declared.ways.Way.{Way}
 
 -- the name of an entity, of an attribute, a relation, a part of a key; none where there is no such
@@ -92,14 +93,15 @@ member_of (Way.Index member) = Some member
 member_of (Way.Along member) = Some member
 member_of _ = None
 
--- what is told of a variable of a nested block
-abbrev pub place : Bool → List ℕ
-place true = codes "in EXISTS: "
-place false = []
+-- what is told of a variable of a nested block, in EXISTS or beside a value
+abbrev pub place : Within → List ℕ
+place Within.Statement = []
+place Within.Exists = codes "in EXISTS: "
+place Within.Rows = codes "in a subquery: "
 
 -- by what the objects for a variable are found, in a line
 abbrev pub line : PersistenceUnit → FoundBy → List ℕ
-line m f = place f.is_nested ++ verb f.way ++ entity_name m f.class ++ words f.way
+line m f = place f.within ++ verb f.way ++ entity_name m f.class ++ words f.way
     ++ optional_name m f.class (member_of f.way) ++ 10 ∷ []
 
 -- a text of such lines

@@ -19,8 +19,8 @@ use Rattle.jpql_grammar.specs.Lists.{value_name}
 use Rattle.jpql_text.specs.Answers.{IsRead, IsRefused, UsesLists}
 use Rattle.jpql_text.specs.Together.{most_list_values}
 use Rattle.jpql_types.specs.declared.sort.Sort.{Sort}
-use Rattle.jpql_types.specs.declared.typed.Typed.{Typed}
-use Rattle.jpql_types.specs.declared.typed.TypedSelect.{TypedSelect}
+use Rattle.jpql_typed.specs.declared.typed.Typed.{Typed}
+use Rattle.jpql_typed.specs.declared.typed.TypedSelect.{TypedSelect}
 use Rattle.jpql_types.specs.Statements.{checked}
 use Rattle.jpql_eval.specs.declared.datum.Datum.{Datum}
 use Rattle.jpa_questions.specs.declared.bound.Bound.{Bound}

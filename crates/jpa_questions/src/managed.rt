@@ -9,7 +9,7 @@ use crate::question::Question;
 use jpa_model::{Member, Metamodel};
 use jpa_open::OpenSet;
 use jpa_value::{Argument, Cause, Text};
-use jpql_run::{FoundBy, Run, Way, ways_of};
+use jpql_run::{FoundBy, Run, Way, Within, ways_of};
 use std::alloc::Global;
 
 /// The name of an entity; none where there is no such.
@@ -112,9 +112,13 @@ fn put(text: &mut Vec<u8>, piece: &str) -> Result<(), Cause>
 
 /// What is told of a variable before the way.
 fn place_of(found: &FoundBy) -> &'static str
-    ensures { result.now ≡ spec.place found.now.is_nested }
+    ensures { result.now ≡ spec.place found.now.within }
 {
-    if found.is_nested { "in EXISTS: " } else { "" }
+    match found.within {
+        Within::Statement => "",
+        Within::Exists => "in EXISTS: ",
+        Within::Rows => "in a subquery: ",
+    }
 }
 
 /// Tells the name of a member of a class, if there is one. It fails for want of memory alone.
@@ -195,7 +199,7 @@ fn set_with(alloc: Global, metamodel: &Metamodel, indexes: &[Text]) -> Result<Op
 /// What is told of how a manager finds the objects for a question that has these indexes, each
 /// named as `ENTITY.NAME`: a line for each variable of FROM and of its nested blocks, in their order.
 /// Such are `looks up Title by the index of name`, `goes along Title.copies`, `looks at all of Loan`,
-/// and `in EXISTS: looks up Loan by copy`.
+/// and `in EXISTS: looks up Loan by copy`; of a subquery beside a value `in a subquery: ` stands there.
 ///
 /// `IllegalArgument(entity)` where a word names no entity, `IllegalArgument(name)` where it names no
 /// part of a key and no attribute; `OutOfMemory` where a growth was refused.

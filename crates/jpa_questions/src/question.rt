@@ -11,7 +11,8 @@ use jpa_value::{Argument, Cause, Kind, Seq, State, Text, TryCopy, Value};
 use jpql_eval::Datum;
 use jpql_text::{read_query, uses_lists};
 use jpql_tree::Language;
-use jpql_types::{ParamType, Sort, Typed, TypedSelect, check_query};
+use jpql_typed::{Typed, TypedSelect};
+use jpql_types::{ParamType, Sort, check_query};
 use std::alloc::Global;
 
 /// A SELECT, typed, with what stands for its parameters, by place.

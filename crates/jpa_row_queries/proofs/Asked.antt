@@ -18,7 +18,7 @@ use Rattle.jpql_eval.specs.Answers.{Answer, gives}
 use Rattle.jpql_eval.specs.declared.datum.Datum.{Datum}
 use Rattle.jpql_plan.specs.Selection.{selected}
 use Rattle.jpql_run.specs.Keys.{CanBeLookedUp}
-use Rattle.jpql_types.specs.declared.typed.TypedSelect.{TypedSelect}
+use Rattle.jpql_typed.specs.declared.typed.TypedSelect.{TypedSelect}
 use Rattle.jpa_row_queries.specs.Unread.{IsReadingCause}
 use Rattle.jpa_row_queries.proofs.Looks.{IsOwnCause}
 use Rattle.jpa_row_queries.specs.Answered.{Answers, IsAskingCause, Refuses}

@@ -4,8 +4,8 @@ use Rattle.jpa_value.specs.declared.value.Identity.{Identity}
 use Rattle.jpa_model.specs.declared.unit.Member.{Member}
 use Rattle.jpa_model.specs.declared.unit.PersistenceUnit.{PersistenceUnit}
 use Rattle.jpa_stored.specs.Sets.{StoredSet}
-use Rattle.jpql_types.specs.declared.typed.TypedAssignment.{TypedAssignment}
-use Rattle.jpql_types.specs.declared.typed.TypedCondition.{TypedCondition}
+use Rattle.jpql_typed.specs.declared.typed.TypedAssignment.{TypedAssignment}
+use Rattle.jpql_typed.specs.declared.typed.TypedCondition.{TypedCondition}
 use Rattle.jpql_eval.specs.declared.datum.Datum.{Datum}
 use Rattle.jpql_eval.specs.Answers.{Answer, under}
 use Rattle.jpql_plan.specs.Paths.{Entry}

@@ -11,7 +11,7 @@ use jpa_open::OpenSet;
 use jpa_value::{Cause, Seq, TryCopy};
 use jpql_eval::{Datum, Failure};
 use jpql_select::{rows_of, select};
-use jpql_types::TypedSelect;
+use jpql_typed::TypedSelect;
 use std::alloc::Global;
 
 /// The rows that a statement gives over a set (chapter 4.2.1), as rows of their own.

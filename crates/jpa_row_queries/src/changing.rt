@@ -17,7 +17,7 @@ use jpa_overlay::Overlay;
 use jpa_rows::RowReader;
 use jpa_value::{Boxed, Cause, Identity, Seq};
 use jpql_eval::Datum;
-use jpql_types::{TypedAssignment, TypedCondition};
+use jpql_typed::{TypedAssignment, TypedCondition};
 use std::alloc::Global;
 
 /// The objects that an UPDATE of a class concerns (chapter 4.11) in what a store of rows holds under

@@ -14,7 +14,7 @@ use jpa_open::OpenSet;
 use jpa_value::{Boxed, Cause, Identity, Seq, TryCopy, Value};
 use jpql_bulk::{Change, found_by_delete, found_by_update};
 use jpql_eval::{Datum, Failure, Seen};
-use jpql_types::{TypedAssignment, TypedCondition};
+use jpql_typed::{TypedAssignment, TypedCondition};
 use std::alloc::Global;
 
 /// Copies of identities. Fails for want of memory alone, with `OutOfMemory`.

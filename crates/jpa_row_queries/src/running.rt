@@ -24,7 +24,7 @@ use jpa_rows::RowReader;
 use jpa_value::{Cause, Seq};
 use jpql_by_key::{key_laws, key_of};
 use jpql_eval::Datum;
-use jpql_types::TypedSelect;
+use jpql_typed::TypedSelect;
 use std::alloc::Global;
 
 /// A set over which a statement gives what it gives over the one that is seen: the object that it

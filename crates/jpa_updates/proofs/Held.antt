@@ -13,7 +13,7 @@ use Rattle.jpa_flush.specs.Flush.{sound_or}
 use Rattle.jpql_tree.specs.declared.Query.{Query}
 use Rattle.jpql_tree.specs.Names.{Text}
 use Rattle.jpql_types.specs.declared.sort.Sort.{Sort}
-use Rattle.jpql_types.specs.declared.typed.Typed.{Typed}
+use Rattle.jpql_typed.specs.declared.typed.Typed.{Typed}
 use Rattle.jpql_eval.specs.declared.datum.Datum.{Datum}
 use Rattle.jpql_plan.specs.Bulk.{Changed, updated, deleted}
 use Rattle.jpql_kept.specs.Fits.{throws_in}

@@ -15,7 +15,7 @@ use Rattle.jpql_tree.specs.declared.Language.{Language}
 use Rattle.jpql_tree.specs.declared.Query.{Query}
 use Rattle.jpql_tree.specs.Names.{Text}
 use Rattle.jpql_types.specs.declared.sort.Sort.{Sort}
-use Rattle.jpql_types.specs.declared.typed.Typed.{Typed}
+use Rattle.jpql_typed.specs.declared.typed.Typed.{Typed}
 use Rattle.jpql_types.specs.Statements.{checked}
 use Rattle.jpql_eval.specs.declared.datum.Datum.{Datum}
 use Rattle.jpql_kept.specs.Fits.{are_of, AreInherited}

@@ -19,7 +19,7 @@ use jpa_stored::Stored;
 use jpa_value::{Boxed, Cause, Identity, Seq, TryCopy};
 use jpql_bulk::{assign, found_by_delete, found_by_update};
 use jpql_eval::{Datum, Failure};
-use jpql_types::{TypedAssignment, TypedCondition};
+use jpql_typed::{TypedAssignment, TypedCondition};
 use std::alloc::Global;
 
 /// Why nothing was computed, as a call tells it.

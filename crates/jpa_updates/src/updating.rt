@@ -10,7 +10,7 @@ ghost use Rattle.jpa_flush.specs.Flush.{flush_if};
 ghost use Rattle.jpa_flush.specs.Passes.{IsFlushable, Performs};
 ghost use Rattle.jpa_updates.specs.Updates as updates;
 ghost use Rattle.jpa_rows.specs.Cells.{all_representable};
-ghost use Rattle.jpql_types.specs.declared.typed.Typed.{Typed};
+ghost use Rattle.jpql_typed.specs.declared.typed.Typed.{Typed};
 
 use crate::finding::{made_by_update, taken_by_delete};
 use crate::settling::{put_sound, take_sound};
@@ -23,7 +23,7 @@ use jpa_value::{Boxed, Cause, State};
 use jpql_eval::Datum;
 use jpql_grammar::GivenList;
 use jpql_tree::Language;
-use jpql_types::{Typed, TypedAssignment, TypedCondition};
+use jpql_typed::{Typed, TypedAssignment, TypedCondition};
 use std::alloc::Global;
 
 /// Whether a statement changes objects.

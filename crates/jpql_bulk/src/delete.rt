@@ -12,7 +12,7 @@ use jpa_open::OpenSet;
 use jpa_value::{Boxed, Identity};
 use jpql_eval::{Datum, Failure};
 use jpql_run::{Object, Run};
-use jpql_types::TypedCondition;
+use jpql_typed::TypedCondition;
 use std::alloc::{AllocError, Global};
 
 /// The identities of objects.

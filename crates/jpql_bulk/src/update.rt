@@ -20,7 +20,7 @@ use jpa_open::OpenSet;
 use jpa_value::Boxed;
 use jpql_eval::{Datum, Failure, Seen};
 use jpql_run::{Object, Run, Tuple, value};
-use jpql_types::{TypedAssignment, TypedCondition, TypedValue};
+use jpql_typed::{TypedAssignment, TypedCondition, TypedValue};
 use std::alloc::Global;
 
 /// An object that an UPDATE concerns, with what its members are set to, in the order of the

@@ -16,14 +16,14 @@ use Rattle.jpa_model.specs.Chains.{is_kind_of}
 use Rattle.jpa_stored.specs.declared.stored.Stored.{Stored}
 use Rattle.jpa_stored.specs.Sets.{StoredSet, all_shaped, is_shaped, stored_at}
 use Rattle.jpql_tree.specs.declared.Comparison.{Comparison}
-use Rattle.jpql_types.specs.declared.scope.TypedPath.{TypedPath}
-use Rattle.jpql_types.specs.declared.typed.TypedCondition.{TypedCondition}
-use Rattle.jpql_types.specs.declared.typed.TypedCondition.TheViews.{out-TypedJoin, out-TypedSource}
-use Rattle.jpql_types.specs.declared.typed.TypedJoin.{TypedJoin}
-use Rattle.jpql_types.specs.declared.typed.TypedSelect.{TypedSelect}
-use Rattle.jpql_types.specs.declared.typed.TypedSource.{TypedSource}
-use Rattle.jpql_types.specs.declared.typed.TypedValue.TheFolds as values
-use Rattle.jpql_types.specs.declared.typed.TypedValue.TheVariants as v
+use Rattle.jpql_typed.specs.declared.path.TypedPath.{TypedPath}
+use Rattle.jpql_typed.specs.declared.typed.TypedCondition.{TypedCondition}
+use Rattle.jpql_typed.specs.declared.typed.TypedCondition.TheViews.{out-TypedJoin, out-TypedSource}
+use Rattle.jpql_typed.specs.declared.typed.TypedJoin.{TypedJoin}
+use Rattle.jpql_typed.specs.declared.typed.TypedSelect.{TypedSelect}
+use Rattle.jpql_typed.specs.declared.typed.TypedSource.{TypedSource}
+use Rattle.jpql_typed.specs.declared.typed.TypedValue.TheFolds as values
+use Rattle.jpql_typed.specs.declared.typed.TypedValue.TheVariants as v
 use Rattle.jpql_eval.specs.declared.datum.Datum.{Datum}
 use Rattle.jpql_eval.specs.Answers.{Answer, gives, ◌>>=◌, under, each}
 use Rattle.jpql_eval.specs.declared.datum.Truth.{Truth}

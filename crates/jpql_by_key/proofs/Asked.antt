@@ -10,23 +10,23 @@ use Rattle.jpa_model.specs.declared.unit.PersistenceUnit.{PersistenceUnit}
 use Rattle.jpa_model.specs.Chains.{is_kind_of, root_of}
 use Rattle.jpa_stored.specs.Sets.{StoredSet}
 use Rattle.jpql_tree.specs.declared.Comparison.{Comparison}
-use Rattle.jpql_types.specs.declared.scope.Step.{Step}
-use Rattle.jpql_types.specs.declared.scope.TypedPath.{TypedPath}
-use Rattle.jpql_types.specs.declared.typed.TypedValue.{TypedValue, TypedValue-F}
-use Rattle.jpql_types.specs.declared.typed.TypedValue.TheViews.{roll-TypedValue}
-use Rattle.jpql_types.specs.declared.typed.TypedValue.TheOpen as part
-use Rattle.jpql_types.specs.declared.typed.TypedValue.TheVariants as v
-use Rattle.jpql_types.specs.declared.typed.TypedValue.TheFolds as values
-use Rattle.jpql_types.specs.declared.typed.TypedCondition.{TypedCondition, TypedCondition-F}
-use Rattle.jpql_types.specs.declared.typed.TypedCondition.TheOpen as test
-use Rattle.jpql_types.specs.declared.typed.TypedCondition.TheVariants as is
-use Rattle.jpql_types.specs.declared.typed.TypedCondition.TheFolds as folds
-use Rattle.jpql_types.specs.declared.typed.TypedCondition.TheViews.{out-TypedSource, roll-TypedCondition}
-use Rattle.jpql_types.specs.declared.typed.TypedBlock.{TypedBlock, fold-TypedBlock}
-use Rattle.jpql_types.specs.declared.typed.TypedJoin.{TypedJoin, fold-TypedJoin}
-use Rattle.jpql_types.specs.declared.typed.TypedSource.{TypedSource, fold-TypedSource}
-use Rattle.jpql_types.specs.declared.typed.TypedOrigin.{TypedOrigin}
-use Rattle.jpql_types.specs.declared.typed.TypedSelect.{TypedSelect}
+use Rattle.jpql_typed.specs.declared.path.Step.{Step}
+use Rattle.jpql_typed.specs.declared.path.TypedPath.{TypedPath}
+use Rattle.jpql_typed.specs.declared.typed.TypedValue.{TypedValue, TypedValue-F}
+use Rattle.jpql_typed.specs.declared.typed.TypedValue.TheViews.{roll-TypedValue}
+use Rattle.jpql_typed.specs.declared.typed.TypedValue.TheOpen as part
+use Rattle.jpql_typed.specs.declared.typed.TypedValue.TheVariants as v
+use Rattle.jpql_typed.specs.declared.typed.TypedValue.TheFolds as values
+use Rattle.jpql_typed.specs.declared.typed.TypedCondition.{TypedCondition, TypedCondition-F}
+use Rattle.jpql_typed.specs.declared.typed.TypedCondition.TheOpen as test
+use Rattle.jpql_typed.specs.declared.typed.TypedCondition.TheVariants as is
+use Rattle.jpql_typed.specs.declared.typed.TypedCondition.TheFolds as folds
+use Rattle.jpql_typed.specs.declared.typed.TypedCondition.TheViews.{out-TypedSource, roll-TypedCondition}
+use Rattle.jpql_typed.specs.declared.typed.TypedBlock.{TypedBlock, fold-TypedBlock}
+use Rattle.jpql_typed.specs.declared.typed.TypedJoin.{TypedJoin, fold-TypedJoin}
+use Rattle.jpql_typed.specs.declared.typed.TypedSource.{TypedSource, fold-TypedSource}
+use Rattle.jpql_typed.specs.declared.typed.TypedOrigin.{TypedOrigin}
+use Rattle.jpql_typed.specs.declared.typed.TypedSelect.{TypedSelect}
 use Rattle.jpql_eval.specs.declared.datum.Datum.{Datum}
 use Rattle.jpql_eval.specs.Answers.{gives}
 use Rattle.jpql_plan.specs.Meaning.{Case, value}
@@ -229,6 +229,7 @@ module _ (ps : List Datum) where
   asked_layer (test.IsEmpty p) x e = absurd (none_is x (sym (asked_at (test.IsEmpty p)) ∙ e))
   asked_layer (test.Member a p) x e = absurd (none_is x (sym (asked_at (test.Member a p)) ∙ e))
   asked_layer (test.Exists b) x e = absurd (none_is x (sym (asked_at (test.Exists b.0)) ∙ e))
+  asked_layer (test.Rows against op a b) x e = absurd (none_is x (sym (asked_at (test.Rows against op a b.0)) ∙ e))
   asked_layer (test.«Type» place classes) x e = absurd (none_is x (sym (asked_at (test.«Type» place classes)) ∙ e))
 
   asked_some : (c : TypedCondition) (x : Value) → asked ps c ≡ Some x → AsksKey c x

@@ -6,21 +6,21 @@ use Rattle.std.specs.List.{AllByRecursion, list_all, list_any}
 use Rattle.std.proofs.lemmas.Bool.{and_parts, false≢true}
 use Rattle.jpa_model.specs.declared.unit.PersistenceUnit.{PersistenceUnit}
 use Rattle.jpa_stored.specs.Sets.{StoredSet}
-use Rattle.jpql_types.specs.declared.typed.TypedValue.{TypedValue}
-use Rattle.jpql_types.specs.declared.typed.TypedCondition.{TypedCondition, TypedCondition-F}
-use Rattle.jpql_types.specs.declared.typed.TypedCondition.TheOpen as test
-use Rattle.jpql_types.specs.declared.typed.TypedCondition.TheFolds as folds
-use Rattle.jpql_types.specs.declared.typed.TypedCondition.TheViews.{roll-TypedCondition}
-use Rattle.jpql_types.specs.declared.typed.TypedBlock.{TypedBlock, fold-TypedBlock}
-use Rattle.jpql_types.specs.declared.typed.TypedJoin.{TypedJoin, fold-TypedJoin}
-use Rattle.jpql_types.specs.declared.typed.TypedSource.{TypedSource, fold-TypedSource}
+use Rattle.jpql_typed.specs.declared.typed.TypedValue.{TypedValue}
+use Rattle.jpql_typed.specs.declared.typed.TypedCondition.{TypedCondition, TypedCondition-F}
+use Rattle.jpql_typed.specs.declared.typed.TypedCondition.TheOpen as test
+use Rattle.jpql_typed.specs.declared.typed.TypedCondition.TheFolds as folds
+use Rattle.jpql_typed.specs.declared.typed.TypedCondition.TheViews.{roll-TypedCondition}
+use Rattle.jpql_typed.specs.declared.typed.TypedBlock.{TypedBlock, fold-TypedBlock}
+use Rattle.jpql_typed.specs.declared.typed.TypedJoin.{TypedJoin, fold-TypedJoin}
+use Rattle.jpql_typed.specs.declared.typed.TypedSource.{TypedSource, fold-TypedSource}
 use Rattle.jpql_eval.specs.declared.datum.Datum.{Datum}
-use Rattle.jpql_eval.specs.Answers.{Answer, gives, ◌>>=◌, under, both}
+use Rattle.jpql_eval.specs.Answers.{gives, ◌>>=◌, under, both}
 use Rattle.jpql_eval.specs.Calls.{like}
 use Rattle.jpql_eval.specs.Data.{is_nothing, compared, between}
 use Rattle.jpql_eval.specs.Truths.{truth_of}
 use Rattle.jpql_plan.specs.Paths.{Tuple}
-use Rattle.jpql_plan.specs.Meaning.{Case, Extends, Meant, among_all, drops_any, truth_of_any, value, value_drops, condition, exists, join, source, test_step, block_step, join_step, source_step}
+use Rattle.jpql_plan.specs.Meaning.{Case, Extends, Meant, Nested, among_all, drops_any, truth_of_any, value, value_drops, condition, join, rows, source, test_step, block_step, join_step, source_step}
 use Rattle.jpql_run.proofs.CalmValues.{each_tested}
 use Rattle.jpql_run.proofs.Told.{all_weaker}
 use Rattle.jpql_by_key.specs.Own as own
@@ -48,10 +48,10 @@ module _ (m : PersistenceUnit) where
 
 module _ (m : PersistenceUnit) (s : StoredSet) (ps : List Datum) where
   abbrev layer_of : TypedCondition-F TypedCondition TypedBlock TypedJoin TypedSource → Meant
-  layer_of w = test_step m s ps (folds.map-TypedCondition TypedCondition TypedBlock TypedJoin TypedSource Meant (Tuple → Answer Bool) Extends Extends (condition m s ps) (exists m s ps) (join m s ps) (source m s ps) w)
+  layer_of w = test_step m s ps (folds.map-TypedCondition TypedCondition TypedBlock TypedJoin TypedSource Meant Nested Extends Extends (condition m s ps) (rows m s ps) (join m s ps) (source m s ps) w)
 
   condition_at : (w : TypedCondition-F TypedCondition TypedBlock TypedJoin TypedSource) → condition m s ps (roll-TypedCondition w) ≡ layer_of w
-  condition_at w = folds.fold-roll-TypedCondition Meant (Tuple → Answer Bool) Extends Extends (test_step m s ps) (block_step m s ps) (join_step m s ps) (source_step m s ps) w
+  condition_at w = folds.fold-roll-TypedCondition Meant Nested Extends Extends (test_step m s ps) (block_step m s ps) (join_step m s ps) (source_step m s ps) w
 
 module _ (m : PersistenceUnit) (s s' : StoredSet) (ps : List Datum) where
   -- what a condition means of tuples without pairs
@@ -130,6 +130,7 @@ module _ (m : PersistenceUnit) (s s' : StoredSet) (ps : List Datum) where
   layer (test.IsEmpty p) h = absurd (false≢true (sym (own_at m (test.IsEmpty p)) ∙ h))
   layer (test.Member a p) h = absurd (false≢true (sym (own_at m (test.Member a p)) ∙ h))
   layer (test.Exists b) h = absurd (false≢true (sym (own_at m (test.Exists b.0)) ∙ h))
+  layer (test.Rows against op a b) h = absurd (false≢true (sym (own_at m (test.Rows against op a b.0)) ∙ h))
   layer (test.«Type» place classes) h = by_layer (test.«Type» place classes) (λ i. record { drops = λ t. false; truth = λ at. gives (type_pairless m classes at.tuple place i) })
 
   same_condition : (c : TypedCondition) → is_own_condition m c ≡ true → condition m s ps c ≡ of_pairless (condition m s' ps c)

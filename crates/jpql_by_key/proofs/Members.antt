@@ -14,8 +14,8 @@ use Rattle.jpa_model.specs.declared.unit.Side.{Side}
 use Rattle.jpa_model.specs.Chains.{chain_from, entity_at, is_held_by, no_entity, no_relation, owner_of, relation_at, relations_of}
 use Rattle.jpa_stored.specs.declared.stored.Stored.{Stored}
 use Rattle.jpa_stored.specs.Sets.{StoredSet, members, members_by, members_of}
-use Rattle.jpql_types.specs.declared.scope.Step.{Step}
-use Rattle.jpql_types.specs.declared.scope.TypedPath.{TypedPath}
+use Rattle.jpql_typed.specs.declared.path.Step.{Step}
+use Rattle.jpql_typed.specs.declared.path.TypedPath.{TypedPath}
 use Rattle.jpql_plan.specs.Paths.{Entry, Tuple, breaks, identity_datum, is_broken, member_datum, object_at, path_datum, walked}
 use Rattle.jpql_by_key.specs.ByKey.{has_pairs, pairless, without_pairs}
 use Rattle.jpql_by_key.specs.Own.{all_below, are_own_steps, is_own_member, is_own_path, is_single_if_held, is_single_side}

@@ -7,11 +7,11 @@ use Rattle.std.proofs.lemmas.Bool.{and_parts, false≢true}
 use Rattle.jpa_model.specs.declared.unit.PersistenceUnit.{PersistenceUnit}
 use Rattle.jpa_stored.specs.Sets.{StoredSet}
 use Rattle.jpql_tree.specs.declared.Function.{Function}
-use Rattle.jpql_types.specs.declared.typed.TypedValue.{TypedValue, TypedValue-F}
-use Rattle.jpql_types.specs.declared.typed.TypedValue.TheViews.{roll-TypedValue}
-use Rattle.jpql_types.specs.declared.typed.TypedValue.TheOpen as part
-use Rattle.jpql_types.specs.declared.typed.TypedValue.TheVariants as v
-use Rattle.jpql_types.specs.declared.typed.TypedValue.TheFolds as values
+use Rattle.jpql_typed.specs.declared.typed.TypedValue.{TypedValue, TypedValue-F}
+use Rattle.jpql_typed.specs.declared.typed.TypedValue.TheViews.{roll-TypedValue}
+use Rattle.jpql_typed.specs.declared.typed.TypedValue.TheOpen as part
+use Rattle.jpql_typed.specs.declared.typed.TypedValue.TheVariants as v
+use Rattle.jpql_typed.specs.declared.typed.TypedValue.TheFolds as values
 use Rattle.jpql_eval.specs.declared.datum.Datum.{Datum}
 use Rattle.jpql_eval.specs.Answers.{Answer, gives}
 use Rattle.jpql_plan.specs.Paths.{Tuple}

@@ -13,18 +13,18 @@ use Rattle.jpa_model.specs.Chains.{is_kind_of, relations_of, root_of}
 use Rattle.jpa_stored.specs.declared.stored.Stored.{Stored}
 use Rattle.jpa_stored.specs.Sets.{StoredSet}
 use Rattle.jpql_tree.specs.declared.Comparison.{Comparison}
-use Rattle.jpql_types.specs.declared.scope.Step.{Step}
-use Rattle.jpql_types.specs.declared.scope.TypedPath.{TypedPath}
-use Rattle.jpql_types.specs.declared.typed.TypedValue.{TypedValue, TypedValue-F, fold-TypedValue}
-use Rattle.jpql_types.specs.declared.typed.TypedValue.TheOpen as part
-use Rattle.jpql_types.specs.declared.typed.TypedCondition.{TypedCondition, TypedCondition-F, fold-TypedCondition}
-use Rattle.jpql_types.specs.declared.typed.TypedCondition.TheOpen as test
-use Rattle.jpql_types.specs.declared.typed.TypedCondition.TheOpen.{TypedBlock-F, TypedJoin-F, TypedSource-F}
-use Rattle.jpql_types.specs.declared.typed.TypedCondition.TheViews.{out-TypedSource}
-use Rattle.jpql_types.specs.declared.typed.TypedJoin.{TypedJoin}
-use Rattle.jpql_types.specs.declared.typed.TypedOrigin.{TypedOrigin}
-use Rattle.jpql_types.specs.declared.typed.TypedSelect.{TypedSelect}
-use Rattle.jpql_types.specs.declared.typed.TypedSource.{TypedSource}
+use Rattle.jpql_typed.specs.declared.path.Step.{Step}
+use Rattle.jpql_typed.specs.declared.path.TypedPath.{TypedPath}
+use Rattle.jpql_typed.specs.declared.typed.TypedValue.{TypedValue, TypedValue-F, fold-TypedValue}
+use Rattle.jpql_typed.specs.declared.typed.TypedValue.TheOpen as part
+use Rattle.jpql_typed.specs.declared.typed.TypedCondition.{TypedCondition, TypedCondition-F, fold-TypedCondition}
+use Rattle.jpql_typed.specs.declared.typed.TypedCondition.TheOpen as test
+use Rattle.jpql_typed.specs.declared.typed.TypedCondition.TheOpen.{TypedBlock-F, TypedJoin-F, TypedSource-F}
+use Rattle.jpql_typed.specs.declared.typed.TypedCondition.TheViews.{out-TypedSource}
+use Rattle.jpql_typed.specs.declared.typed.TypedJoin.{TypedJoin}
+use Rattle.jpql_typed.specs.declared.typed.TypedOrigin.{TypedOrigin}
+use Rattle.jpql_typed.specs.declared.typed.TypedSelect.{TypedSelect}
+use Rattle.jpql_typed.specs.declared.typed.TypedSource.{TypedSource}
 use Rattle.jpql_eval.specs.declared.datum.Datum.{Datum}
 use Rattle.jpql_eval.specs.Data.{null}
 use Rattle.jpql_by_key.specs.Own.{all_below, is_own_select}
@@ -126,6 +126,7 @@ module _ (ps : List Datum) where
   asked_step (test.IsEmpty p) = None
   asked_step (test.Member a p) = None
   asked_step (test.Exists b) = None
+  asked_step (test.Rows against op a b) = None
   asked_step (test.«Type» place classes) = None
 
   -- a nested SELECT tells nothing of the key (chapter 4.6.16)

@@ -7,16 +7,16 @@ use Rattle.jpa_model.specs.declared.unit.Member.{Member}
 use Rattle.jpa_model.specs.declared.unit.PersistenceUnit.{PersistenceUnit}
 use Rattle.jpa_model.specs.declared.unit.Side.{Side}
 use Rattle.jpa_model.specs.Chains.{is_held_by, relation_at}
-use Rattle.jpql_types.specs.declared.scope.Step.{Step}
-use Rattle.jpql_types.specs.declared.scope.TypedPath.{TypedPath}
-use Rattle.jpql_types.specs.declared.typed.TypedValue.{TypedValue, TypedValue-F, fold-TypedValue}
-use Rattle.jpql_types.specs.declared.typed.TypedValue.TheOpen as part
-use Rattle.jpql_types.specs.declared.typed.TypedCondition.{TypedCondition, TypedCondition-F, fold-TypedCondition}
-use Rattle.jpql_types.specs.declared.typed.TypedCondition.TheOpen as test
-use Rattle.jpql_types.specs.declared.typed.TypedCondition.TheOpen.{TypedBlock-F, TypedJoin-F, TypedSource-F}
-use Rattle.jpql_types.specs.declared.typed.TypedKey.{TypedKey}
-use Rattle.jpql_types.specs.declared.typed.TypedSelect.{TypedSelect}
-use Rattle.jpql_types.specs.declared.typed.TypedSorted.{TypedSorted}
+use Rattle.jpql_typed.specs.declared.path.Step.{Step}
+use Rattle.jpql_typed.specs.declared.path.TypedPath.{TypedPath}
+use Rattle.jpql_typed.specs.declared.typed.TypedValue.{TypedValue, TypedValue-F, fold-TypedValue}
+use Rattle.jpql_typed.specs.declared.typed.TypedValue.TheOpen as part
+use Rattle.jpql_typed.specs.declared.typed.TypedCondition.{TypedCondition, TypedCondition-F, fold-TypedCondition}
+use Rattle.jpql_typed.specs.declared.typed.TypedCondition.TheOpen as test
+use Rattle.jpql_typed.specs.declared.typed.TypedCondition.TheOpen.{TypedBlock-F, TypedJoin-F, TypedSource-F}
+use Rattle.jpql_typed.specs.declared.typed.TypedKey.{TypedKey}
+use Rattle.jpql_typed.specs.declared.typed.TypedSelect.{TypedSelect}
+use Rattle.jpql_typed.specs.declared.typed.TypedSorted.{TypedSorted}
 
 -- whether a side is the owning one of a relation to one object, whose link stands in the owner's row (chapter 2.10)
 abbrev pub is_single_side : Side → Bool
@@ -88,6 +88,7 @@ module _ (m : PersistenceUnit) where
   condition_step (test.IsEmpty p) = false
   condition_step (test.Member a p) = false
   condition_step (test.Exists b) = false
+  condition_step (test.Rows against op a b) = false
   condition_step (test.«Type» place classes) = true
 
   -- the object never tells a nested SELECT by itself (chapter 4.6.16)

@@ -6,7 +6,7 @@ ghost use Rattle.jpql_by_key.specs.Own as own;
 use crate::held::is_single;
 use jpa_model::{Member, Metamodel};
 use jpa_value::Boxed;
-use jpql_types::{Step, TypedCondition, TypedKey, TypedPath, TypedSelect, TypedSorted, TypedValue};
+use jpql_typed::{Step, TypedCondition, TypedKey, TypedPath, TypedSelect, TypedSorted, TypedValue};
 
 /// Whether an object's row tells what a step leads to.
 fn is_own_step(metamodel: &Metamodel, step: &Step) -> bool
@@ -83,9 +83,10 @@ fn is_own_condition(metamodel: &Metamodel, condition: &TypedCondition) -> bool
         TypedCondition::Like(text, pattern, _) => is_own_value(metamodel, text)
             && is_own_value(metamodel, pattern),
         TypedCondition::IsNull(one) => is_own_value(metamodel, one),
-        TypedCondition::IsEmpty(_) | TypedCondition::Member(_, _) | TypedCondition::Exists(_) => {
-            false
-        }
+        TypedCondition::IsEmpty(_)
+        | TypedCondition::Member(_, _)
+        | TypedCondition::Exists(_)
+        | TypedCondition::Rows(_, _, _, _) => false,
         TypedCondition::Type(_, _) => true,
     }
 }

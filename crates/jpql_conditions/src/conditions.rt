@@ -6,13 +6,16 @@ ghost use Rattle.jpql_grammar.specs.Conditions as spec;
 ghost use Rattle.jpql_grammar.specs.Conditions.{cond_at};
 
 use crate::lookahead::opens_condition;
-use crate::predicates::{begins_variable, opposite, simple};
+use crate::predicates::{
+    begins_variable, comparison, negated_if, opposite, sees_comparison, tested, typed,
+};
+use crate::rows::{aggregated, begins_rows, opposed, quantifier, rows_follow, selected, turned};
 use crate::steps::{after, after_word, is_word, name, optional_word, sees, variable};
 use crate::values::value;
 use jpa_value::{Boxed, Seq, Text};
 use jpql_grammar::{Keyword, Mark, Token};
 use jpql_lexer::ReadError;
-use jpql_tree::{Block, Condition, Item, Join, Origin, Source};
+use jpql_tree::{Against, Block, Comparison, Condition, Item, Join, Origin, Source, Value};
 use std::alloc::{AllocError, Global};
 
 /// Two boxes, of what a condition joins.
@@ -228,6 +231,23 @@ pub fn sources(
     Ok((found, rest))
 }
 
+/// FROM, its ranges and WHERE, behind the item of a nested SELECT.
+#[cycle(cond)]
+#[tactic(auto, unfolding(jpql_grammar::specs::Conditions::ranges_at))]
+fn ranges(
+    alloc: Global,
+    depth: usize,
+    tokens: &[Token],
+) -> Result<((Seq<Source>, Option<Boxed<Condition>>), &[Token]), ReadError>
+    ensures { Gives (λ r. (r.0, r.1.now)) result
+        (spec.ranges_at depth (cond_at depth) tokens.now) }
+{
+    let rest = after_word(Keyword::From, tokens)?;
+    let (sources, rest) = sources(alloc, depth, true, rest)?;
+    let (filter, rest) = clause(alloc, depth, Keyword::Where, rest)?;
+    Ok(((sources, filter), rest))
+}
+
 #[cycle(cond)]
 #[tactic(auto, unfolding(jpql_grammar::specs::Conditions::block_at))]
 fn block(alloc: Global, depth: usize, tokens: &[Token]) -> Result<(Block, &[Token]), ReadError>
@@ -235,9 +255,7 @@ fn block(alloc: Global, depth: usize, tokens: &[Token]) -> Result<(Block, &[Toke
 {
     let (is_distinct, rest) = optional_word(Keyword::Distinct, tokens);
     let (item, rest) = item(alloc, depth, rest)?;
-    let rest = after_word(Keyword::From, rest)?;
-    let (sources, rest) = sources(alloc, depth, true, rest)?;
-    let (filter, rest) = clause(alloc, depth, Keyword::Where, rest)?;
+    let ((sources, filter), rest) = ranges(alloc, depth, rest)?;
     Ok((
         Block {
             is_distinct,
@@ -249,16 +267,189 @@ fn block(alloc: Global, depth: usize, tokens: &[Token]) -> Result<(Block, &[Toke
     ))
 }
 
+/// A nested SELECT of an aggregate: this, and the SELECT of what it is of.
 #[cycle(cond)]
-#[tactic(auto, unfolding(jpql_grammar::specs::Conditions::exists_at, jpql_grammar::specs::Values::closed))]
+#[tactic(auto, unfolding(jpql_grammar::specs::Conditions::scalar_at))]
+fn scalar(
+    alloc: Global,
+    depth: usize,
+    tokens: &[Token],
+) -> Result<((Against, Block), &[Token]), ReadError>
+    ensures { Gives (λ r. (r.0, r.1.now)) result
+        (spec.scalar_at depth (cond_at depth) tokens.now) }
+{
+    let ((against, value), rest) = aggregated(alloc, depth, tokens)?;
+    let ((sources, filter), rest) = ranges(alloc, depth, rest)?;
+    let item = Item { value, name: None };
+    let block = Block {
+        is_distinct: false,
+        item,
+        sources,
+        filter,
+    };
+    Ok(((against, block), rest))
+}
+
+#[cycle(cond)]
+#[tactic(auto, unfolding(jpql_grammar::specs::Conditions::subquery_at, jpql_grammar::specs::Values::closed))]
+fn subquery(
+    alloc: Global,
+    depth: usize,
+    tokens: &[Token],
+) -> Result<(Boxed<Block>, &[Token]), ReadError>
+    ensures { Gives (λ r. (r.0, r.1.now)) result
+        (spec.subquery_at depth (cond_at depth) tokens.now) }
+{
+    let (block, rest) = block(alloc, depth, selected(tokens)?)?;
+    let rest = after(Mark::Close, rest)?;
+    Ok((Boxed::new(alloc, block)?, rest))
+}
+
+#[cycle(cond)]
+#[tactic(auto, unfolding(jpql_grammar::specs::Conditions::enclosed_at, jpql_grammar::specs::Values::closed))]
+fn enclosed(
+    alloc: Global,
+    depth: usize,
+    tokens: &[Token],
+) -> Result<((Against, Boxed<Block>), &[Token]), ReadError>
+    ensures { Gives (λ r. (r.0, r.1.now)) result
+        (spec.enclosed_at depth (cond_at depth) tokens.now) }
+{
+    let ((against, block), rest) = scalar(alloc, depth, selected(tokens)?)?;
+    let rest = after(Mark::Close, rest)?;
+    Ok(((against, Boxed::new(alloc, block)?), rest))
+}
+
+#[cycle(cond)]
+#[tactic(auto, unfolding(jpql_grammar::specs::Conditions::exists_at))]
 fn exists(alloc: Global, depth: usize, tokens: &[Token]) -> Result<(Condition, &[Token]), ReadError>
     ensures { Gives (λ r. (r.0, r.1.now)) result
         (spec.exists_at depth (cond_at depth) tokens.now) }
 {
-    let rest = after_word(Keyword::Select, after(Mark::Open, tokens)?)?;
-    let (block, rest) = block(alloc, depth, rest)?;
-    let rest = after(Mark::Close, rest)?;
-    Ok((Condition::Exists(Boxed::new(alloc, block)?), rest))
+    let (block, rest) = subquery(alloc, depth, tokens)?;
+    Ok((Condition::Exists(block), rest))
+}
+
+#[cycle(cond)]
+#[tactic(auto, unfolding(jpql_grammar::specs::Conditions::against_at))]
+fn against(
+    alloc: Global,
+    depth: usize,
+    tokens: &[Token],
+) -> Result<((Against, Boxed<Block>), &[Token]), ReadError>
+    ensures { Gives (λ r. (r.0, r.1.now)) result
+        (spec.against_at depth (cond_at depth) tokens.now) }
+{
+    if begins_rows(tokens) {
+        enclosed(alloc, depth, tokens)
+    } else {
+        let (against, rest) = quantifier(tokens)?;
+        let (block, rest) = subquery(alloc, depth, rest)?;
+        Ok(((against, block), rest))
+    }
+}
+
+#[cycle(cond)]
+#[tactic(auto, unfolding(jpql_grammar::specs::Conditions::scalar_first_at))]
+fn scalar_first(
+    alloc: Global,
+    depth: usize,
+    tokens: &[Token],
+) -> Result<(Condition, &[Token]), ReadError>
+    ensures { Gives (λ r. (r.0, r.1.now)) result
+        (spec.scalar_first_at depth (cond_at depth) tokens.now) }
+{
+    let ((against, block), rest) = enclosed(alloc, depth, tokens)?;
+    match opposed(alloc, depth, rest) {
+        Ok(((operation, value), rest)) => {
+            Ok((
+                Condition::Rows(against, turned(operation), value, block),
+                rest,
+            ))
+        }
+        Err(error) => {
+            drop(block);
+            Err(error)
+        }
+    }
+}
+
+#[cycle(cond)]
+#[tactic(auto, unfolding(jpql_grammar::specs::Conditions::beside_at))]
+fn beside(
+    alloc: Global,
+    depth: usize,
+    value: Value,
+    tokens: &[Token],
+) -> Result<(Condition, &[Token]), ReadError>
+    ensures { Gives (λ r. (r.0, r.1.now)) result
+        (spec.beside_at depth (cond_at depth) value tokens.now) }
+{
+    let (operation, rest) = comparison(tokens)?;
+    let ((against, block), rest) = against(alloc, depth, rest)?;
+    Ok((Condition::Rows(against, operation, value, block), rest))
+}
+
+#[cycle(cond)]
+#[tactic(auto, unfolding(jpql_grammar::specs::Conditions::among_rows_at))]
+fn among_rows(
+    alloc: Global,
+    depth: usize,
+    value: Value,
+    tokens: &[Token],
+) -> Result<(Condition, &[Token]), ReadError>
+    ensures { Gives (λ r. (r.0, r.1.now)) result
+        (spec.among_rows_at depth (cond_at depth) value tokens.now) }
+{
+    let (negated, rest) = optional_word(Keyword::Not, tokens);
+    let (block, rest) = subquery(alloc, depth, after_word(Keyword::In, rest)?)?;
+    let test = Condition::Rows(Against::Any, Comparison::Equal, value, block);
+    Ok((negated_if(alloc, negated, test)?, rest))
+}
+
+/// What follows a value: rows, or a test of it.
+#[cycle(cond)]
+#[tactic(auto, unfolding(jpql_grammar::specs::Conditions::follows_at))]
+fn follows(
+    alloc: Global,
+    depth: usize,
+    first: Value,
+    bare: bool,
+    tokens: &[Token],
+) -> Result<(Condition, &[Token]), ReadError>
+    ensures { Gives (λ r. (r.0, r.1.now)) result
+        (spec.follows_at depth (cond_at depth) first bare tokens.now) }
+{
+    if !rows_follow(tokens) {
+        tested(alloc, depth, first, bare, tokens)
+    } else if sees_comparison(tokens) {
+        beside(alloc, depth, first, tokens)
+    } else {
+        among_rows(alloc, depth, first, tokens)
+    }
+}
+
+#[cycle(cond)]
+#[tactic(auto, unfolding(jpql_grammar::specs::Conditions::valued_at))]
+fn valued(alloc: Global, depth: usize, tokens: &[Token]) -> Result<(Condition, &[Token]), ReadError>
+    ensures { Gives (λ r. (r.0, r.1.now)) result
+        (spec.valued_at depth (cond_at depth) tokens.now) }
+{
+    let (first, rest) = value(alloc, depth, tokens)?;
+    follows(alloc, depth, first, begins_variable(tokens), rest)
+}
+
+#[cycle(cond)]
+#[tactic(auto, unfolding(jpql_grammar::specs::Conditions::simple_at))]
+fn simple(alloc: Global, depth: usize, tokens: &[Token]) -> Result<(Condition, &[Token]), ReadError>
+    ensures { Gives (λ r. (r.0, r.1.now)) result
+        (spec.simple_at depth (cond_at depth) tokens.now) }
+{
+    if is_word(Keyword::Type, tokens) {
+        typed(alloc, &tokens[1..])
+    } else {
+        valued(alloc, depth, tokens)
+    }
 }
 
 // Here and in the loops below a condition is dropped by a call: one that goes out of scope takes
@@ -283,7 +474,9 @@ fn nested(alloc: Global, depth: usize, tokens: &[Token]) -> Result<(Condition, &
 fn test(alloc: Global, depth: usize, tokens: &[Token]) -> Result<(Condition, &[Token]), ReadError>
     ensures { Gives (λ r. (r.0, r.1.now)) result (spec.test_at depth (cond_at depth) tokens.now) }
 {
-    if opens_condition(tokens) {
+    if begins_rows(tokens) {
+        scalar_first(alloc, depth, tokens)
+    } else if opens_condition(tokens) {
         nested(alloc, depth, &tokens[1..])
     } else if is_word(Keyword::Exists, tokens) {
         exists(alloc, depth, &tokens[1..])

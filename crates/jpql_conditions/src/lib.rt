@@ -1,7 +1,8 @@
 //! Reads what statements of the Jakarta Persistence Query Language are made of from tokens (Jakarta
 //! Persistence 3.1): values (chapter 4.7), tests of values (chapters 4.6.7 to 4.6.14), conditions
 //! (chapter 4.6), and what holds conditions or stands beside them: the ranges and joins of FROM
-//! (chapter 4.4), items of SELECT, and the SELECT nested in EXISTS.
+//! (chapter 4.4), items of SELECT, and the SELECTs nested in EXISTS (chapter 4.6.14) and beside values
+//! (chapters 4.6.9, 4.6.15 and 4.6.16).
 //!
 //! `steps` has the steps over tokens that every line of the grammar takes: marks, words, names and
 //! paths. `lookahead` tells whether an open parenthesis begins a condition or a value.
@@ -15,6 +16,7 @@
 mod conditions;
 mod lookahead;
 mod predicates;
+mod rows;
 mod steps;
 mod values;
 

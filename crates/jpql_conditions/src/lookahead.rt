@@ -25,6 +25,7 @@ fn is_test_word(keyword: Keyword) -> bool
         | Keyword::Like
         | Keyword::Member
         | Keyword::Exists
+        | Keyword::Select
         | Keyword::Type => true,
         _ => false,
     }

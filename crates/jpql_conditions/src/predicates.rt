@@ -13,8 +13,9 @@ use jpql_lexer::ReadError;
 use jpql_tree::{Comparison, Condition, Path, Value};
 use std::alloc::{AllocError, Global};
 
+/// A comparison.
 #[tactic(auto, unfolding(jpql_grammar::specs::Conditions::comparison_at))]
-fn comparison(tokens: &[Token]) -> Result<(Comparison, &[Token]), ReadError>
+pub fn comparison(tokens: &[Token]) -> Result<(Comparison, &[Token]), ReadError>
     ensures { Gives (λ r. (r.0, r.1.now)) result (spec.comparison_at tokens.now) }
 {
     match tokens {
@@ -28,7 +29,8 @@ fn comparison(tokens: &[Token]) -> Result<(Comparison, &[Token]), ReadError>
     }
 }
 
-fn sees_comparison(tokens: &[Token]) -> bool
+/// Whether a comparison comes next.
+pub fn sees_comparison(tokens: &[Token]) -> bool
     ensures { result ≡ spec.sees_comparison tokens.now }
 {
     match tokens {
@@ -54,7 +56,8 @@ pub fn opposite(alloc: Global, test: Condition) -> Result<Condition, AllocError>
     Ok(Condition::Not(Boxed::new(alloc, test)?))
 }
 
-fn negated_if(alloc: Global, negated: bool, test: Condition) -> Result<Condition, AllocError>
+/// The test, or its NOT.
+pub fn negated_if(alloc: Global, negated: bool, test: Condition) -> Result<Condition, AllocError>
     ensures { IfOk result (λ c. c ≡ spec.negated_if negated test) }
 {
     if negated {
@@ -206,8 +209,9 @@ fn worded(
     }
 }
 
+/// What follows a value, where no rows do.
 #[tactic(auto, unfolding(jpql_grammar::specs::Conditions::tested_at))]
-fn tested(
+pub fn tested(
     alloc: Global,
     depth: usize,
     first: Value,
@@ -225,14 +229,6 @@ fn tested(
         let (test, rest) = worded(alloc, depth, first, rest)?;
         Ok((negated_if(alloc, negated, test)?, rest))
     }
-}
-
-#[tactic(auto, unfolding(jpql_grammar::specs::Conditions::valued_at))]
-fn valued(alloc: Global, depth: usize, tokens: &[Token]) -> Result<(Condition, &[Token]), ReadError>
-    ensures { Gives (λ r. (r.0, r.1.now)) result (spec.valued_at depth tokens.now) }
-{
-    let (first, rest) = value(alloc, depth, tokens)?;
-    tested(alloc, depth, first, begins_variable(tokens), rest)
 }
 
 #[tactic(auto, unfolding(jpql_grammar::specs::Values::list_at, jpql_grammar::specs::Values::others_at))]
@@ -308,26 +304,11 @@ fn entity(
     }
 }
 
+/// What follows TYPE.
 #[tactic(auto, unfolding(jpql_grammar::specs::Conditions::typed_at))]
-fn typed(alloc: Global, tokens: &[Token]) -> Result<(Condition, &[Token]), ReadError>
+pub fn typed(alloc: Global, tokens: &[Token]) -> Result<(Condition, &[Token]), ReadError>
     ensures { Gives (λ r. (r.0, r.1.now)) result (spec.typed_at tokens.now) }
 {
     let (variable, rest) = variable(alloc, after(Mark::Open, tokens)?)?;
     entity(alloc, variable, after(Mark::Close, rest)?)
-}
-
-/// A test without a condition inside.
-#[tactic(auto, unfolding(jpql_grammar::specs::Conditions::simple_at))]
-pub fn simple(
-    alloc: Global,
-    depth: usize,
-    tokens: &[Token],
-) -> Result<(Condition, &[Token]), ReadError>
-    ensures { Gives (λ r. (r.0, r.1.now)) result (spec.simple_at depth tokens.now) }
-{
-    if is_word(Keyword::Type, tokens) {
-        typed(alloc, &tokens[1..])
-    } else {
-        valued(alloc, depth, tokens)
-    }
 }

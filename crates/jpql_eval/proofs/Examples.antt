@@ -1,17 +1,20 @@
 -- Functions, LIKE and aggregates evaluated.
 use Rattle.std.proofs.Common.{◌≡◌, pos, negsuc, true, false, [], ◌∷◌, ◌++◌, Some, None, refl, codes}
 use Rattle.std.specs.Str.{chars}
+use Rattle.jpql_tree.specs.declared.Against.{Against}
 use Rattle.jpql_tree.specs.declared.Aggregate.{Aggregate}
+use Rattle.jpql_tree.specs.declared.Comparison.{Comparison}
 use Rattle.jpql_tree.specs.declared.Function.{Function}
 use Rattle.jpql_tree.specs.declared.Arithmetic.{Arithmetic}
 use Rattle.jpql_tree.specs.declared.Trimmed.{Trimmed}
 use Rattle.jpql_eval.specs.declared.datum.Truth.{Truth}
-use Rattle.jpql_eval.specs.Answers.{gives, overflows}
+use Rattle.jpql_eval.specs.Answers.{gives, overflows, under}
 use Rattle.jpql_eval.specs.Truths.{not3}
 use Rattle.jpql_eval.specs.Data.{null, between}
 use Rattle.jpql_eval.specs.Numbers.{number, arithmetic}
 use Rattle.jpql_eval.specs.Calls.{text, applied, like}
 use Rattle.jpql_eval.specs.Aggregates.{aggregated, counted}
+use Rattle.jpql_eval.specs.Judged.{judged}
 
 -- SUBSTRING('abc', 0, 2) is 'a'
 before_the_first : applied Function.Substring (text (codes "abc") ∷ number (pos 0) ∷ number (pos 2) ∷ []) ≡ gives (text (codes "a"))
@@ -128,3 +131,52 @@ once_each = refl
 
 of_nothing : aggregated Aggregate.Max (counted false (null ∷ [])) ≡ gives null
 of_nothing = refl
+
+-- ANY of no rows is false, ALL of none true
+any_of_none : judged Against.Any Comparison.Equal (number (pos 1)) [] ≡ gives Truth.No
+any_of_none = refl
+
+all_of_none : judged Against.All Comparison.Equal (number (pos 1)) [] ≡ gives Truth.Yes
+all_of_none = refl
+
+-- a null among the rows: one that holds decides ANY, one that doesn't ALL, else it is unknown
+any_beside_null : judged Against.Any Comparison.Equal (number (pos 2)) (null ∷ number (pos 2) ∷ []) ≡ gives Truth.Yes
+any_beside_null = refl
+
+any_unknown : judged Against.Any Comparison.Equal (number (pos 1)) (null ∷ number (pos 2) ∷ []) ≡ gives Truth.Unknown
+any_unknown = refl
+
+all_beside_null : judged Against.All Comparison.Less (number (pos 2)) (null ∷ number (pos 2) ∷ []) ≡ gives Truth.No
+all_beside_null = refl
+
+all_unknown : judged Against.All Comparison.Less (number (pos 1)) (number (pos 2) ∷ null ∷ []) ≡ gives Truth.Unknown
+all_unknown = refl
+
+-- 1 NOT IN (rows), with a null among them
+not_in : under not3 (judged Against.Any Comparison.Equal (number (pos 1)) (number (pos 2) ∷ null ∷ [])) ≡ gives Truth.Unknown
+not_in = refl
+
+-- null with any of no rows is false still, and with some rows unknown
+null_of_none : judged Against.Any Comparison.Equal null [] ≡ gives Truth.No
+null_of_none = refl
+
+null_of_some : judged Against.All Comparison.Equal null (number (pos 2) ∷ []) ≡ gives Truth.Unknown
+null_of_some = refl
+
+-- 1 < MAX of 2, null and 3; of none it is unknown
+below_greatest : judged (Against.One Aggregate.Max false) Comparison.Less (number (pos 1)) (number (pos 2) ∷ null ∷ number (pos 3) ∷ []) ≡ gives Truth.Yes
+below_greatest = refl
+
+greatest_of_none : judged (Against.One Aggregate.Max false) Comparison.Less (number (pos 1)) [] ≡ gives Truth.Unknown
+greatest_of_none = refl
+
+-- 0 = COUNT of none, and 1 = COUNT(DISTINCT) of 2, 2 and null
+count_of_none : judged (Against.One Aggregate.Count false) Comparison.Equal (number (pos 0)) [] ≡ gives Truth.Yes
+count_of_none = refl
+
+count_of_each : judged (Against.One Aggregate.Count true) Comparison.Equal (number (pos 1)) (number (pos 2) ∷ number (pos 2) ∷ null ∷ []) ≡ gives Truth.Yes
+count_of_each = refl
+
+-- a total outside 64 bits, also beside null
+sum_overflows : judged (Against.One Aggregate.Sum false) Comparison.Less null (number (pos 9223372036854775807) ∷ number (pos 1) ∷ []) ≡ overflows
+sum_overflows = refl

@@ -1,6 +1,7 @@
 pub mod Distinct
 pub mod Fronts
 pub mod Joined
+pub mod Logic
 pub mod Orders
 pub mod Places
 pub mod There

@@ -4,6 +4,7 @@ pub mod Calls
 pub mod Data
 pub mod Finds
 pub mod Fronts
+pub mod Judged
 pub mod Numbers
 pub mod Seen
 pub mod SeenOrder

@@ -36,3 +36,8 @@ is_yes _ = false
 abbrev pub any3 : List Truth → Truth
 any3 [] = Truth.No
 any3 (t ∷ ts) = or3 t (any3 ts)
+
+-- AND of a list; of none it is true
+abbrev pub all3 : List Truth → Truth
+all3 [] = Truth.Yes
+all3 (t ∷ ts) = and3 t (all3 ts)

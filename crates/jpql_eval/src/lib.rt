@@ -5,6 +5,7 @@
 //! or among its parameters.
 #![tactic(auto)]
 
+mod against;
 mod aggregates;
 mod calls;
 mod compare;
@@ -17,6 +18,7 @@ mod texts;
 mod trims;
 mod truths;
 
+pub use against::judged;
 pub use aggregates::aggregated;
 pub use calls::{applied, like};
 pub use compare::{between, compared, is_same, is_true, order};

@@ -4,7 +4,7 @@ use Rattle.std.specs.List.{AllByRecursion, insert}
 use Rattle.std.specs.List.Sorted.{IsSortedBy, IsPartitionedBy}
 use Rattle.std.specs.Ordering.{is_lt}
 use Rattle.std.proofs.lemmas.List.{length-take, take_all}
-use Rattle.jpql_types.specs.declared.typed.TypedKey.{TypedKey}
+use Rattle.jpql_typed.specs.declared.typed.TypedKey.{TypedKey}
 use Rattle.jpql_eval.specs.declared.datum.Datum.{Datum}
 use Rattle.jpql_plan.specs.Selection.{Row, keys_cmp, precedes, put_row, put_rows}
 use Rattle.jpql_plan.proofs.Orders.{precedes_is_order}

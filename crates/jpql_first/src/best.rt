@@ -13,7 +13,7 @@ ghost use Rattle.jpql_first.specs.First.{AreInFront, IsFit};
 use jpql_eval::Failure;
 use jpql_run::{Run, Tuple};
 use jpql_select::{Case, Row, Sorting, by_sorting, items_of, sorting_of};
-use jpql_types::{TypedKey, TypedSelect};
+use jpql_typed::{TypedKey, TypedSelect};
 use std::alloc::Global;
 
 /// Where a row that is ordered by this goes among rows in order: behind those that it doesn't

@@ -4,7 +4,7 @@ ghost use Rattle.jpql_run.specs.Keys.{NeverOverflows};
 ghost use Rattle.jpql_first.specs.First.{GoesByTuple, IsFit};
 
 use jpql_select::is_grouping;
-use jpql_types::{TypedKey, TypedSelect, TypedSorted, TypedValue};
+use jpql_typed::{TypedKey, TypedSelect, TypedSorted, TypedValue};
 
 /// Whether an item is a constant, a parameter or a path.
 fn is_plain(item: &TypedValue) -> bool

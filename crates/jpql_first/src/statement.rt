@@ -16,7 +16,7 @@ use jpa_open::OpenSet;
 use jpql_eval::{Datum, Failure};
 use jpql_run::Run;
 use jpql_select::{Table, select, table_of};
-use jpql_types::TypedSelect;
+use jpql_typed::TypedSelect;
 use std::alloc::Global;
 
 /// How many rows are put in order one by one at most; of more all are made and sorted.

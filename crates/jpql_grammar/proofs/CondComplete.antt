@@ -6,18 +6,24 @@ use Rattle.jpql_grammar.specs.declared.token.Keyword.TheVariants as k
 use Rattle.jpql_grammar.specs.declared.token.Mark.TheVariants as m
 use Rattle.jpql_grammar.specs.declared.token.Token.{Token}
 use Rattle.jpql_grammar.specs.declared.token.Token.TheVariants as t
+use Rattle.jpql_tree.specs.declared.Aggregate.{Aggregate}
+use Rattle.jpql_tree.specs.declared.Aggregate.TheVariants as aggregate
+use Rattle.jpql_tree.specs.declared.Against.TheVariants as against
+use Rattle.jpql_tree.specs.declared.Comparison.{Comparison}
 use Rattle.jpql_tree.specs.declared.Condition.{Condition}
 use Rattle.jpql_tree.specs.declared.Join.{Join}
 use Rattle.jpql_tree.specs.Names.{Text}
-use Rattle.jpql_grammar.specs.Parts.{Name, plain, word, name_token, name_text}
-use Rattle.jpql_grammar.specs.Grammar.{Value°, Written, write_word, Named, write_named, write_optional_name, optional_name, Item°, write_item, write_others, item_tree, write_value, Side, inner, left, write_side, is_left, Range, entity, related, write_range, Cond°, cond, Ors°, no_ors, or, And°, conj, Ands°, no_ands, and, Not°, maybe_not, Test°, inside, compare, between, among, among_none, like, null, empty, member, exists, type_is, type_is_not, type_among, Sub°, sub, Source°, source, Sources°, no_sources, sources, Joins°, no_joins, joins, Join°, join, On°, no_on, on, Where°, no_where, filter, write_cond, write_ors, write_and, write_ands, write_not, write_test, write_source, write_sources, write_joins, write_join, write_on, write_where, cond_tree, ors_tree, and_tree, ands_tree, not_tree, test_tree, sub_tree, source_tree, sources_trees, joins_trees, join_tree, on_tree, where_tree}
+use Rattle.jpql_grammar.specs.Parts.{Name, plain, word, name_token, name_text, aggregate_word, Quantifier°, every, any, some, write_quantifier, quantifier_tree}
+use Rattle.jpql_grammar.specs.Grammar.{Value°, Written, write_word, is_written, Named, write_named, write_optional_name, optional_name, Item°, write_item, write_others, item_tree, write_value, value_tree, comparison_mark, Side, inner, left, write_side, is_left, Range, entity, related, write_range, Cond°, cond, Ors°, no_ors, or, And°, conj, Ands°, no_ands, and, Not°, maybe_not, Test°, inside, compare, between, among, among_none, like, null, empty, member, exists, quantified, among_rows, scalar_right, scalar_left, type_is, type_is_not, type_among, Sub°, sub, Scalar°, scalar, Source°, source, Sources°, no_sources, sources, Joins°, no_joins, joins, Join°, join, On°, no_on, on, Where°, no_where, filter, write_cond, write_ors, write_and, write_ands, write_not, write_test, write_sub, write_scalar, write_source, write_sources, write_joins, write_join, write_on, write_where, cond_tree, ors_tree, and_tree, ands_tree, not_tree, test_tree, sub_tree, scalar_tree, source_tree, sources_trees, joins_trees, join_tree, on_tree, where_tree}
 use Rattle.jpql_grammar.specs.Nesting.{too_deep}
+use Rattle.jpql_grammar.specs.Same.{same_keyword}
 use Rattle.jpql_grammar.specs.Values.{Read, sees, is_word, variable_at, list_at, closed}
-use Rattle.jpql_grammar.specs.Conditions.{begins_variable, simple_at, named_at, optional_name_at, item_at, begins_related, related_at, origin_at, begins_join, side_at, clause_at, join_at, joins_at, source_at, block_at, exists_at, test_at, not_at, ands_at, and_at, ors_at, cond_level_at, cond_at}
-use Rattle.jpql_grammar.proofs.Skips.{neither, close, comma, name_skip, named_skip, word_skip, item_skip, side_skip, join_skip, source_skip, sources_skip, on_skip, not_skip, and_skip}
+use Rattle.jpql_grammar.specs.Conditions.{begins_variable, simple_at, named_at, optional_name_at, item_at, begins_related, related_at, origin_at, begins_join, side_at, clause_at, join_at, joins_at, source_at, quantifier_at, aggregate_at, operand_at, aggregated_at, opposed_at, begins_rows, quantifies, rows_follow, ranges_at, block_at, scalar_at, subquery_at, enclosed_at, exists_at, against_at, scalar_first_at, beside_at, among_rows_at, follows_at, test_at, not_at, ands_at, and_at, ors_at, cond_level_at, cond_at}
+use Rattle.jpql_grammar.proofs.Skips.{neither, opened, close, comma, value_skip, over, stay, quantifier_skip, scalar_skip, name_skip, named_skip, word_skip, item_skip, side_skip, join_skip, source_skip, sources_skip, on_skip, not_skip, and_skip}
+use Rattle.jpql_grammar.proofs.Calls.{is_call}
 use Rattle.jpql_grammar.proofs.Tools.{word_complete}
-use Rattle.jpql_grammar.proofs.ValuesComplete.{Ends, value_complete, list_complete, value_no_not, value_no_exists, value_no_distinct}
-use Rattle.jpql_grammar.proofs.TestsComplete.{ends_key, After, value_opens_none, compare_complete, between_complete, among_complete, among_none_complete, like_complete, null_complete, empty_complete, member_complete, name_complete, type_complete, type_not_complete, type_among_complete}
+use Rattle.jpql_grammar.proofs.ValuesComplete.{Ends, value_complete, list_complete, ends_close, value_no_word, value_no_exists, value_no_distinct}
+use Rattle.jpql_grammar.proofs.TestsComplete.{ends_key, After, value_opens_none, value_no_rows, comparison_ends, comparison_seen, comparison_complete, comparison_shallow, follows_complete, compare_complete, between_complete, among_complete, among_none_complete, like_complete, null_complete, empty_complete, member_complete, name_complete, type_complete, type_not_complete, type_among_complete}
 use Rattle.jpql_grammar.proofs.Scan.{cond_scan}
 
 -- ---- what may follow a condition, or a part of FROM
@@ -249,24 +255,84 @@ stops_close : (rest : List Token) → stops (close rest) ≡ true
 unfolding stops
 stops_close rest = refl
 
+-- no other word begins a test
+test_no_word : (j : Keyword) → is_call j ≡ false → same_keyword j k.Exists ≡ false → same_keyword j k.Type ≡ false → (x : Test°) (rest : List Token) → is_word j (write_test x rest) ≡ false
+test_no_word j e f g (inside x) rest = refl
+test_no_word j e f g (compare op a b) rest = value_no_word j e a _
+test_no_word j e f g (between a n w b u d) rest = value_no_word j e a _
+test_no_word j e f g (among a n w b all) rest = value_no_word j e a _
+test_no_word j e f g (among_none a n w) rest = value_no_word j e a _
+test_no_word j e f g (like a n w b d) rest = value_no_word j e a _
+test_no_word j e f g (null a w n u) rest = value_no_word j e a _
+test_no_word j e f g (empty p w n u) rest = refl
+test_no_word j e f g (member a n w of p) rest = value_no_word j e a _
+test_no_word j e f g (exists w b) rest = f
+test_no_word j e f g (quantified a op q b) rest = value_no_word j e a _
+test_no_word j e f g (among_rows a n w b) rest = value_no_word j e a _
+test_no_word j e f g (scalar_right a op s) rest = value_no_word j e a _
+test_no_word j e f g (scalar_left s op a) rest = refl
+test_no_word j e f g (type_is w x y) rest = g
+test_no_word j e f g (type_is_not w x y) rest = g
+test_no_word j e f g (type_among w x n u y ys) rest = g
+
 test_no_not : (x : Test°) (rest : List Token) → is_word k.Not (write_test x rest) ≡ false
-test_no_not (inside x) rest = refl
-test_no_not (compare op a b) rest = value_no_not a _
-test_no_not (between a n w b u d) rest = value_no_not a _
-test_no_not (among a n w b all) rest = value_no_not a _
-test_no_not (among_none a n w) rest = value_no_not a _
-test_no_not (like a n w b e) rest = value_no_not a _
-test_no_not (null a w n u) rest = value_no_not a _
-test_no_not (empty p w n u) rest = refl
-test_no_not (member a n w of p) rest = value_no_not a _
-test_no_not (exists w b) rest = refl
-test_no_not (type_is w x e) rest = refl
-test_no_not (type_is_not w x e) rest = refl
-test_no_not (type_among w x n u e es) rest = refl
+test_no_not = test_no_word k.Not refl refl refl
+
+-- SELECT begins no condition
+cond_no_select : (x : Cond°) (rest : List Token) → is_word k.Select (write_cond x rest) ≡ false
+cond_no_select (cond (conj (maybe_not None x) ns) os) rest = test_no_word k.Select refl refl refl x _
+cond_no_select (cond (conj (maybe_not (Some w) x) ns) os) rest = refl
+
+-- ---- what stands beside rows
+
+aggregate_complete : (h : Aggregate) (w : Text) (rest : List Token) → aggregate_at (t.Key (aggregate_word h) w ∷ rest) ≡ Some (h, rest)
+unfolding aggregate_at
+aggregate_complete aggregate.Count w rest = refl
+aggregate_complete aggregate.Sum w rest = refl
+aggregate_complete aggregate.Min w rest = refl
+aggregate_complete aggregate.Max w rest = refl
+
+quantifier_complete : (q : Quantifier°) (rest : List Token) → quantifier_at (write_quantifier q rest) ≡ Some (quantifier_tree q, rest)
+unfolding quantifier_at
+quantifier_complete (every w) rest = refl
+quantifier_complete (any w) rest = refl
+quantifier_complete (some w) rest = refl
+
+quantifier_quantifies : (q : Quantifier°) (rest : List Token) → quantifies (write_quantifier q rest) ≡ true
+quantifier_quantifies (every w) rest = refl
+quantifier_quantifies (any w) rest = refl
+quantifier_quantifies (some w) rest = refl
+
+quantifier_no_rows : (q : Quantifier°) (rest : List Token) → begins_rows (write_quantifier q rest) ≡ false
+quantifier_no_rows (every w) rest = refl
+quantifier_no_rows (any w) rest = refl
+quantifier_no_rows (some w) rest = refl
+
+sub_begins : (b : Sub°) (rest : List Token) → begins_rows (opened (write_sub b rest)) ≡ true
+sub_begins (sub w d i u x xs f) rest = refl
+
+scalar_begins : (s : Scalar°) (rest : List Token) → begins_rows (opened (write_scalar s rest)) ≡ true
+scalar_begins (scalar w g u d a v x xs f) rest = refl
+
+quantified_follows : (op : Comparison) (q : Quantifier°) (rest : List Token) → rows_follow (t.Mark (comparison_mark op) ∷ write_quantifier q rest) ≡ true
+quantified_follows op q rest = rw (comparison_seen op (write_quantifier q rest), quantifier_quantifies q rest)
+
+scalar_follows : (op : Comparison) (s : Scalar°) (rest : List Token) → rows_follow (t.Mark (comparison_mark op) ∷ opened (write_scalar s rest)) ≡ true
+scalar_follows op s rest = rw (comparison_seen op (opened (write_scalar s rest)), scalar_begins s rest)
 
 -- n values may nest where j parentheses are open, and `below` reads conditions inside one more
 module _ (most n j : ℕ) (room : suc most ≤ n + j) (low : j ≤ most) (below : Read Condition)
     (nested : nat_le most j ≡ false → (d : Cond°) (rest : List Token) → too_deep most (suc j) (write_cond d rest) ≡ false → stops rest ≡ true → below (write_cond d rest) ≡ Some (cond_tree d, rest)) where
+  ranges_complete : (v : Text) (x : Source°) (xs : Sources°) (f : Where°) (rest : List Token) → nat_le most j ≡ false
+      → too_deep most (suc j) (write_source x (write_sources xs (write_where f rest))) ≡ false → AfterBlock rest
+      → ranges_at n below (t.Key k.From v ∷ write_source x (write_sources xs (write_where f rest))) ≡ Some ((source_tree x ∷ sources_trees xs, where_tree f), rest)
+  unfolding ranges_at
+  ranges_complete v x xs f rest few h e =
+      let h1 = (source_skip x (write_sources xs (write_where f rest))).shallow most (suc j) h in
+      let h2 = (sources_skip xs (write_where f rest)).shallow most (suc j) h1 in
+      let g = where_after_source f rest e in
+      rw (sources_complete below most (suc j) (nested few) x xs (write_where f rest) h g.0 g.1, where_complete below most (suc j) (nested few) f rest h2 e.source.stop e.filter)
+
   block_complete : (u : Text) (d : Written) (i : Item°) (v : Text) (x : Source°) (xs : Sources°) (f : Where°) (rest : List Token) → nat_le most j ≡ false
       → too_deep most (suc j) (write_word k.Distinct d (write_item i (t.Key k.From v ∷ write_source x (write_sources xs (write_where f rest))))) ≡ false → AfterBlock rest
       → block_at n below (write_word k.Distinct d (write_item i (t.Key k.From v ∷ write_source x (write_sources xs (write_where f rest))))) ≡ Some (sub_tree (sub u d i v x xs f), rest)
@@ -276,42 +342,119 @@ module _ (most n j : ℕ) (room : suc most ≤ n + j) (low : j ≤ most) (below 
       let more = t.Key k.From v ∷ write_source x (write_sources xs (write_where f rest)) in
       let h1 = (word_skip k.Distinct d (write_item i more)).shallow most (suc j) h in
       let h2 = (item_skip i more).shallow most (suc j) h1 in
-      let h3 = (source_skip x (write_sources xs (write_where f rest))).shallow most (suc j) h2 in
-      let h4 = (sources_skip xs (write_where f rest)).shallow most (suc j) h3 in
-      let g = where_after_source f rest e in
       rw (
         word_complete k.Distinct d (write_item i more) (value_no_distinct i.value (write_optional_name i.name more)),
         item_complete most n (suc j) (omega arith) (omega arith) i more h1 (after_item_from v _),
-        sources_complete below most (suc j) (nested few) x xs (write_where f rest) h2 g.0 g.1,
-        where_complete below most (suc j) (nested few) f rest h4 e.source.stop e.filter,
+        ranges_complete v x xs f rest few h2 e,
       )
 
-  exists_complete : (w : Text) (b : Sub°) (rest : List Token) → too_deep most j (write_test (exists w b) rest) ≡ false → test_at n below (write_test (exists w b) rest) ≡ Some (test_tree (exists w b), rest)
-  unfolding test_at exists_at closed too_deep
-  exists_complete w (sub u d i v x xs f) rest h =
+  subquery_complete : (b : Sub°) (rest : List Token) → too_deep most j (opened (write_sub b (close rest))) ≡ false → subquery_at n below (opened (write_sub b (close rest))) ≡ Some (sub_tree b, rest)
+  unfolding subquery_at closed too_deep
+  subquery_complete (sub u d i v x xs f) rest h =
       let o = neither {a = nat_le most j} h in
       rw (block_complete u d i v x xs f (close rest) o.0 o.1 (after_block_close rest))
 
+  -- an aggregate, of which the parenthesis is one more
+  aggregated_complete : (h : Aggregate) (u : Text) (d : Written) (a : Value°) (rest : List Token) → nat_le most j ≡ false
+      → too_deep most (suc j) (opened (write_word k.Distinct d (write_value a (close rest)))) ≡ false
+      → aggregated_at n (t.Key (aggregate_word h) u ∷ opened (write_word k.Distinct d (write_value a (close rest)))) ≡ Some ((against.One h (is_written d), value_tree a), rest)
+  unfolding aggregated_at operand_at closed too_deep
+  aggregated_complete h u d a rest few deep =
+      let less = leb-false most j few in
+      let o = neither {a = nat_le most (suc j)} deep in
+      let less' = leb-false most (suc j) o.0 in
+      let h1 = (word_skip k.Distinct d (write_value a (close rest))).shallow most (suc (suc j)) o.1 in
+      rw (
+        aggregate_complete h u (opened (write_word k.Distinct d (write_value a (close rest)))),
+        word_complete k.Distinct d (write_value a (close rest)) (value_no_distinct a (close rest)),
+        value_complete most n (suc (suc j)) (omega arith) (omega arith) a (close rest) h1 (ends_close rest),
+      )
+
+  enclosed_complete : (s : Scalar°) (rest : List Token) → too_deep most j (opened (write_scalar s (close rest))) ≡ false → enclosed_at n below (opened (write_scalar s (close rest))) ≡ Some (scalar_tree s, rest)
+  unfolding enclosed_at scalar_at closed too_deep
+  enclosed_complete (scalar w h u d a v x xs f) rest deep =
+      let o = neither {a = nat_le most j} deep in
+      let more = t.Key k.From v ∷ write_source x (write_sources xs (write_where f (close rest))) in
+      let i = neither {a = nat_le most (suc j)} o.1 in
+      let h1 = (word_skip k.Distinct d (write_value a (close more))).shallow most (suc (suc j)) i.1 in
+      let h2 = (value_skip a (close more)).shallow most (suc (suc j)) h1 in
+      rw (aggregated_complete h u d a more o.0 o.1, ranges_complete v x xs f (close rest) o.0 h2 (after_block_close rest))
+
+  exists_complete : (w : Text) (b : Sub°) (rest : List Token) → too_deep most j (write_test (exists w b) rest) ≡ false → test_at n below (write_test (exists w b) rest) ≡ Some (test_tree (exists w b), rest)
+  unfolding test_at exists_at too_deep
+  exists_complete w b rest h = rw (subquery_complete b rest h)
+
+  scalar_left_complete : (s : Scalar°) (op : Comparison) (a : Value°) (rest : List Token) → too_deep most j (write_test (scalar_left s op a) rest) ≡ false → Ends rest
+      → test_at n below (write_test (scalar_left s op a) rest) ≡ Some (test_tree (scalar_left s op a), rest)
+  unfolding test_at scalar_first_at opposed_at
+  scalar_left_complete s op a rest h e =
+      let more = t.Mark (comparison_mark op) ∷ write_value a rest in
+      let h1 = (over (scalar_skip s (close more)) stay).shallow most j h in
+      let h2 = comparison_shallow op most j (write_value a rest) h1 in
+      rw (scalar_begins s (close more), enclosed_complete s more h, comparison_complete op (write_value a rest), value_complete most n j room low a rest h2 e)
+
   -- a test that a value begins
-  begun : (a : Value°) (rest : List Token) (x : Condition × List Token) → simple_at n (write_value a rest) ≡ Some x → test_at n below (write_value a rest) ≡ Some x
+  begun : (a : Value°) (rest : List Token) (x : Condition × List Token) → simple_at n below (write_value a rest) ≡ Some x → test_at n below (write_value a rest) ≡ Some x
   unfolding test_at
-  begun a rest x h = rw (value_opens_none a rest, value_no_exists a rest) h
+  begun a rest x h = rw (value_no_rows a rest, value_opens_none a rest, value_no_exists a rest) h
+
+  -- and what follows the value
+  followed : (a : Value°) (rest : List Token) (x : Condition × List Token) → too_deep most j (write_value a rest) ≡ false → Ends rest
+      → follows_at n below (value_tree a) (begins_variable (write_value a rest)) rest ≡ Some x → test_at n below (write_value a rest) ≡ Some x
+  followed a rest x h e t = begun a rest x (follows_complete below most n j room low a rest x h e t)
+
+  quantified_complete : (a : Value°) (op : Comparison) (q : Quantifier°) (b : Sub°) (rest : List Token) → too_deep most j (write_test (quantified a op q b) rest) ≡ false
+      → test_at n below (write_test (quantified a op q b) rest) ≡ Some (test_tree (quantified a op q b), rest)
+  unfolding follows_at beside_at against_at
+  quantified_complete a op q b rest h =
+      let rows = opened (write_sub b (close rest)) in
+      let more = t.Mark (comparison_mark op) ∷ write_quantifier q rows in
+      let h1 = comparison_shallow op most j (write_quantifier q rows) ((value_skip a more).shallow most j h) in
+      let h2 = (quantifier_skip q rows).shallow most j h1 in
+      followed a more _ h (comparison_ends op (write_quantifier q rows))
+      (rw (quantified_follows op q rows, comparison_seen op (write_quantifier q rows), comparison_complete op (write_quantifier q rows), quantifier_no_rows q rows, quantifier_complete q rows, subquery_complete b rest h2))
+
+  scalar_right_complete : (a : Value°) (op : Comparison) (s : Scalar°) (rest : List Token) → too_deep most j (write_test (scalar_right a op s) rest) ≡ false
+      → test_at n below (write_test (scalar_right a op s) rest) ≡ Some (test_tree (scalar_right a op s), rest)
+  unfolding follows_at beside_at against_at
+  scalar_right_complete a op s rest h =
+      let rows = opened (write_scalar s (close rest)) in
+      let more = t.Mark (comparison_mark op) ∷ rows in
+      let h1 = comparison_shallow op most j rows ((value_skip a more).shallow most j h) in
+      followed a more _ h (comparison_ends op rows)
+      (rw (scalar_follows op s (close rest), comparison_seen op rows, comparison_complete op rows, scalar_begins s (close rest), enclosed_complete s rest h1))
+
+  among_rows_complete : (a : Value°) (neg : Written) (w : Text) (b : Sub°) (rest : List Token) → too_deep most j (write_test (among_rows a neg w b) rest) ≡ false
+      → test_at n below (write_test (among_rows a neg w b) rest) ≡ Some (test_tree (among_rows a neg w b), rest)
+  unfolding follows_at among_rows_at too_deep
+  among_rows_complete a None w b rest h =
+      let rows = opened (write_sub b (close rest)) in
+      let h1 = (value_skip a (t.Key k.In w ∷ rows)).shallow most j h in
+      followed a (t.Key k.In w ∷ rows) _ h ends_key (rw (sub_begins b (close rest), subquery_complete b rest h1))
+  among_rows_complete a (Some v) w b rest h =
+      let rows = opened (write_sub b (close rest)) in
+      let h1 = (value_skip a (t.Key k.Not v ∷ t.Key k.In w ∷ rows)).shallow most j h in
+      followed a (t.Key k.Not v ∷ t.Key k.In w ∷ rows) _ h ends_key (rw (sub_begins b (close rest), subquery_complete b rest h1))
 
   test_complete : (x : Test°) (rest : List Token) → too_deep most j (write_test x rest) ≡ false → After rest → test_at n below (write_test x rest) ≡ Some (test_tree x, rest)
   unfolding test_at closed too_deep
-  test_complete (inside x) rest h e = let o = neither {a = nat_le most j} h in rw (cond_scan x 0 (close rest), nested o.0 x (close rest) o.1 (stops_close rest))
-  test_complete (compare op a b) rest h e = begun a _ _ (compare_complete most n j room low op a b rest h e.ends)
-  test_complete (between a w v b u d) rest h e = begun a _ _ (between_complete most n j room low a b d w v u rest h e.ends)
-  test_complete (among a w v b all) rest h e = begun a _ _ (among_complete most n j room low a b all w v rest h)
-  test_complete (among_none a w v) rest h e = begun a _ _ (among_none_complete most n j room low a w v rest h)
-  test_complete (like a w v b x) rest h e = begun a _ _ (like_complete most n j room low a b x w v rest h e)
-  test_complete (null a w v u) rest h e = begun a _ _ (null_complete most n j room low a v w u rest h)
-  test_complete (empty p w v u) rest h e = empty_complete most n j room low p v w u rest h
-  test_complete (member a w v of p) rest h e = begun a _ _ (member_complete most n j room low a w v of p rest h e.ends)
+  test_complete (inside x) rest h e = let o = neither {a = nat_le most j} h in rw (cond_no_select x (close rest), cond_scan x 0 (close rest), nested o.0 x (close rest) o.1 (stops_close rest))
+  test_complete (compare op a b) rest h e = begun a _ _ (compare_complete below most n j room low op a b rest h e.ends)
+  test_complete (between a w v b u d) rest h e = begun a _ _ (between_complete below most n j room low a b d w v u rest h e.ends)
+  test_complete (among a w v b all) rest h e = begun a _ _ (among_complete below most n j room low a b all w v rest h)
+  test_complete (among_none a w v) rest h e = begun a _ _ (among_none_complete below most n j room low a w v rest h)
+  test_complete (like a w v b x) rest h e = begun a _ _ (like_complete below most n j room low a b x w v rest h e)
+  test_complete (null a w v u) rest h e = begun a _ _ (null_complete below most n j room low a v w u rest h)
+  test_complete (empty p w v u) rest h e = empty_complete below most n j room low p v w u rest h
+  test_complete (member a w v of p) rest h e = begun a _ _ (member_complete below most n j room low a w v of p rest h e.ends)
   test_complete (exists w b) rest h e = exists_complete w b rest h
-  test_complete (type_is w x y) rest h e = type_complete n w x y rest
-  test_complete (type_is_not w x y) rest h e = type_not_complete n w x y rest
-  test_complete (type_among w x v u y ys) rest h e = type_among_complete most n j w x v u y ys rest h
+  test_complete (quantified a op q b) rest h e = quantified_complete a op q b rest h
+  test_complete (among_rows a w v b) rest h e = among_rows_complete a w v b rest h
+  test_complete (scalar_right a op s) rest h e = scalar_right_complete a op s rest h
+  test_complete (scalar_left s op a) rest h e = scalar_left_complete s op a rest h e.ends
+  test_complete (type_is w x y) rest h e = type_complete below n w x y rest
+  test_complete (type_is_not w x y) rest h e = type_not_complete below n w x y rest
+  test_complete (type_among w x v u y ys) rest h e = type_among_complete below most n j w x v u y ys rest h
 
   not_complete : (x : Not°) (rest : List Token) → too_deep most j (write_not x rest) ≡ false → After rest → not_at n below (write_not x rest) ≡ Some (not_tree x, rest)
   unfolding not_at too_deep

@@ -5,6 +5,11 @@ use Rattle.jpql_grammar.specs.declared.token.Keyword.TheVariants as k
 use Rattle.jpql_grammar.specs.declared.token.Mark.TheVariants as m
 use Rattle.jpql_grammar.specs.declared.token.Token.{Token}
 use Rattle.jpql_grammar.specs.declared.token.Token.TheVariants as t
+use Rattle.jpql_tree.specs.declared.Aggregate.{Aggregate}
+use Rattle.jpql_tree.specs.declared.Against.{Against}
+use Rattle.jpql_tree.specs.declared.Against.TheVariants as against
+use Rattle.jpql_tree.specs.declared.Comparison.{Comparison}
+use Rattle.jpql_tree.specs.declared.Comparison.TheVariants as c
 use Rattle.jpql_tree.specs.declared.Value.{Value}
 use Rattle.jpql_tree.specs.declared.Item.{Item}
 use Rattle.jpql_tree.specs.declared.Origin.{Origin}
@@ -15,12 +20,12 @@ use Rattle.jpql_tree.specs.declared.Block.{Block, roll-Block}
 use Rattle.jpql_tree.specs.declared.Source.{Source, roll-Source}
 use Rattle.jpql_tree.specs.declared.Join.{Join, roll-Join}
 use Rattle.jpql_tree.specs.Names.{Text}
-use Rattle.jpql_grammar.specs.Parts.{Name, name_token, name_text}
-use Rattle.jpql_grammar.specs.Grammar.{write_value, write_others, value_tree, Written, write_word, is_written, write_named, write_optional_name, optional_name, write_item, item_tree, Side, inner, left, write_side, is_left, entity, related, Cond°, cond, no_ors, or, conj, no_ands, and, maybe_not, inside, exists, sub, Source°, source, Sources°, no_sources, sources, no_joins, joins, join, On°, no_on, on, Where°, no_where, filter, write_cond, write_ors, write_and, write_ands, write_not, write_test, write_sub, write_source, write_sources, write_joins, write_join, write_on, write_where, cond_tree, ors_tree, and_tree, ands_tree, not_tree, test_tree, sub_tree, source_tree, sources_trees, joins_trees, join_tree, on_tree, where_tree}
+use Rattle.jpql_grammar.specs.Parts.{Name, name_token, name_text, aggregate_word, every, any, some, write_quantifier, quantifier_tree, turned}
+use Rattle.jpql_grammar.specs.Grammar.{Value°, write_value, write_others, value_tree, comparison_mark, Written, write_word, is_written, write_named, write_optional_name, optional_name, write_item, item_tree, Side, inner, left, write_side, is_left, entity, related, Cond°, cond, no_ors, or, conj, no_ands, and, maybe_not, inside, exists, quantified, among_rows, scalar_right, scalar_left, sub, scalar, Source°, source, Sources°, no_sources, sources, no_joins, joins, join, On°, no_on, on, Where°, no_where, filter, write_cond, write_ors, write_and, write_ands, write_not, write_test, write_sub, write_scalar, write_source, write_sources, write_joins, write_join, write_on, write_where, cond_tree, ors_tree, and_tree, ands_tree, not_tree, test_tree, sub_tree, scalar_tree, source_tree, sources_trees, joins_trees, join_tree, on_tree, where_tree}
 use Rattle.jpql_grammar.specs.Values.{Read, sees, after, is_word, after_word, optional_word, name_at, variable_at, list_at, closed, value_at}
-use Rattle.jpql_grammar.specs.Conditions.{has_test, opens_condition, begins_variable, named_at, optional_name_at, item_at, begins_related, related_at, origin_at, begins_join, side_at, clause_at, join_at, joins_at, source_at, block_at, exists_at, test_at, not_at, ands_at, and_at, ors_at, cond_level_at, cond_at}
-use Rattle.jpql_grammar.proofs.Tools.{step, choice, sees_is, after_is, word_is, after_word_is, optional_word_is, name_sound, variable_sound}
-use Rattle.jpql_grammar.proofs.TestsSound.{both, simple_sound}
+use Rattle.jpql_grammar.specs.Conditions.{has_test, opens_condition, begins_variable, named_at, optional_name_at, item_at, begins_related, related_at, origin_at, begins_join, side_at, clause_at, join_at, joins_at, source_at, comparison_at, negated_if, sees_comparison, quantifier_at, aggregate_at, operand_at, aggregated_at, opposed_at, begins_rows, selected, rows_follow, ranges_at, block_at, scalar_at, subquery_at, enclosed_at, exists_at, against_at, scalar_first_at, beside_at, among_rows_at, follows_at, valued_at, simple_at, test_at, not_at, ands_at, and_at, ors_at, cond_level_at, cond_at}
+use Rattle.jpql_grammar.proofs.Tools.{step, choice, same, sees_is, after_is, word_is, after_word_is, optional_word_is, name_sound, variable_sound}
+use Rattle.jpql_grammar.proofs.TestsSound.{both, comparison_sound, negated_is, tested_sound, typed_sound}
 use Rattle.jpql_grammar.proofs.ValuesSound.{Wrote, value_sound, list_sound, closed_sound, write_list, list_trees, write_closed, nothing, leaf}
 
 -- ---- names, items, relations
@@ -163,6 +168,16 @@ unfolding sources_of
 sources_of_treed [] = refl
 sources_of_treed (x ∷ xs) = ap (λ ys. source_tree x ∷ ys) (sources_of_treed xs)
 
+-- FROM, its ranges and WHERE
+data Ranges° : Type 0 where
+  ranges : Text → Source° → Sources° → Where° → Ranges°
+
+abbrev write_ranges : Ranges° → List Token → List Token
+write_ranges (ranges v x xs f) rest = t.Key k.From v ∷ write_source x (write_sources xs (write_where f rest))
+
+abbrev ranges_trees : Ranges° → List Source × Option Condition
+ranges_trees (ranges v x xs f) = (source_tree x ∷ sources_trees xs, where_tree f)
+
 module _ (below : Read Condition) (nested : (ts : List Token) (x : Condition × List Token) → below ts ≡ Some x → Wrote write_cond cond_tree ts x) where
   clause_glued : (word : Keyword) (ts : List Token) (a : Condition × List Token) (x : Option Condition × List Token) → (w : Text) × (t.Key word w ∷ drop 1 ts ≡ ts)
       → Wrote write_cond cond_tree (drop 1 ts) a → Some (Some a.0, a.1) ≡ Some x → Wrote (write_clause° word) clause_tree ts x
@@ -211,45 +226,233 @@ module _ (below : Read Condition) (nested : (ts : List Token) (x : Condition × 
   source_sound ts x h = step (origin_at true ts) _ _ h (λ o eo ho. step (named_at o.1) _ _ ho (λ w ew hw. step (joins_at below (length w.1) [] w.1) _ _ hw (λ js ej hj.
       source_glued ts o w js x (origin_sound true ts o eo) (named_sound o.1 w ew) (joins_sound (length w.1) [] w.1 js ej) hj)))
 
-  block_glued : (u : Text) (ts mid more : List Token) (d : Bool) (i : Item × List Token) (xs : List Source × List Token) (f : Option Condition × List Token) (x : Block × List Token)
-      → (w : Written) × (write_word k.Distinct w mid ≡ ts) × (is_written w ≡ d) → Wrote write_item item_tree mid i → (v : Text) × (t.Key k.From v ∷ more ≡ i.1)
-      → Wrote (write_list write_source) (list_trees source_tree) more xs → Wrote (write_clause° k.Where) clause_tree xs.1 f
-      → Some (roll-Block (record { is_distinct = d; item = i.0; sources = xs.0; filter = f.0 }), f.1) ≡ Some x → Wrote write_sub sub_tree (t.Key k.Select u ∷ ts) x
-  block_glued u ts mid more d i xs f x (w, ew, tw) (a, ea, ta) (v, ev) ((y, ys), ey, ty) (c, ec, tc) h =
+  ranges_glued : (ts more : List Token) (xs : List Source × List Token) (f : Option Condition × List Token) (x : (List Source × Option Condition) × List Token)
+      → (v : Text) × (t.Key k.From v ∷ more ≡ ts) → Wrote (write_list write_source) (list_trees source_tree) more xs → Wrote (write_clause° k.Where) clause_tree xs.1 f
+      → Some ((xs.0, f.0), f.1) ≡ Some x → Wrote write_ranges ranges_trees ts x
+  ranges_glued ts more xs f x (v, ev) ((y, ys), ey, ty) (c, ec, tc) h =
       let is = where_of_is c f.1 in
-      leaf write_sub sub_tree (sub u w a v y (sources_of ys) (where_of c)) _ f.1 _ x h
-      (rw (is.0, ec, sources_of_written ys xs.1, ey, ev, ea, ew)) (rw (is.1, sources_of_treed ys) (rw (tw, ta, ty, tc)))
+      leaf write_ranges ranges_trees (ranges v y (sources_of ys) (where_of c)) (xs.0, f.0) f.1 ts x h
+      (rw (is.0, ec, sources_of_written ys xs.1, ey, ev)) (rw (is.1, sources_of_treed ys) (rw (ty, tc)))
+
+-- ---- what stands beside rows
+
+quantifier_sound : (ts : List Token) (x : Against × List Token) → quantifier_at ts ≡ Some x → Wrote write_quantifier quantifier_tree ts x
+unfolding quantifier_at
+quantifier_sound [] x h = absurd cc
+quantifier_sound (t.Key k.All w ∷ ts) x h = leaf write_quantifier quantifier_tree (every w) against.All ts _ x h refl refl
+quantifier_sound (t.Key k.Any w ∷ ts) x h = leaf write_quantifier quantifier_tree (any w) against.Any ts _ x h refl refl
+quantifier_sound (t.Key k.Some w ∷ ts) x h = leaf write_quantifier quantifier_tree (some w) against.Any ts _ x h refl refl
+quantifier_sound (t.Key _ w ∷ ts) x h = absurd cc
+quantifier_sound (_ ∷ ts) x h = absurd cc
+
+aggregate_sound : (ts : List Token) (x : Aggregate × List Token) → aggregate_at ts ≡ Some x → (w : Text) × (t.Key (aggregate_word x.0) w ∷ x.1 ≡ ts)
+unfolding aggregate_at
+aggregate_sound [] x h = absurd cc
+aggregate_sound (t.Key k.Count w ∷ ts) x h = let e = same _ _ h in (w, rw (← e))
+aggregate_sound (t.Key k.Sum w ∷ ts) x h = let e = same _ _ h in (w, rw (← e))
+aggregate_sound (t.Key k.Min w ∷ ts) x h = let e = same _ _ h in (w, rw (← e))
+aggregate_sound (t.Key k.Max w ∷ ts) x h = let e = same _ _ h in (w, rw (← e))
+aggregate_sound (t.Key _ w ∷ ts) x h = absurd cc
+aggregate_sound (_ ∷ ts) x h = absurd cc
+
+-- [DISTINCT] value ")"
+abbrev write_operand : Written × Value° → List Token → List Token
+write_operand d rest = write_word k.Distinct d.0 (write_value d.1 (t.Mark m.Close ∷ rest))
+
+abbrev operand_tree : Written × Value° → Bool × Value
+operand_tree d = (is_written d.0, value_tree d.1)
+
+operand_glued : (ts mid : List Token) (b : Bool) (a : Value × List Token) (x : (Bool × Value) × List Token)
+    → (w : Written) × (write_word k.Distinct w mid ≡ ts) × (is_written w ≡ b) → Wrote (write_closed write_value) value_tree mid a → Some ((b, a.0), a.1) ≡ Some x → Wrote write_operand operand_tree ts x
+operand_glued ts mid b a x (w, ew, tw) (d, ed, td) h = leaf write_operand operand_tree (w, d) (b, a.0) a.1 ts x h (rw (ed, ew)) (rw (tw, td))
+
+operand_sound : (n : ℕ) (ts : List Token) (x : (Bool × Value) × List Token) → operand_at n ts ≡ Some x → Wrote write_operand operand_tree ts x
+unfolding operand_at
+operand_sound n ts x h = let d = optional_word k.Distinct ts in step (closed (value_at n d.1)) _ _ h (λ a ea ha.
+    operand_glued ts d.1 d.0 a x (optional_word_is k.Distinct ts) (closed_sound write_value value_tree d.1 (value_at n d.1) (value_sound n d.1) a ea) ha)
+
+-- aggregate "(" [DISTINCT] value ")"
+data Aggregated° : Type 0 where
+  aggregated : Aggregate → Text → Written → Value° → Aggregated°
+
+abbrev write_aggregated : Aggregated° → List Token → List Token
+write_aggregated (aggregated h u d a) rest = t.Key (aggregate_word h) u ∷ t.Mark m.Open ∷ write_word k.Distinct d (write_value a (t.Mark m.Close ∷ rest))
+
+abbrev aggregated_tree : Aggregated° → Against × Value
+aggregated_tree (aggregated h u d a) = (against.One h (is_written d), value_tree a)
+
+aggregated_glued : (ts more : List Token) (h : Aggregate × List Token) (a : (Bool × Value) × List Token) (x : (Against × Value) × List Token)
+    → (u : Text) × (t.Key (aggregate_word h.0) u ∷ h.1 ≡ ts) → t.Mark m.Open ∷ more ≡ h.1 → Wrote write_operand operand_tree more a
+    → Some ((against.One h.0 a.0.0, a.0.1), a.1) ≡ Some x → Wrote write_aggregated aggregated_tree ts x
+aggregated_glued ts more h a x (u, eu) eo ((w, d), ed, td) e =
+    leaf write_aggregated aggregated_tree (aggregated h.0 u w d) (against.One h.0 a.0.0, a.0.1) a.1 ts x e (rw (ed, eo, eu)) (rw (← td))
+
+aggregated_sound : (n : ℕ) (ts : List Token) (x : (Against × Value) × List Token) → aggregated_at n ts ≡ Some x → Wrote write_aggregated aggregated_tree ts x
+unfolding aggregated_at
+aggregated_sound n ts x e = step (aggregate_at ts) _ _ e (λ h eh hh. step (after m.Open h.1) _ _ hh (λ more em hm. step (operand_at n more) _ _ hm (λ a ea ha.
+    aggregated_glued ts more h a x (aggregate_sound ts h eh) (after_is m.Open h.1 more em) (operand_sound n more a ea) ha)))
+
+-- op value
+abbrev write_opposed : Comparison × Value° → List Token → List Token
+write_opposed d rest = t.Mark (comparison_mark d.0) ∷ write_value d.1 rest
+
+abbrev opposed_tree : Comparison × Value° → Comparison × Value
+opposed_tree d = (d.0, value_tree d.1)
+
+opposed_glued : (ts : List Token) (op : Comparison × List Token) (a : Value × List Token) (x : (Comparison × Value) × List Token)
+    → t.Mark (comparison_mark op.0) ∷ op.1 ≡ ts → Wrote write_value value_tree op.1 a → Some ((op.0, a.0), a.1) ≡ Some x → Wrote write_opposed opposed_tree ts x
+opposed_glued ts op a x eo (d, ed, td) h = leaf write_opposed opposed_tree (op.0, d) (op.0, a.0) a.1 ts x h (rw (ed, eo)) (rw td)
+
+opposed_sound : (n : ℕ) (ts : List Token) (x : (Comparison × Value) × List Token) → opposed_at n ts ≡ Some x → Wrote write_opposed opposed_tree ts x
+unfolding opposed_at
+opposed_sound n ts x h = step (comparison_at ts) _ _ h (λ op eo ho. step (value_at n op.1) _ _ ho (λ a ea ha.
+    opposed_glued ts op a x (comparison_sound ts op eo) (value_sound n op.1 a ea) ha))
+
+-- a SELECT in parentheses
+abbrev write_selected : {D : Type 0} → (D → List Token → List Token) → D → List Token → List Token
+write_selected write d rest = t.Mark m.Open ∷ write d (t.Mark m.Close ∷ rest)
+
+-- `one` reads what follows SELECT
+selected_sound : {D A : Type 0} (write : D → List Token → List Token) (tree : D → A) (one : Read A)
+    → ((u : Text) (ts : List Token) (x : A × List Token) → one ts ≡ Some x → Wrote write tree (t.Key k.Select u ∷ ts) x)
+    → (ts rest : List Token) (x : A × List Token) → selected ts ≡ Some rest → closed (one rest) ≡ Some x → Wrote (write_selected write) tree ts x
+selected_sound write tree one sound ts rest x s h = step (after m.Open ts) _ _ s (λ more em hm.
+    glued more (after_is m.Open ts more em) (after_word_is k.Select more rest hm))
+  where
+    glued : (more : List Token) → t.Mark m.Open ∷ more ≡ ts → (u : Text) × (t.Key k.Select u ∷ rest ≡ more) → Wrote (write_selected write) tree ts x
+    glued more eo (u, eu) =
+        let (d, ed, td) = closed_sound write tree (t.Key k.Select u ∷ rest) (one rest) (λ a ea. sound u rest a ea) x h in
+        (d, rw (ed, eu, eo), td)
 
 module _ (n : ℕ) (below : Read Condition) (nested : (ts : List Token) (x : Condition × List Token) → below ts ≡ Some x → Wrote write_cond cond_tree ts x) where
+  ranges_sound : (ts : List Token) (x : (List Source × Option Condition) × List Token) → ranges_at n below ts ≡ Some x → Wrote write_ranges ranges_trees ts x
+  unfolding ranges_at
+  ranges_sound ts x h = step (after_word k.From ts) _ _ h (λ more em hm. step (list_at (source_at below true) more) _ _ hm (λ xs es hs. step (clause_at below k.Where xs.1) _ _ hs (λ f ef hf.
+      ranges_glued below nested ts more xs f x (after_word_is k.From ts more em)
+      (list_sound (source_at below true) write_source source_tree (source_sound below nested) more xs es) (clause_sound below nested k.Where xs.1 f ef) hf)))
+
+  block_glued : (u : Text) (ts mid : List Token) (d : Bool) (i : Item × List Token) (r : (List Source × Option Condition) × List Token) (x : Block × List Token)
+      → (w : Written) × (write_word k.Distinct w mid ≡ ts) × (is_written w ≡ d) → Wrote write_item item_tree mid i → Wrote write_ranges ranges_trees i.1 r
+      → Some (roll-Block (record { is_distinct = d; item = i.0; sources = r.0.0; filter = r.0.1 }), r.1) ≡ Some x → Wrote write_sub sub_tree (t.Key k.Select u ∷ ts) x
+  block_glued u ts mid d i r x (w, ew, tw) (a, ea, ta) (ranges v y ys f, er, tr) h =
+      leaf write_sub sub_tree (sub u w a v y ys f) _ r.1 _ x h (rw (er, ea, ew)) (rw (tw, ta, ← tr))
+
   block_sound : (u : Text) (ts : List Token) (x : Block × List Token) → block_at n below ts ≡ Some x → Wrote write_sub sub_tree (t.Key k.Select u ∷ ts) x
   unfolding block_at
   block_sound u ts x h = let d = optional_word k.Distinct ts in
-      step (item_at n d.1) _ _ h (λ i ei hi. step (after_word k.From i.1) _ _ hi (λ more em hm. step (list_at (source_at below true) more) _ _ hm (λ xs es hs. step (clause_at below k.Where xs.1) _ _ hs (λ f ef hf.
-      block_glued below nested u ts d.1 more d.0 i xs f x (optional_word_is k.Distinct ts) (item_sound n d.1 i ei) (after_word_is k.From i.1 more em)
-      (list_sound (source_at below true) write_source source_tree (source_sound below nested) more xs es) (clause_sound below nested k.Where xs.1 f ef) hf))))
+      step (item_at n d.1) _ _ h (λ i ei hi. step (ranges_at n below i.1) _ _ hi (λ r er hr.
+      block_glued u ts d.1 d.0 i r x (optional_word_is k.Distinct ts) (item_sound n d.1 i ei) (ranges_sound i.1 r er) hr))
 
-  exists_glued : (w : Text) (ts more rest : List Token) (b : Block × List Token) (x : Condition × List Token) (u : Text) → t.Mark m.Open ∷ more ≡ ts → t.Key k.Select u ∷ rest ≡ more
-      → Wrote (write_closed write_sub) sub_tree (t.Key k.Select u ∷ rest) b → Some (is.Exists b.0, b.1) ≡ Some x → Wrote write_test test_tree (t.Key k.Exists w ∷ ts) x
-  exists_glued w ts more rest b x u eo es (d, ed, td) h = leaf write_test test_tree (exists w d) (is.Exists b.0) b.1 _ x h (rw (ed, es, eo)) (rw td)
+  scalar_glued : (w : Text) (ts : List Token) (a : (Against × Value) × List Token) (r : (List Source × Option Condition) × List Token) (x : (Against × Block) × List Token)
+      → Wrote write_aggregated aggregated_tree ts a → Wrote write_ranges ranges_trees a.1 r
+      → Some ((a.0.0, roll-Block (record { is_distinct = false; item = record { value = a.0.1; name = None }; sources = r.0.0; filter = r.0.1 })), r.1) ≡ Some x
+      → Wrote write_scalar scalar_tree (t.Key k.Select w ∷ ts) x
+  scalar_glued w ts a r x (aggregated h u d b, eb, tb) (ranges v y ys f, er, tr) e =
+      leaf write_scalar scalar_tree (scalar w h u d b v y ys f) _ r.1 _ x e (rw (er, eb)) (rw (← tb, ← tr))
+
+  scalar_sound : (w : Text) (ts : List Token) (x : (Against × Block) × List Token) → scalar_at n below ts ≡ Some x → Wrote write_scalar scalar_tree (t.Key k.Select w ∷ ts) x
+  unfolding scalar_at
+  scalar_sound w ts x e = step (aggregated_at n ts) _ _ e (λ a ea ha. step (ranges_at n below a.1) _ _ ha (λ r er hr.
+      scalar_glued w ts a r x (aggregated_sound n ts a ea) (ranges_sound a.1 r er) hr))
+
+  subquery_sound : (ts : List Token) (x : Block × List Token) → subquery_at n below ts ≡ Some x → Wrote (write_selected write_sub) sub_tree ts x
+  unfolding subquery_at
+  subquery_sound ts x h = step (selected ts) _ _ h (λ more em hm. selected_sound write_sub sub_tree (block_at n below) block_sound ts more x em hm)
+
+  enclosed_sound : (ts : List Token) (x : (Against × Block) × List Token) → enclosed_at n below ts ≡ Some x → Wrote (write_selected write_scalar) scalar_tree ts x
+  unfolding enclosed_at
+  enclosed_sound ts x h = step (selected ts) _ _ h (λ more em hm. selected_sound write_scalar scalar_tree (scalar_at n below) scalar_sound ts more x em hm)
+
+  exists_glued : (w : Text) (ts : List Token) (b : Block × List Token) (x : Condition × List Token)
+      → Wrote (write_selected write_sub) sub_tree ts b → Some (is.Exists b.0, b.1) ≡ Some x → Wrote write_test test_tree (t.Key k.Exists w ∷ ts) x
+  exists_glued w ts b x (d, ed, td) h = leaf write_test test_tree (exists w d) (is.Exists b.0) b.1 _ x h (rw ed) (rw td)
 
   exists_sound : (w : Text) (ts : List Token) (x : Condition × List Token) → exists_at n below ts ≡ Some x → Wrote write_test test_tree (t.Key k.Exists w ∷ ts) x
   unfolding exists_at
-  exists_sound w ts x h = step (after m.Open ts) _ _ h (λ more em hm. step (after_word k.Select more) _ _ hm (λ rest er hr. step (closed (block_at n below rest)) _ _ hr (λ b eb hb.
-      let (u, eu) = after_word_is k.Select more rest er in
-      exists_glued w ts more rest b x u (after_is m.Open ts more em) eu
-      (closed_sound write_sub sub_tree (t.Key k.Select u ∷ rest) (block_at n below rest) (λ a ea. block_sound u rest a ea) b eb) hb)))
+  exists_sound w ts x h = step (subquery_at n below ts) _ _ h (λ b eb hb. exists_glued w ts b x (subquery_sound ts b eb) hb)
+
+  scalar_first_glued : (ts : List Token) (s : (Against × Block) × List Token) (a : (Comparison × Value) × List Token) (x : Condition × List Token)
+      → Wrote (write_selected write_scalar) scalar_tree ts s → Wrote write_opposed opposed_tree s.1 a
+      → Some (is.Rows s.0.0 (turned a.0.0) a.0.1 s.0.1, a.1) ≡ Some x → Wrote write_test test_tree ts x
+  scalar_first_glued ts s a x (d, ed, td) ((op, b), eb, tb) h =
+      leaf write_test test_tree (scalar_left d op b) (is.Rows s.0.0 (turned a.0.0) a.0.1 s.0.1) a.1 ts x h (rw (eb, ed)) (rw (← td, ← tb))
+
+  scalar_first_sound : (ts : List Token) (x : Condition × List Token) → scalar_first_at n below ts ≡ Some x → Wrote write_test test_tree ts x
+  unfolding scalar_first_at
+  scalar_first_sound ts x h = step (enclosed_at n below ts) _ _ h (λ s es hs. step (opposed_at n s.1) _ _ hs (λ a ea ha.
+      scalar_first_glued ts s a x (enclosed_sound ts s es) (opposed_sound n s.1 a ea) ha))
+
+  -- behind a value and a comparison
+  beside_scalar : (d : Value°) (ts : List Token) (op : Comparison × List Token) (s : (Against × Block) × List Token) (x : Condition × List Token)
+      → t.Mark (comparison_mark op.0) ∷ op.1 ≡ ts → Wrote (write_selected write_scalar) scalar_tree op.1 s
+      → Some (is.Rows s.0.0 op.0 (value_tree d) s.0.1, s.1) ≡ Some x → Wrote write_test test_tree (write_value d ts) x
+  beside_scalar d ts op s x eo (e, ee, te) h =
+      leaf write_test test_tree (scalar_right d op.0 e) (is.Rows s.0.0 op.0 (value_tree d) s.0.1) s.1 (write_value d ts) x h (rw (ee, eo)) (rw (← te))
+
+  beside_rows : (d : Value°) (ts : List Token) (op : Comparison × List Token) (q : Against × List Token) (b : Block × List Token) (y : (Against × Block) × List Token) (x : Condition × List Token)
+      → t.Mark (comparison_mark op.0) ∷ op.1 ≡ ts → Wrote write_quantifier quantifier_tree op.1 q → Wrote (write_selected write_sub) sub_tree q.1 b
+      → Some ((q.0, b.0), b.1) ≡ Some y → Some (is.Rows y.0.0 op.0 (value_tree d) y.0.1, y.1) ≡ Some x → Wrote write_test test_tree (write_value d ts) x
+  beside_rows d ts op q b y x eo (p, ep, tp) (e, ee, te) hy h =
+      leaf write_test test_tree (quantified d op.0 p e) (is.Rows q.0 op.0 (value_tree d) b.0) b.1 (write_value d ts) x
+      (subst (λ (z : (Against × Block) × List Token). Some (is.Rows z.0.0 op.0 (value_tree d) z.0.1, z.1) ≡ Some x) (sym (same _ _ hy)) h) (rw (ee, ep, eo)) (rw (tp, te))
+
+  beside_against : (d : Value°) (ts : List Token) (op : Comparison × List Token) (y : (Against × Block) × List Token) (x : Condition × List Token)
+      → t.Mark (comparison_mark op.0) ∷ op.1 ≡ ts → against_at n below op.1 ≡ Some y
+      → Some (is.Rows y.0.0 op.0 (value_tree d) y.0.1, y.1) ≡ Some x → Wrote write_test test_tree (write_value d ts) x
+  unfolding against_at
+  beside_against d ts op y x eo ey h = choice (begins_rows op.1) _ _ _ ey
+      (λ b h1. beside_scalar d ts op y x eo (enclosed_sound op.1 y h1) h)
+      (λ b h1. step (quantifier_at op.1) _ _ h1 (λ q eq hq. step (subquery_at n below q.1) _ _ hq (λ r er hr.
+      beside_rows d ts op q r y x eo (quantifier_sound op.1 q eq) (subquery_sound q.1 r er) hr h)))
+
+  beside_sound : (d : Value°) (ts : List Token) (x : Condition × List Token) → beside_at n below (value_tree d) ts ≡ Some x → Wrote write_test test_tree (write_value d ts) x
+  unfolding beside_at
+  beside_sound d ts x h = step (comparison_at ts) _ _ h (λ op eo ho. step (against_at n below op.1) _ _ ho (λ y ey hy.
+      beside_against d ts op y x (comparison_sound ts op eo) ey hy))
+
+  among_rows_glued : (d : Value°) (ts mid more : List Token) (neg : Bool) (b : Block × List Token) (x : Condition × List Token)
+      → (n : Written) × (write_word k.Not n mid ≡ ts) × (is_written n ≡ neg) → (w : Text) × (t.Key k.In w ∷ more ≡ mid) → Wrote (write_selected write_sub) sub_tree more b
+      → Some (negated_if neg (is.Rows against.Any c.Equal (value_tree d) b.0), b.1) ≡ Some x → Wrote write_test test_tree (write_value d ts) x
+  among_rows_glued d ts mid more neg b x (n, en, tn) (w, ew) (e, ee, te) h =
+      leaf write_test test_tree (among_rows d n w e) (negated_if neg (is.Rows against.Any c.Equal (value_tree d) b.0)) b.1 (write_value d ts) x h (rw (ee, ew, en)) (rw te (negated_is n neg _ tn))
+
+  among_rows_sound : (d : Value°) (ts : List Token) (x : Condition × List Token) → among_rows_at n below (value_tree d) ts ≡ Some x → Wrote write_test test_tree (write_value d ts) x
+  unfolding among_rows_at
+  among_rows_sound d ts x h = let neg = optional_word k.Not ts in
+      step (after_word k.In neg.1) _ _ h (λ more em hm. step (subquery_at n below more) _ _ hm (λ b eb hb.
+      among_rows_glued d ts neg.1 more neg.0 b x (optional_word_is k.Not ts) (after_word_is k.In neg.1 more em) (subquery_sound more b eb) hb))
+
+  follows_sound : (d : Value°) (ts : List Token) (x : Condition × List Token) → follows_at n below (value_tree d) (begins_variable (write_value d ts)) ts ≡ Some x
+      → Wrote write_test test_tree (write_value d ts) x
+  unfolding follows_at
+  follows_sound d ts x h = choice (rows_follow ts) _ _ _ h
+      (λ b h1. choice (sees_comparison ts) _ _ _ h1 (λ b h2. beside_sound d ts x h2) (λ b h2. among_rows_sound d ts x h2))
+      (λ b h1. tested_sound n d ts x h1)
+
+  valued_glued : (ts : List Token) (a : Value × List Token) (x : Condition × List Token) → Wrote write_value value_tree ts a
+      → follows_at n below a.0 (begins_variable ts) a.1 ≡ Some x → Wrote write_test test_tree ts x
+  valued_glued ts a x (d, ed, td) h =
+      subst (λ us. Wrote write_test test_tree us x) ed (follows_sound d a.1 x (rw (td, ed) h))
+
+  simple_sound : (ts : List Token) (x : Condition × List Token) → simple_at n below ts ≡ Some x → Wrote write_test test_tree ts x
+  unfolding simple_at valued_at
+  simple_sound ts x h = choice (is_word k.Type ts) _ _ _ h
+      (λ b h1. let (w, ew) = word_is k.Type ts b in subst (λ us. Wrote write_test test_tree us x) ew (typed_sound w (drop 1 ts) x h1))
+      (λ b h1. step (value_at n ts) _ _ h1 (λ a ea ha. valued_glued ts a x (value_sound n ts a ea) ha))
 
   inside_glued : (ts : List Token) (x : Condition × List Token) → sees m.Open ts ≡ true → Wrote (write_closed write_cond) cond_tree (drop 1 ts) x → Wrote write_test test_tree ts x
   inside_glued ts x o (d, ed, td) = (inside d, rw ed (sees_is m.Open ts o), td)
 
   test_sound : (ts : List Token) (x : Condition × List Token) → test_at n below ts ≡ Some x → Wrote write_test test_tree ts x
   unfolding test_at
-  test_sound ts x h = choice (opens_condition ts) _ _ _ h
-      (λ b h1. both (sees m.Open ts) (has_test 0 false (drop 1 ts)) b (λ o u.
-      inside_glued ts x o (closed_sound write_cond cond_tree (drop 1 ts) (below (drop 1 ts)) (nested (drop 1 ts)) x h1)))
-      (λ b h1. choice (is_word k.Exists ts) _ _ _ h1
-      (λ b h2. let (w, ew) = word_is k.Exists ts b in subst (λ us. Wrote write_test test_tree us x) ew (exists_sound w (drop 1 ts) x h2))
-      (λ b h2. simple_sound n ts x h2))
+  test_sound ts x h = choice (begins_rows ts) _ _ _ h
+      (λ b h1. scalar_first_sound ts x h1)
+      (λ b h1. choice (opens_condition ts) _ _ _ h1
+      (λ b h2. both (sees m.Open ts) (has_test 0 false (drop 1 ts)) b (λ o u.
+      inside_glued ts x o (closed_sound write_cond cond_tree (drop 1 ts) (below (drop 1 ts)) (nested (drop 1 ts)) x h2)))
+      (λ b h2. choice (is_word k.Exists ts) _ _ _ h2
+      (λ b h3. let (w, ew) = word_is k.Exists ts b in subst (λ us. Wrote write_test test_tree us x) ew (exists_sound w (drop 1 ts) x h3))
+      (λ b h3. simple_sound ts x h3)))
 
   not_glued : (ts : List Token) (a x : Condition × List Token) → (w : Text) × (t.Key k.Not w ∷ drop 1 ts ≡ ts) → Wrote write_test test_tree (drop 1 ts) a
       → Some (is.Not a.0, a.1) ≡ Some x → Wrote write_not not_tree ts x

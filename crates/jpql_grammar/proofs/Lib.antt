@@ -20,3 +20,4 @@ mod Samples
 mod CallSamples
 mod KeySamples
 mod ListSamples
+mod RowSamples

@@ -3,12 +3,14 @@
 use Rattle.std.proofs.Common.{◌≡◌, ℕ, zero, suc, true, false, List, [], ◌∷◌, Option, Some, None, refl, ◌∙◌}
 use Rattle.jpql_grammar.specs.declared.token.Keyword.TheVariants as k
 use Rattle.jpql_grammar.specs.declared.token.Token.{Token}
+use Rattle.jpql_grammar.specs.declared.token.Mark.TheVariants as m
 use Rattle.jpql_grammar.specs.declared.token.Token.TheVariants as t
 use Rattle.jpql_tree.specs.declared.Trimmed.TheVariants as side
 use Rattle.jpql_tree.specs.declared.Aggregate.TheVariants as g
+use Rattle.jpql_tree.specs.declared.Comparison.{Comparison}
 use Rattle.jpql_tree.specs.declared.Comparison.TheVariants as c
 use Rattle.jpql_grammar.specs.Parts.{Name, plain, word, Steps, write_names, write_path, Taken°, taken_text, taken_parameter, Trimming°, unwritten_trimming, sided, unsided, write_taken, write_trimming}
-use Rattle.jpql_grammar.specs.Grammar.{Value°, sum, Sums°, no_sums, plus, minus, Product°, product, Times°, no_times, times, Unary°, unsigned, positive, negative, Atom°, integer, text, parameter, path, call, group, Call°, length_of, concat, substring_from, substring, locate, locate_from, abs, modulo, size, coalesce, null_if, upper, lower, trim, aggregate, aggregate_distinct, More°, no_more, more, write_value, write_sums, write_product, write_times, write_unary, write_atom, write_call, write_more, Cond°, cond, conj, maybe_not, Test°, inside, compare, between, among, among_none, like, null, empty, member, exists, type_is, type_is_not, type_among, write_cond, write_ors, write_ands, write_test}
+use Rattle.jpql_grammar.specs.Grammar.{Value°, sum, Sums°, no_sums, plus, minus, Product°, product, Times°, no_times, times, Unary°, unsigned, positive, negative, Atom°, integer, text, parameter, path, call, group, Call°, length_of, concat, substring_from, substring, locate, locate_from, abs, modulo, size, coalesce, null_if, upper, lower, trim, aggregate, aggregate_distinct, More°, no_more, more, write_value, write_sums, write_product, write_times, write_unary, write_atom, write_call, write_more, comparison_mark, Cond°, cond, conj, maybe_not, Test°, inside, compare, between, among, among_none, like, null, empty, member, exists, quantified, among_rows, scalar_right, scalar_left, type_is, type_is_not, type_among, Scalar°, scalar, write_cond, write_ors, write_ands, write_test, write_scalar}
 use Rattle.jpql_grammar.specs.Conditions.{has_test}
 use Rattle.jpql_grammar.proofs.Skips.{close, comma}
 
@@ -132,6 +134,31 @@ mutual
   more_scan (more a all) zero rest = value_scan a zero (write_more all rest) ∙ more_scan all zero rest
   more_scan (more a all) (suc d) rest = value_scan a (suc d) (write_more all rest) ∙ more_scan all (suc d) rest
 
+-- a comparison is part of a test
+comparison_scan : (op : Comparison) (d : ℕ) (rest : List Token) → has_test d false (t.Mark (comparison_mark op) ∷ rest) ≡ true
+unfolding has_test
+comparison_scan c.Equal zero rest = refl
+comparison_scan c.Different zero rest = refl
+comparison_scan c.Less zero rest = refl
+comparison_scan c.AtMost zero rest = refl
+comparison_scan c.Greater zero rest = refl
+comparison_scan c.AtLeast zero rest = refl
+comparison_scan c.Equal (suc d) rest = refl
+comparison_scan c.Different (suc d) rest = refl
+comparison_scan c.Less (suc d) rest = refl
+comparison_scan c.AtMost (suc d) rest = refl
+comparison_scan c.Greater (suc d) rest = refl
+comparison_scan c.AtLeast (suc d) rest = refl
+
+compared_scan : (op : Comparison) (a : Value°) (d : ℕ) (rest : List Token) → has_test d false (write_value a (t.Mark (comparison_mark op) ∷ rest)) ≡ true
+compared_scan op a d rest = value_scan a d (t.Mark (comparison_mark op) ∷ rest) ∙ comparison_scan op d rest
+
+-- SELECT in parentheses is part of one
+scalar_scan : (x : Scalar°) (d : ℕ) (rest : List Token) → has_test d false (t.Mark m.Open ∷ write_scalar x rest) ≡ true
+unfolding has_test
+scalar_scan (scalar w g u d a v x xs f) zero rest = refl
+scalar_scan (scalar w g u d a v x xs f) (suc k) rest = refl
+
 mutual
   unfolding has_test
 
@@ -143,12 +170,12 @@ mutual
   pub test_scan : (x : Test°) (d : ℕ) (rest : List Token) → has_test d false (write_test x rest) ≡ true
   test_scan (inside x) zero rest = cond_scan x 1 (close rest)
   test_scan (inside x) (suc d) rest = cond_scan x (suc (suc d)) (close rest)
-  test_scan (compare c.Equal a b) zero rest = value_scan a zero _
-  test_scan (compare c.Different a b) zero rest = value_scan a zero _
-  test_scan (compare c.Less a b) zero rest = value_scan a zero _
-  test_scan (compare c.AtMost a b) zero rest = value_scan a zero _
-  test_scan (compare c.Greater a b) zero rest = value_scan a zero _
-  test_scan (compare c.AtLeast a b) zero rest = value_scan a zero _
+  test_scan (compare op a b) zero rest = compared_scan op a zero _
+  test_scan (quantified a op q b) zero rest = compared_scan op a zero _
+  test_scan (scalar_right a op s) zero rest = compared_scan op a zero _
+  test_scan (scalar_left s op a) zero rest = scalar_scan s zero _
+  test_scan (among_rows a None w b) zero rest = value_scan a zero _
+  test_scan (among_rows a (Some n) w b) zero rest = value_scan a zero _
   test_scan (between a None w b u e) zero rest = value_scan a zero _
   test_scan (between a (Some n) w b u e) zero rest = value_scan a zero _
   test_scan (among a None w b all) zero rest = value_scan a zero _
@@ -165,12 +192,12 @@ mutual
   test_scan (type_is w x e) zero rest = refl
   test_scan (type_is_not w x e) zero rest = refl
   test_scan (type_among w x n u e es) zero rest = refl
-  test_scan (compare c.Equal a b) (suc d) rest = value_scan a (suc d) _
-  test_scan (compare c.Different a b) (suc d) rest = value_scan a (suc d) _
-  test_scan (compare c.Less a b) (suc d) rest = value_scan a (suc d) _
-  test_scan (compare c.AtMost a b) (suc d) rest = value_scan a (suc d) _
-  test_scan (compare c.Greater a b) (suc d) rest = value_scan a (suc d) _
-  test_scan (compare c.AtLeast a b) (suc d) rest = value_scan a (suc d) _
+  test_scan (compare op a b) (suc d) rest = compared_scan op a (suc d) _
+  test_scan (quantified a op q b) (suc d) rest = compared_scan op a (suc d) _
+  test_scan (scalar_right a op s) (suc d) rest = compared_scan op a (suc d) _
+  test_scan (scalar_left s op a) (suc d) rest = scalar_scan s (suc d) _
+  test_scan (among_rows a None w b) (suc d) rest = value_scan a (suc d) _
+  test_scan (among_rows a (Some n) w b) (suc d) rest = value_scan a (suc d) _
   test_scan (between a None w b u e) (suc d) rest = value_scan a (suc d) _
   test_scan (between a (Some n) w b u e) (suc d) rest = value_scan a (suc d) _
   test_scan (among a None w b all) (suc d) rest = value_scan a (suc d) _

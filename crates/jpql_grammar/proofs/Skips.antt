@@ -11,8 +11,8 @@ use Rattle.jpql_tree.specs.declared.Comparison.TheVariants as c
 use Rattle.jpql_grammar.specs.Same.{same_mark}
 use Rattle.jpql_grammar.specs.Nesting.{too_deep}
 use Rattle.jpql_tree.specs.Names.{Text}
-use Rattle.jpql_grammar.specs.Parts.{Name, plain, word, name_token, Steps, write_names, write_path, Taken°, taken_text, taken_parameter, Trimming°, unwritten_trimming, sided, unsided, write_taken, write_trimming}
-use Rattle.jpql_grammar.specs.Grammar.{Value°, sum, Sums°, no_sums, plus, minus, Product°, product, Times°, no_times, times, Unary°, unsigned, positive, negative, Atom°, integer, text, parameter, path, call, group, Call°, length_of, concat, substring_from, substring, locate, locate_from, abs, modulo, size, coalesce, null_if, upper, lower, trim, aggregate, aggregate_distinct, More°, no_more, more, write_value, write_sums, write_product, write_times, write_unary, write_atom, write_call, write_more, Written, write_word, Named, write_named, write_optional_name, Item°, write_item, write_others, comparison_mark, write_escape, Side, inner, left, write_side, Range, entity, related, write_range, Cond°, cond, Ors°, no_ors, or, And°, conj, Ands°, no_ands, and, Not°, maybe_not, Test°, inside, compare, between, among, among_none, like, null, empty, member, exists, type_is, type_is_not, type_among, Sub°, sub, Source°, source, Sources°, no_sources, sources, Joins°, no_joins, joins, Join°, join, On°, no_on, on, Where°, no_where, filter, write_cond, write_ors, write_and, write_ands, write_not, write_test, write_sub, write_source, write_sources, write_joins, write_join, write_on, write_where, Direction, unwritten, ascending, descending, write_direction, Key°, write_key, Clause, no_clause, clause, write_clause, Having°, no_having, having, write_having, Set°, to_value, to_null, write_set, From°, from_entity, write_from}
+use Rattle.jpql_grammar.specs.Parts.{Name, plain, word, name_token, Steps, write_names, write_path, Taken°, taken_text, taken_parameter, Trimming°, unwritten_trimming, sided, unsided, write_taken, write_trimming, Quantifier°, every, any, some, write_quantifier}
+use Rattle.jpql_grammar.specs.Grammar.{Value°, sum, Sums°, no_sums, plus, minus, Product°, product, Times°, no_times, times, Unary°, unsigned, positive, negative, Atom°, integer, text, parameter, path, call, group, Call°, length_of, concat, substring_from, substring, locate, locate_from, abs, modulo, size, coalesce, null_if, upper, lower, trim, aggregate, aggregate_distinct, More°, no_more, more, write_value, write_sums, write_product, write_times, write_unary, write_atom, write_call, write_more, Written, write_word, Named, write_named, write_optional_name, Item°, write_item, write_others, comparison_mark, write_escape, Side, inner, left, write_side, Range, entity, related, write_range, Cond°, cond, Ors°, no_ors, or, And°, conj, Ands°, no_ands, and, Not°, maybe_not, Test°, inside, compare, between, among, among_none, like, null, empty, member, exists, quantified, among_rows, scalar_right, scalar_left, type_is, type_is_not, type_among, Sub°, sub, Scalar°, scalar, Source°, source, Sources°, no_sources, sources, Joins°, no_joins, joins, Join°, join, On°, no_on, on, Where°, no_where, filter, write_cond, write_ors, write_and, write_ands, write_not, write_test, write_sub, write_scalar, write_source, write_sources, write_joins, write_join, write_on, write_where, Direction, unwritten, ascending, descending, write_direction, Key°, write_key, Clause, no_clause, clause, write_clause, Having°, no_having, having, write_having, Set°, to_value, to_null, write_set, From°, from_entity, write_from}
 
 abbrev pub opened : List Token → List Token
 opened rest = t.Mark m.Open ∷ rest
@@ -191,6 +191,11 @@ comparison_skip c.AtMost rest = mark refl refl stay
 comparison_skip c.Greater rest = mark refl refl stay
 comparison_skip c.AtLeast rest = mark refl refl stay
 
+pub quantifier_skip : (x : Quantifier°) (rest : List Token) → Skips (write_quantifier x rest) rest
+quantifier_skip (every w) rest = key stay
+quantifier_skip (any w) rest = key stay
+quantifier_skip (some w) rest = key stay
+
 pub escape_skip : (e : Option (Text × Text)) (rest : List Token) → Skips (write_escape e rest) rest
 escape_skip None rest = stay
 escape_skip (Some e) rest = key (pass (quoted_past e.1 rest) stay)
@@ -245,6 +250,17 @@ mutual
       chain (value_skip a (write_word k.Not n (t.Key k.Member w ∷ write_word k.Of of (write_path p rest))))
       (chain (word_skip k.Not n (t.Key k.Member w ∷ write_word k.Of of (write_path p rest))) (key (chain (word_skip k.Of of (write_path p rest)) (path_skip p rest))))
   test_skip (exists w b) rest = key (over (sub_skip b (close rest)) stay)
+  test_skip (quantified a op q b) rest =
+      chain (value_skip a (t.Mark (comparison_mark op) ∷ write_quantifier q (opened (write_sub b (close rest)))))
+      (chain (comparison_skip op (write_quantifier q (opened (write_sub b (close rest))))) (chain (quantifier_skip q (opened (write_sub b (close rest)))) (over (sub_skip b (close rest)) stay)))
+  test_skip (among_rows a n w b) rest =
+      chain (value_skip a (write_word k.Not n (t.Key k.In w ∷ opened (write_sub b (close rest)))))
+      (chain (word_skip k.Not n (t.Key k.In w ∷ opened (write_sub b (close rest)))) (key (over (sub_skip b (close rest)) stay)))
+  test_skip (scalar_right a op s) rest =
+      chain (value_skip a (t.Mark (comparison_mark op) ∷ opened (write_scalar s (close rest))))
+      (chain (comparison_skip op (opened (write_scalar s (close rest)))) (over (scalar_skip s (close rest)) stay))
+  test_skip (scalar_left s op a) rest =
+      over (scalar_skip s (close (t.Mark (comparison_mark op) ∷ write_value a rest))) (chain (comparison_skip op (write_value a rest)) (value_skip a rest))
   test_skip (type_is w x e) rest = key (over (bare stay) (mark refl refl (name_skip e rest)))
   test_skip (type_is_not w x e) rest = key (over (bare stay) (mark refl refl (name_skip e rest)))
   test_skip (type_among w x n u e es) rest =
@@ -255,6 +271,12 @@ mutual
   sub_skip (sub w d i u x xs f) rest =
       key (chain (word_skip k.Distinct d (write_item i (t.Key k.From u ∷ write_source x (write_sources xs (write_where f rest)))))
       (chain (item_skip i (t.Key k.From u ∷ write_source x (write_sources xs (write_where f rest))))
+      (key (chain (source_skip x (write_sources xs (write_where f rest))) (chain (sources_skip xs (write_where f rest)) (where_skip f rest))))))
+
+  pub scalar_skip : (x : Scalar°) (rest : List Token) → Skips (write_scalar x rest) rest
+  scalar_skip (scalar w g u d a v x xs f) rest =
+      let more = t.Key k.From v ∷ write_source x (write_sources xs (write_where f rest)) in
+      key (key (over (chain (word_skip k.Distinct d (write_value a (close more))) (value_skip a (close more)))
       (key (chain (source_skip x (write_sources xs (write_where f rest))) (chain (sources_skip xs (write_where f rest)) (where_skip f rest))))))
 
   pub source_skip : (x : Source°) (rest : List Token) → Skips (write_source x rest) rest

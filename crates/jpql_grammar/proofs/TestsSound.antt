@@ -15,7 +15,7 @@ use Rattle.jpql_tree.specs.Names.{Text}
 use Rattle.jpql_grammar.specs.Parts.{Name, name_token, name_text, Steps, write_path, path_tree}
 use Rattle.jpql_grammar.specs.Grammar.{Value°, sum, Sums°, no_sums, plus, minus, product, Times°, no_times, times, unsigned, positive, negative, integer, text, parameter, path, call, group, write_value, bare_steps, write_times, write_sums, value_tree, times_tree, sums_tree, Written, write_word, is_written, comparison_mark, negated, write_escape, escape_text, Test°, compare, between, among, among_none, like, null, empty, member, type_is, type_is_not, type_among, write_test, test_tree}
 use Rattle.jpql_grammar.specs.Values.{sees, after, is_word, after_word, optional_word, name_at, variable_at, path_at, list_at, closed, value_at}
-use Rattle.jpql_grammar.specs.Conditions.{comparison_at, sees_comparison, begins_variable, negated_if, bare_path, compared_at, is_at, between_at, among_at, escape_at, like_at, member_at, worded_at, tested_at, valued_at, entities_at, type_is_at, entity_at, typed_at, simple_at}
+use Rattle.jpql_grammar.specs.Conditions.{comparison_at, sees_comparison, begins_variable, negated_if, bare_path, compared_at, is_at, between_at, among_at, escape_at, like_at, member_at, worded_at, tested_at, entities_at, type_is_at, entity_at, typed_at}
 use Rattle.jpql_grammar.proofs.Skips.{opened, close}
 use Rattle.jpql_grammar.proofs.Tools.{step, choice, same, sees_is, after_is, word_is, after_word_is, optional_word_is, name_sound, variable_sound}
 use Rattle.jpql_grammar.proofs.Calls.{of_call}
@@ -23,7 +23,7 @@ use Rattle.jpql_grammar.proofs.ValuesSound.{Wrote, value_sound, path_sound, list
 
 -- ---- tests of values
 
-comparison_sound : (ts : List Token) (x : Comparison × List Token) → comparison_at ts ≡ Some x → t.Mark (comparison_mark x.0) ∷ x.1 ≡ ts
+pub comparison_sound : (ts : List Token) (x : Comparison × List Token) → comparison_at ts ≡ Some x → t.Mark (comparison_mark x.0) ∷ x.1 ≡ ts
 unfolding comparison_at
 comparison_sound [] x h = absurd cc
 comparison_sound (t.Word w ∷ ts) x h = absurd cc
@@ -44,7 +44,7 @@ both true b h go = go refl h
 both false b h go = absurd cc
 
 -- the words of a NOT, as it is written or not
-negated_is : (n : Written) (b : Bool) (x : Condition) → is_written n ≡ b → negated n x ≡ negated_if b x
+pub negated_is : (n : Written) (b : Bool) (x : Condition) → is_written n ≡ b → negated n x ≡ negated_if b x
 negated_is None true x e = absurd cc
 negated_is None false x e = refl
 negated_is (Some w) true x e = refl
@@ -237,7 +237,7 @@ negated_glued d ts mid b y x (n, en, tn) tested h =
     let (z, ez, tz) = tested n in
     leaf write_test test_tree z (negated_if b y.0) y.1 (write_value d ts) x h (ez ∙ ap (λ us. write_value d us) en) (tz ∙ negated_is n b y.0 tn)
 
-tested_sound : (n : ℕ) (d : Value°) (ts : List Token) (x : Condition × List Token) → tested_at n (value_tree d) (begins_variable (write_value d ts)) ts ≡ Some x
+pub tested_sound : (n : ℕ) (d : Value°) (ts : List Token) (x : Condition × List Token) → tested_at n (value_tree d) (begins_variable (write_value d ts)) ts ≡ Some x
     → Wrote write_test test_tree (write_value d ts) x
 unfolding tested_at
 tested_sound n d ts x h = choice (sees_comparison ts) _ _ _ h
@@ -247,15 +247,6 @@ tested_sound n d ts x h = choice (sees_comparison ts) _ _ _ h
     subst (λ us. Wrote write_test test_tree (write_value d us) x) ew (is_sound d w (drop 1 ts) x (rw ew h2)))
     (λ b h2. let neg = optional_word k.Not ts in step (worded_at n (value_tree d) neg.1) _ _ h2 (λ y ey hy.
     negated_glued d ts neg.1 neg.0 y x (optional_word_is k.Not ts) (λ w. worded_sound n d w neg.1 y ey) hy)))
-
-valued_glued : (n : ℕ) (ts : List Token) (a : Value × List Token) (x : Condition × List Token) → Wrote write_value value_tree ts a
-    → tested_at n a.0 (begins_variable ts) a.1 ≡ Some x → Wrote write_test test_tree ts x
-valued_glued n ts a x (d, ed, td) h =
-    subst (λ us. Wrote write_test test_tree us x) ed (tested_sound n d a.1 x (rw (td, ed) h))
-
-valued_sound : (n : ℕ) (ts : List Token) (x : Condition × List Token) → valued_at n ts ≡ Some x → Wrote write_test test_tree ts x
-unfolding valued_at
-valued_sound n ts x h = step (value_at n ts) _ _ h (λ a ea ha. valued_glued n ts a x (value_sound n ts a ea) ha)
 
 -- ---- TYPE
 
@@ -300,13 +291,7 @@ typed_glued : (w : Text) (ts more rest : List Token) (x : Text × List Token) (y
     → t.Mark m.Open ∷ more ≡ ts → t.Word x.0 ∷ x.1 ≡ more → t.Mark m.Close ∷ rest ≡ x.1 → Typed w x.0 rest y → Wrote write_test test_tree (t.Key k.Type w ∷ ts) y
 typed_glued w ts more rest x y eo ex ec (d, ed, td) = (d, rw ed (rw (ec, ex, eo)), td)
 
-typed_sound : (w : Text) (ts : List Token) (y : Condition × List Token) → typed_at ts ≡ Some y → Wrote write_test test_tree (t.Key k.Type w ∷ ts) y
+pub typed_sound : (w : Text) (ts : List Token) (y : Condition × List Token) → typed_at ts ≡ Some y → Wrote write_test test_tree (t.Key k.Type w ∷ ts) y
 unfolding typed_at
 typed_sound w ts y h = step (after m.Open ts) _ _ h (λ more em hm. step (variable_at more) _ _ hm (λ x ex hx. step (after m.Close x.1) _ _ hx (λ rest er hr.
     typed_glued w ts more rest x y (after_is m.Open ts more em) (variable_sound more x ex) (after_is m.Close x.1 rest er) (entity_sound w x.0 rest y hr))))
-
-pub simple_sound : (n : ℕ) (ts : List Token) (y : Condition × List Token) → simple_at n ts ≡ Some y → Wrote write_test test_tree ts y
-unfolding simple_at
-simple_sound n ts y h = choice (is_word k.Type ts) _ _ _ h
-    (λ b h1. let (w, ew) = word_is k.Type ts b in subst (λ us. Wrote write_test test_tree us y) ew (typed_sound w (drop 1 ts) y h1))
-    (λ b h1. valued_sound n ts y h1)

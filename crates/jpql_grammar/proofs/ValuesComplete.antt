@@ -102,7 +102,7 @@ atom_no_minus (call x) rest = of_call (sees m.Minus) false (λ j w ts b. refl) x
 atom_no_minus (group a) rest = refl
 
 -- no other word begins a value
-value_no_word : (j : Keyword) → is_call j ≡ false → (d : Value°) (rest : List Token) → is_word j (write_value d rest) ≡ false
+pub value_no_word : (j : Keyword) → is_call j ≡ false → (d : Value°) (rest : List Token) → is_word j (write_value d rest) ≡ false
 value_no_word j e (sum (product (unsigned (integer i)) us) ps) rest = refl
 value_no_word j e (sum (product (unsigned (text w)) us) ps) rest = refl
 value_no_word j e (sum (product (unsigned (parameter w)) us) ps) rest = refl

@@ -8,6 +8,10 @@ use Rattle.jpql_grammar.specs.declared.token.Mark.{Mark}
 use Rattle.jpql_grammar.specs.declared.token.Mark.TheVariants as m
 use Rattle.jpql_grammar.specs.declared.token.Token.{Token}
 use Rattle.jpql_grammar.specs.declared.token.Token.TheVariants as t
+use Rattle.jpql_tree.specs.declared.Aggregate.{Aggregate}
+use Rattle.jpql_tree.specs.declared.Aggregate.TheVariants as g
+use Rattle.jpql_tree.specs.declared.Against.{Against}
+use Rattle.jpql_tree.specs.declared.Against.TheVariants as against
 use Rattle.jpql_tree.specs.declared.Comparison.{Comparison}
 use Rattle.jpql_tree.specs.declared.Comparison.TheVariants as c
 use Rattle.jpql_tree.specs.declared.Path.{Path}
@@ -23,12 +27,13 @@ use Rattle.jpql_tree.specs.declared.Source.{Source, roll-Source}
 use Rattle.jpql_tree.specs.declared.Join.{Join, roll-Join}
 use Rattle.jpql_tree.specs.Names.{Text}
 use Rattle.jpql_tree.specs.Steps.{◌>>=◌}
+use Rattle.jpql_grammar.specs.Parts.{turned}
 use Rattle.jpql_grammar.specs.Values.{Read, is_mark, sees, after, is_word, after_word, optional_word, name_at}
 use Rattle.jpql_grammar.specs.Values.{variable_at, path_at, list_at, closed, value_at}
 
 -- ---- "(" before a condition or a value
 
--- words that stand in tests alone, but for names after a dot
+-- words that stand in tests alone, but for names after a dot; SELECT begins the rows of one
 abbrev pub is_test_word : Keyword → Bool
 is_test_word k.Is = true
 is_test_word k.In = true
@@ -36,6 +41,7 @@ is_test_word k.Between = true
 is_test_word k.Like = true
 is_test_word k.Member = true
 is_test_word k.Exists = true
+is_test_word k.Select = true
 is_test_word k.Type = true
 is_test_word _ = false
 
@@ -174,10 +180,6 @@ module _ (n : ℕ) (a : Value) where
       else if is_word k.Is ts then is_at a bare (drop 1 ts)
       else (let no = optional_word k.Not ts in worded_at no.1 >>= λ x. Some (negated_if no.0 x.0, x.1))
 
--- a value, and the test of it
-unfoldable pub valued_at : ℕ → Read Condition
-valued_at n ts = value_at n ts >>= λ a. tested_at n a.0 (begins_variable ts) a.1
-
 -- ---- TYPE, after the word
 
 -- [NOT] IN "(" Entity {"," Entity} ")" (chapter 4.7.5)
@@ -202,9 +204,59 @@ entity_at x ts =
 unfoldable pub typed_at : Read Condition
 typed_at ts = after m.Open ts >>= λ a. variable_at a >>= λ x. after m.Close x.1 >>= λ b. entity_at x.0 b
 
--- a test without a condition inside
-unfoldable pub simple_at : ℕ → Read Condition
-simple_at n ts = if is_word k.Type ts then typed_at (drop 1 ts) else valued_at n ts
+-- ---- what stands beside rows
+
+-- ALL, ANY or SOME (chapter 4.6.15)
+unfoldable pub quantifier_at : Read Against
+quantifier_at [] = None
+quantifier_at (t.Key k.All w ∷ rest) = Some (against.All, rest)
+quantifier_at (t.Key k.Any w ∷ rest) = Some (against.Any, rest)
+quantifier_at (t.Key k.Some w ∷ rest) = Some (against.Any, rest)
+quantifier_at (_ ∷ rest) = None
+
+-- the word of an aggregate (chapter 4.9.5)
+unfoldable pub aggregate_at : Read Aggregate
+aggregate_at [] = None
+aggregate_at (t.Key k.Count w ∷ rest) = Some (g.Count, rest)
+aggregate_at (t.Key k.Sum w ∷ rest) = Some (g.Sum, rest)
+aggregate_at (t.Key k.Min w ∷ rest) = Some (g.Min, rest)
+aggregate_at (t.Key k.Max w ∷ rest) = Some (g.Max, rest)
+aggregate_at (_ ∷ rest) = None
+
+-- `n` is how deep values may nest
+module _ (n : ℕ) where
+  -- [DISTINCT] value ")"
+  unfoldable pub operand_at : Read (Bool × Value)
+  operand_at ts =
+      let d = optional_word k.Distinct ts in closed (value_at n d.1) >>= λ a. Some ((d.0, a.0), a.1)
+
+  -- aggregate "(" [DISTINCT] value ")": the aggregate, and what it is of
+  unfoldable pub aggregated_at : Read (Against × Value)
+  aggregated_at ts = aggregate_at ts >>= λ h. after m.Open h.1 >>= λ more. operand_at more
+      >>= λ a. Some ((against.One h.0 a.0.0, a.0.1), a.1)
+
+  -- op value
+  unfoldable pub opposed_at : Read (Comparison × Value)
+  opposed_at ts = comparison_at ts >>= λ op. value_at n op.1 >>= λ a. Some ((op.0, a.0), a.1)
+
+-- whether "(" SELECT comes next
+abbrev pub begins_rows : List Token → Bool
+begins_rows ts = sees m.Open ts && is_word k.Select (drop 1 ts)
+
+-- what comes after "(" SELECT
+abbrev pub selected : List Token → Option (List Token)
+selected ts = after m.Open ts >>= λ more. after_word k.Select more
+
+-- whether ALL, ANY or SOME comes next
+abbrev pub quantifies : List Token → Bool
+quantifies ts = is_word k.All ts || is_word k.Any ts || is_word k.Some ts
+
+-- whether rows follow a value: a comparison with ALL, ANY, SOME or "(" SELECT behind it, or [NOT] IN
+-- with "(" SELECT
+abbrev pub rows_follow : List Token → Bool
+rows_follow ts =
+    if sees_comparison ts then quantifies (drop 1 ts) || begins_rows (drop 1 ts)
+    else (let no = optional_word k.Not ts in is_word k.In no.1 && begins_rows (drop 1 no.1))
 
 -- ---- items, names
 
@@ -271,25 +323,88 @@ module _ (inner : Read Condition) where
 
 -- `n` is how deep values may nest
 module _ (n : ℕ) (inner : Read Condition) where
+  -- FROM subrange {join} {..} [WHERE cond], behind the item of a nested SELECT
+  unfoldable pub ranges_at : Read (List Source × Option Condition)
+  ranges_at ts = after_word k.From ts >>= λ more. list_at (source_at inner true) more
+      >>= λ xs. clause_at inner k.Where xs.1 >>= λ f. Some ((xs.0, f.0), f.1)
+
   -- after SELECT
   unfoldable pub block_at : Read Block
   block_at ts =
       let d = optional_word k.Distinct ts in
-      item_at n d.1 >>= λ i. after_word k.From i.1 >>= λ more. list_at (source_at inner true) more
-      >>= λ xs. clause_at inner k.Where xs.1 >>= λ f.
-      Some (roll-Block (record { is_distinct = d.0; item = i.0; sources = xs.0; filter = f.0 }), f.1)
+      item_at n d.1 >>= λ i. ranges_at i.1 >>= λ r.
+      Some (roll-Block (record { is_distinct = d.0; item = i.0; sources = r.0.0; filter = r.0.1 }), r.1)
+
+  -- after SELECT, of an aggregate
+  unfoldable pub scalar_at : Read (Against × Block)
+  scalar_at ts = aggregated_at n ts >>= λ a. ranges_at a.1 >>= λ r.
+      Some (
+        (
+          a.0.0,
+          roll-Block (record {
+            is_distinct = false;
+            item = record { value = a.0.1; name = None };
+            sources = r.0.0;
+            filter = r.0.1;
+          }),
+        ),
+        r.1,
+      )
+
+  -- "(" SELECT .. ")" (chapter 4.6.16)
+  unfoldable pub subquery_at : Read Block
+  subquery_at ts = selected ts >>= λ more. closed (block_at more)
+
+  -- "(" SELECT aggregate .. ")"
+  unfoldable pub enclosed_at : Read (Against × Block)
+  enclosed_at ts = selected ts >>= λ more. closed (scalar_at more)
 
   -- after EXISTS
   unfoldable pub exists_at : Read Condition
-  exists_at ts = after m.Open ts >>= λ a. after_word k.Select a >>= λ b. closed (block_at b)
-      >>= λ x. Some (is.Exists x.0, x.1)
+  exists_at ts = subquery_at ts >>= λ x. Some (is.Exists x.0, x.1)
 
-  -- "(" cond ")", EXISTS, or a test without a condition inside
+  -- "(" scalar ")", or (ALL | ANY | SOME) "(" rows ")", behind a comparison
+  unfoldable pub against_at : Read (Against × Block)
+  against_at ts =
+      if begins_rows ts then enclosed_at ts
+      else quantifier_at ts >>= λ q. subquery_at q.1 >>= λ b. Some ((q.0, b.0), b.1)
+
+  -- "(" scalar ")" op value
+  unfoldable pub scalar_first_at : Read Condition
+  scalar_first_at ts = enclosed_at ts >>= λ s. opposed_at n s.1 >>= λ a.
+      Some (is.Rows s.0.0 (turned a.0.0) a.0.1 s.0.1, a.1)
+
+  -- op (ALL | ANY | SOME) "(" rows ")", op "(" scalar ")" (chapters 4.6.15 and 4.6.16)
+  unfoldable pub beside_at : Value → Read Condition
+  beside_at a ts = comparison_at ts >>= λ op. against_at op.1 >>= λ b. Some (is.Rows b.0.0 op.0 a b.0.1, b.1)
+
+  -- [NOT] IN "(" rows ")" (chapter 4.6.9)
+  unfoldable pub among_rows_at : Value → Read Condition
+  among_rows_at a ts = let no = optional_word k.Not ts in
+      after_word k.In no.1 >>= λ more. subquery_at more >>= λ b.
+      Some (negated_if no.0 (is.Rows against.Any c.Equal a b.0), b.1)
+
+  -- what follows a value: rows, or a test of it
+  unfoldable pub follows_at : Value → Bool → Read Condition
+  follows_at a bare ts =
+      if rows_follow ts then (if sees_comparison ts then beside_at a ts else among_rows_at a ts)
+      else tested_at n a bare ts
+
+  -- a value, and the test of it
+  unfoldable pub valued_at : Read Condition
+  valued_at ts = value_at n ts >>= λ a. follows_at a.0 (begins_variable ts) a.1
+
+  -- a test that TYPE or a value begins
+  unfoldable pub simple_at : Read Condition
+  simple_at ts = if is_word k.Type ts then typed_at (drop 1 ts) else valued_at ts
+
+  -- "(" scalar ")" and what follows, "(" cond ")", EXISTS, or a test that TYPE or a value begins
   unfoldable pub test_at : Read Condition
   test_at ts =
-      if opens_condition ts then closed (inner (drop 1 ts))
+      if begins_rows ts then scalar_first_at ts
+      else if opens_condition ts then closed (inner (drop 1 ts))
       else if is_word k.Exists ts then exists_at (drop 1 ts)
-      else simple_at n ts
+      else simple_at ts
 
   -- [NOT] test (chapter 4.6.5)
   unfoldable pub not_at : Read Condition

@@ -10,6 +10,8 @@ use Rattle.jpql_grammar.specs.declared.token.Token.{Token}
 use Rattle.jpql_grammar.specs.declared.token.Token.TheVariants as t
 use Rattle.jpql_tree.specs.declared.Function.TheVariants as f
 use Rattle.jpql_tree.specs.declared.Aggregate.{Aggregate}
+use Rattle.jpql_tree.specs.declared.Against.{Against}
+use Rattle.jpql_tree.specs.declared.Against.TheVariants as against
 use Rattle.jpql_tree.specs.declared.Sign.TheVariants as s
 use Rattle.jpql_tree.specs.declared.Arithmetic.TheVariants as o
 use Rattle.jpql_tree.specs.declared.Comparison.{Comparison}
@@ -31,6 +33,7 @@ use Rattle.jpql_tree.specs.declared.Query.TheVariants as q
 use Rattle.jpql_tree.specs.Names.{Text}
 use Rattle.jpql_grammar.specs.Parts.{Name, name_token, name_text, Steps}
 use Rattle.jpql_grammar.specs.Parts.{write_path, path_tree, aggregate_word, Trimming°}
+use Rattle.jpql_grammar.specs.Parts.{Quantifier°, write_quantifier, quantifier_tree, turned}
 use Rattle.jpql_grammar.specs.Parts.{write_trimming, trimming_tree, trimmed_value, sorted_by}
 
 -- Each keyword comes with how it is written.
@@ -395,6 +398,14 @@ mutual
     member : Value° → Written → Text → Written → Steps → Test°
     -- EXISTS "(" sub ")"
     exists : Text → Sub° → Test°
+    -- value op (ALL | ANY | SOME) "(" sub ")"
+    quantified : Value° → Comparison → Quantifier° → Sub° → Test°
+    -- value [NOT] IN "(" sub ")"
+    among_rows : Value° → Written → Text → Sub° → Test°
+    -- value op "(" scalar ")"
+    scalar_right : Value° → Comparison → Scalar° → Test°
+    -- "(" scalar ")" op value
+    scalar_left : Scalar° → Comparison → Value° → Test°
     -- TYPE "(" var ")" ("=" | "<>") Entity
     type_is : Text → Text → Name → Test°
     type_is_not : Text → Text → Name → Test°
@@ -404,6 +415,10 @@ mutual
   -- sub = SELECT [DISTINCT] item FROM subrange {join} {"," subrange {join}} [WHERE cond]
   pub data Sub° : Type 0 where
     sub : Text → Written → Item° → Text → Source° → Sources° → Where° → Sub°
+
+  -- scalar = SELECT aggregate "(" [DISTINCT] value ")" FROM subrange {join} {..} [WHERE cond]
+  pub data Scalar° : Type 0 where
+    scalar : Text → Aggregate → Text → Written → Value° → Text → Source° → Sources° → Where° → Scalar°
 
   -- range {join}
   pub data Source° : Type 0 where
@@ -474,6 +489,15 @@ abbrev mutual
   write_test (member a n w of p) rest =
       write_value a (write_word k.Not n (t.Key k.Member w ∷ write_word k.Of of (write_path p rest)))
   write_test (exists w b) rest = t.Key k.Exists w ∷ t.Mark m.Open ∷ write_sub b (t.Mark m.Close ∷ rest)
+  write_test (quantified a op q b) rest =
+      write_value a (t.Mark (comparison_mark op)
+      ∷ write_quantifier q (t.Mark m.Open ∷ write_sub b (t.Mark m.Close ∷ rest)))
+  write_test (among_rows a n w b) rest =
+      write_value a (write_word k.Not n (t.Key k.In w ∷ t.Mark m.Open ∷ write_sub b (t.Mark m.Close ∷ rest)))
+  write_test (scalar_right a op s) rest =
+      write_value a (t.Mark (comparison_mark op) ∷ t.Mark m.Open ∷ write_scalar s (t.Mark m.Close ∷ rest))
+  write_test (scalar_left s op a) rest =
+      t.Mark m.Open ∷ write_scalar s (t.Mark m.Close ∷ t.Mark (comparison_mark op) ∷ write_value a rest)
   write_test (type_is w x e) rest =
       t.Key k.Type w ∷ t.Mark m.Open ∷ t.Word x ∷ t.Mark m.Close ∷ t.Mark m.Equal ∷ name_token e ∷ rest
   write_test (type_is_not w x e) rest =
@@ -487,6 +511,13 @@ abbrev mutual
   write_sub (sub w d i u x xs f) rest =
       t.Key k.Select w ∷ write_word k.Distinct d
       (write_item i (t.Key k.From u ∷ write_source x (write_sources xs (write_where f rest))))
+
+  -- the tokens of a nested SELECT of an aggregate
+  pub write_scalar : Scalar° → List Token → List Token
+  write_scalar (scalar w g u d a v x xs f) rest =
+      t.Key k.Select w ∷ t.Key (aggregate_word g) u ∷ t.Mark m.Open
+      ∷ write_word k.Distinct d
+      (write_value a (t.Mark m.Close ∷ t.Key k.From v ∷ write_source x (write_sources xs (write_where f rest))))
 
   -- the tokens of a range and its joins
   pub write_source : Source° → List Token → List Token
@@ -552,6 +583,10 @@ abbrev mutual
   test_tree (empty p w n u) = negated n (is.IsEmpty (path_tree p))
   test_tree (member a n w of p) = negated n (is.Member (value_tree a) (path_tree p))
   test_tree (exists w b) = is.Exists (sub_tree b)
+  test_tree (quantified a op q b) = is.Rows (quantifier_tree q) op (value_tree a) (sub_tree b)
+  test_tree (among_rows a n w b) = negated n (is.Rows against.Any c.Equal (value_tree a) (sub_tree b))
+  test_tree (scalar_right a op s) = is.Rows (scalar_tree s).0 op (value_tree a) (scalar_tree s).1
+  test_tree (scalar_left s op a) = is.Rows (scalar_tree s).0 (turned op) (value_tree a) (scalar_tree s).1
   test_tree (type_is w x e) = is.Type x (name_text e ∷ [])
   test_tree (type_is_not w x e) = is.Not (is.Type x (name_text e ∷ []))
   test_tree (type_among w x n u e es) = negated n (is.Type x (name_text e ∷ map name_text es))
@@ -565,6 +600,18 @@ abbrev mutual
         sources = source_tree x ∷ sources_trees xs;
         filter = where_tree f;
       })
+
+  -- the aggregate of a nested SELECT, and the SELECT of what that is of
+  pub scalar_tree : Scalar° → Against × Block
+  scalar_tree (scalar w g u d a v x xs f) = (
+    against.One g (is_written d),
+    roll-Block (record {
+      is_distinct = false;
+      item = record { value = value_tree a; name = None };
+      sources = source_tree x ∷ sources_trees xs;
+      filter = where_tree f;
+    }),
+  )
 
   -- the tree of a range and its joins
   pub source_tree : Source° → Source

@@ -9,4 +9,5 @@ pub mod Text
 pub mod Lexing
 pub mod Limits
 pub mod Lists
+pub mod Rows
 pub mod Queries

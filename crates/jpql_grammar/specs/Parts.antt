@@ -1,4 +1,5 @@
--- Parts of values: names, paths, the words of aggregates, what TRIM takes off, and what is sorted by.
+-- Parts of values and tests: names, paths, the words of aggregates and quantifiers, what TRIM takes
+-- off, and what is sorted by.
 use Rattle.std.specs.Prelude.{List, [], ◌∷◌, map, Option, Some, None}
 use Rattle.jpql_grammar.specs.declared.token.Keyword.{Keyword}
 use Rattle.jpql_grammar.specs.declared.token.Keyword.TheVariants as k
@@ -10,6 +11,10 @@ use Rattle.jpql_tree.specs.declared.Trimmed.{Trimmed}
 use Rattle.jpql_tree.specs.declared.Trimmed.TheVariants as side
 use Rattle.jpql_tree.specs.declared.Aggregate.{Aggregate}
 use Rattle.jpql_tree.specs.declared.Aggregate.TheVariants as g
+use Rattle.jpql_tree.specs.declared.Against.{Against}
+use Rattle.jpql_tree.specs.declared.Against.TheVariants as against
+use Rattle.jpql_tree.specs.declared.Comparison.{Comparison}
+use Rattle.jpql_tree.specs.declared.Comparison.TheVariants as c
 use Rattle.jpql_tree.specs.declared.Path.{Path}
 use Rattle.jpql_tree.specs.declared.Value.{Value}
 use Rattle.jpql_tree.specs.declared.Value.TheVariants as v
@@ -56,6 +61,33 @@ aggregate_word g.Count = k.Count
 aggregate_word g.Sum = k.Sum
 aggregate_word g.Min = k.Min
 aggregate_word g.Max = k.Max
+
+-- ALL, ANY or SOME (chapter 4.6.15)
+pub data Quantifier° : Type 0 where
+  every : Text → Quantifier°
+  any : Text → Quantifier°
+  some : Text → Quantifier°
+
+-- the tokens of a quantifier
+abbrev pub write_quantifier : Quantifier° → List Token → List Token
+write_quantifier (every w) rest = t.Key k.All w ∷ rest
+write_quantifier (any w) rest = t.Key k.Any w ∷ rest
+write_quantifier (some w) rest = t.Key k.Some w ∷ rest
+
+-- which of the rows a quantifier means; SOME is ANY
+abbrev pub quantifier_tree : Quantifier° → Against
+quantifier_tree (every w) = against.All
+quantifier_tree (any w) = against.Any
+quantifier_tree (some w) = against.Any
+
+-- a comparison, where its sides are turned round
+abbrev pub turned : Comparison → Comparison
+turned c.Equal = c.Equal
+turned c.Different = c.Different
+turned c.Less = c.Greater
+turned c.AtMost = c.AtLeast
+turned c.Greater = c.Less
+turned c.AtLeast = c.AtMost
 
 -- what TRIM takes off: a text or a parameter (chapter 4.7.2)
 pub data Taken° : Type 0 where

@@ -1,5 +1,5 @@
 -- Which text is which query.
-use Rattle.std.specs.Prelude.{◌≡◌, Bool, true, false, List, [], ◌∷◌, Some, None}
+use Rattle.std.specs.Prelude.{◌≡◌, Bool, true, false, not, ◌&&◌, List, [], ◌∷◌, Some, None}
 use Rattle.std.specs.List.{list_all}
 use Rattle.jpql_tree.specs.declared.Language.{Language}
 use Rattle.jpql_tree.specs.declared.Language.TheVariants as language
@@ -13,6 +13,7 @@ use Rattle.jpql_tree.specs.declared.Query.TheVariants as q
 use Rattle.jpql_tree.specs.Names.{Text}
 use Rattle.jpql_grammar.specs.Grammar.{IsStatement}
 use Rattle.jpql_grammar.specs.Lists.{spread}
+use Rattle.jpql_grammar.specs.Rows.{query_has_rows}
 use Rattle.jpql_grammar.specs.Text.{keyword_of, IsText}
 
 -- whether what ORDER BY sorts by is a result variable or a path
@@ -21,10 +22,17 @@ is_named (by.Name name) = true
 is_named (by.Path p) = true
 is_named (by.Value a) = false
 
--- whether a language has a statement: the profile sorts by result variables and paths alone
+-- whether a statement sorts by result variables and paths alone
+abbrev pub sorts_by_names : Query → Bool
+sorts_by_names (q.Select s) = list_all (λ key. is_named key.by) s.order
+sorts_by_names (q.Update entity variable assignments filter) = true
+sorts_by_names (q.Delete entity variable filter) = true
+
+-- whether a language has a statement: the profile sorts by result variables and paths alone, and
+-- compares no value with rows
 abbrev pub speaks : Language → Query → Bool
-speaks language.Profile (q.Select s) = list_all (λ key. is_named key.by) s.order
-speaks _ _ = true
+speaks language.Profile query = sorts_by_names query && not (query_has_rows query)
+speaks language.Wide query = true
 
 -- The text is one of the language's grammar, where collections are handed in for these parameters, and
 -- this is its tree.

@@ -27,9 +27,9 @@ use Rattle.jpql_tree.specs.declared.Value.{Value}
 use Rattle.jpql_tree.specs.declared.Condition.{Condition}
 use Rattle.jpql_tree.specs.Names.{Text}
 use Rattle.jpql_types.specs.declared.sort.Sort.{Sort}
-use Rattle.jpql_types.specs.declared.typed.Typed.{Typed}
-use Rattle.jpql_types.specs.declared.typed.TypedAssignment.{TypedAssignment}
-use Rattle.jpql_types.specs.declared.typed.TypedCondition.{TypedCondition}
+use Rattle.jpql_typed.specs.declared.typed.Typed.{Typed}
+use Rattle.jpql_typed.specs.declared.typed.TypedAssignment.{TypedAssignment}
+use Rattle.jpql_typed.specs.declared.typed.TypedCondition.{TypedCondition}
 use Rattle.jpql_types.specs.Typing.{with_variable}
 use Rattle.jpql_types.specs.Statements.{is_assignment_typed, is_update_typed, is_typed, has_distinct_names, are_given, are_distinct, checked}
 use Rattle.jpql_types.specs.Trees.{typed_assignment, typed_statement, class_named}

@@ -19,7 +19,7 @@ use Rattle.jpql_tree.specs.declared.Value.{Value}
 use Rattle.jpql_tree.specs.declared.Assignment.{Assignment}
 use Rattle.jpql_tree.specs.Names.{Text}
 use Rattle.jpql_tree.specs.Steps.{◌>>=◌}
-use Rattle.jpql_types.specs.declared.scope.Step.{Step}
+use Rattle.jpql_typed.specs.declared.path.Step.{Step}
 use Rattle.jpql_types.specs.declared.sort.Sort.{Sort}
 use Rattle.jpql_types.specs.Scope.{Scope, when, same_variable, step_at, step_from, class_at}
 use Rattle.jpql_types.specs.Sorts.{goes_with, step_sort}

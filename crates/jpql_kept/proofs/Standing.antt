@@ -26,8 +26,8 @@ use Rattle.jpa_object_rows.proofs.Bytes.Orders.{identities}
 use Rattle.jpql_tree.specs.declared.Path.{Path}
 use Rattle.jpql_tree.specs.Names.{Text}
 use Rattle.jpql_tree.specs.Steps.{◌>>=◌}
-use Rattle.jpql_types.specs.declared.scope.Step.{Step}
-use Rattle.jpql_types.specs.declared.scope.TypedPath.{TypedPath}
+use Rattle.jpql_typed.specs.declared.path.Step.{Step}
+use Rattle.jpql_typed.specs.declared.path.TypedPath.{TypedPath}
 use Rattle.jpql_types.specs.declared.sort.Sort.{Sort}
 use Rattle.jpql_types.specs.Scope.{when, same_variable, target_of_one, step_at, is_last, last_step, steps_of, class_at, path_of, allows_steps, allows_path}
 use Rattle.jpql_types.specs.Sorts.{integer, step_sort, last, path_sort}

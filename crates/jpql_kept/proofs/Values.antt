@@ -21,11 +21,11 @@ use Rattle.jpql_tree.specs.declared.Value.TheVariants as written
 use Rattle.jpql_tree.specs.declared.Value.TheFolds as tree
 use Rattle.jpql_tree.specs.Names.{Text}
 use Rattle.jpql_tree.specs.Steps.{◌>>=◌}
-use Rattle.jpql_types.specs.declared.scope.TypedPath.{TypedPath}
+use Rattle.jpql_typed.specs.declared.path.TypedPath.{TypedPath}
 use Rattle.jpql_types.specs.declared.sort.Sort.{Sort}
-use Rattle.jpql_types.specs.declared.typed.TypedValue.{TypedValue, fold-TypedValue}
-use Rattle.jpql_types.specs.declared.typed.TypedValue.TheVariants as v
-use Rattle.jpql_types.specs.declared.typed.TypedValue.TheFolds as typed
+use Rattle.jpql_typed.specs.declared.typed.TypedValue.{TypedValue, fold-TypedValue}
+use Rattle.jpql_typed.specs.declared.typed.TypedValue.TheVariants as v
+use Rattle.jpql_typed.specs.declared.typed.TypedValue.TheFolds as typed
 use Rattle.jpql_types.specs.Scope.{Scope, when}
 use Rattle.jpql_types.specs.Sorts as sorts
 use Rattle.jpql_types.specs.Names.{parameters_step, joined_lists}

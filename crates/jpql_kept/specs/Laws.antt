@@ -7,9 +7,9 @@ use Rattle.jpa_rows.specs.Cells.{CanBeHeld, all_representable}
 use Rattle.jpql_tree.specs.declared.Query.{Query}
 use Rattle.jpql_tree.specs.Names.{Text}
 use Rattle.jpql_types.specs.declared.sort.Sort.{Sort}
-use Rattle.jpql_types.specs.declared.typed.Typed.{Typed}
-use Rattle.jpql_types.specs.declared.typed.TypedAssignment.{TypedAssignment}
-use Rattle.jpql_types.specs.declared.typed.TypedCondition.{TypedCondition}
+use Rattle.jpql_typed.specs.declared.typed.Typed.{Typed}
+use Rattle.jpql_typed.specs.declared.typed.TypedAssignment.{TypedAssignment}
+use Rattle.jpql_typed.specs.declared.typed.TypedCondition.{TypedCondition}
 use Rattle.jpql_types.specs.Statements.{checked}
 use Rattle.jpql_eval.specs.declared.datum.Datum.{Datum}
 use Rattle.jpql_plan.specs.Bulk.{updated, deleted}

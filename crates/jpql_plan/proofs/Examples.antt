@@ -1,5 +1,5 @@
 -- Titles with a price: cut into a front of their order and the rest, and sorted by a value.
-use Rattle.std.proofs.Common.{rules, ap}
+use Rattle.std.proofs.Common.{rules, ap, ◌∙◌}
 use Rattle.std.specs.Prelude.{◌≡◌, refl, ℕ, ℤ, pos, negsuc, Bool, false, true, nat_lt, List, [], ◌∷◌, ◌++◌, map, Some, None}
 use Rattle.std.proofs.lemmas.Bool.{false≢true}
 use Rattle.std.specs.List.{filter}
@@ -7,21 +7,28 @@ use Rattle.jpa_value.specs.declared.value.Value.{Value}
 use Rattle.jpa_model.specs.declared.unit.Member.{Member}
 use Rattle.jpa_model.specs.declared.unit.PersistenceUnit.{PersistenceUnit}
 use Rattle.jpa_stored.specs.Sets.{StoredSet}
+use Rattle.jpql_tree.specs.declared.Against.{Against}
 use Rattle.jpql_tree.specs.declared.Arithmetic.{Arithmetic}
-use Rattle.jpql_types.specs.declared.scope.TypedPath.{TypedPath}
-use Rattle.jpql_types.specs.declared.typed.TypedKey.{TypedKey}
-use Rattle.jpql_types.specs.declared.typed.TypedSelect.{TypedSelect}
-use Rattle.jpql_types.specs.declared.typed.TypedSorted.{TypedSorted}
-use Rattle.jpql_types.specs.declared.typed.TypedValue.{TypedValue}
-use Rattle.jpql_types.specs.declared.typed.TypedValue.TheFolds as folds
-use Rattle.jpql_types.specs.declared.typed.TypedValue.TheVariants as v
+use Rattle.jpql_tree.specs.declared.Comparison.{Comparison}
+use Rattle.jpql_typed.specs.declared.path.TypedPath.{TypedPath}
+use Rattle.jpql_typed.specs.declared.typed.TypedBlock.{TypedBlock}
+use Rattle.jpql_typed.specs.declared.typed.TypedCondition.TheVariants as is
+use Rattle.jpql_typed.specs.declared.typed.TypedKey.{TypedKey}
+use Rattle.jpql_typed.specs.declared.typed.TypedSelect.{TypedSelect}
+use Rattle.jpql_typed.specs.declared.typed.TypedSorted.{TypedSorted}
+use Rattle.jpql_typed.specs.declared.typed.TypedValue.{TypedValue}
+use Rattle.jpql_typed.specs.declared.typed.TypedValue.TheFolds as folds
+use Rattle.jpql_typed.specs.declared.typed.TypedValue.TheVariants as v
 use Rattle.jpql_eval.specs.declared.datum.Datum.{Datum}
-use Rattle.jpql_eval.specs.Answers.{Answer, gives, overflows, both, every, under}
+use Rattle.jpql_eval.specs.declared.datum.Truth.{Truth}
+use Rattle.jpql_eval.specs.Answers.{Answer, gives, overflows, ◌>>=◌, both, every, under}
+use Rattle.jpql_eval.specs.Judged.{judged}
 use Rattle.jpql_eval.specs.Numbers.{number, arithmetic}
-use Rattle.jpql_plan.specs.Meaning.{Case, alone, value}
+use Rattle.jpql_plan.specs.Meaning.{Case, alone, rows, truth, value}
 use Rattle.jpql_plan.specs.Paths.{Tuple, path_datum}
 use Rattle.jpql_plan.specs.Selection.{Row, in_order, row_of, rows_of}
 use Rattle.jpql_plan.specs.Laws.{AreCut}
+use Rattle.jpql_plan.proofs.Blocks.{beside_rows}
 
 -- the title of this number, with this price
 abbrev priced : ℕ → ℕ → Tuple
@@ -141,3 +148,30 @@ module _ (m : PersistenceUnit) (s : StoredSet) (ps : List Datum) where
   key_overflows : sorted_by_times (pos 9223372036854775807) ≡ overflows
   key_overflows =
       ap (under (λ rows. map (λ (r : Row). r.items) (in_order (by_times (pos 9223372036854775807)).order rows))) (each_row (pos 9223372036854775807) titles)
+
+  -- ---- a title's price beside the rows of a block
+
+  abbrev price_beside : Against → Comparison → ℤ → TypedBlock → Tuple → Answer Truth
+  price_beside against op factor b t = truth m s ps (is.Rows against op (times factor) b) (alone t)
+
+  beside : (against : Against) (op : Comparison) (factor : ℤ) (b : TypedBlock) (t : Tuple) (found : Answer (List Datum)) → rows m s ps b t ≡ found
+      → price_beside against op factor b t
+      ≡ (arithmetic Arithmetic.Times (path_datum m s t (path_to (Member.Attribute 0))) (number factor) >>= λ x. found >>= judged against op x)
+  beside against op factor b t found e =
+      beside_rows m s ps against op (times factor) b (alone t) ∙ ap (λ x. x >>= λ d. rows m s ps b t >>= judged against op d) (times_gives factor (alone t))
+      ∙ ap
+      (λ all. arithmetic Arithmetic.Times (path_datum m s t (path_to (Member.Attribute 0))) (number factor) >>= λ d. all >>= judged against op d) e
+
+  -- 8 * 1 is at least all of 2, 8 and 5
+  dearest : (b : TypedBlock) → rows m s ps b (priced 1 8) ≡ gives (int 2 ∷ int 8 ∷ int 5 ∷ [])
+      → price_beside Against.All Comparison.AtLeast (pos 1) b (priced 1 8) ≡ gives Truth.Yes
+  dearest b e = beside Against.All Comparison.AtLeast (pos 1) b (priced 1 8) (gives (int 2 ∷ int 8 ∷ int 5 ∷ [])) e
+
+  -- the value is computed where there are no rows
+  value_overflows : (b : TypedBlock) → rows m s ps b (priced 1 8) ≡ gives []
+      → price_beside Against.Any Comparison.Equal (pos 9223372036854775807) b (priced 1 8) ≡ overflows
+  value_overflows b e = beside Against.Any Comparison.Equal (pos 9223372036854775807) b (priced 1 8) (gives []) e
+
+  -- and where a row is outside 64 bits, the condition overflows
+  row_overflows : (b : TypedBlock) → rows m s ps b (priced 1 8) ≡ overflows → price_beside Against.Any Comparison.Equal (pos 1) b (priced 1 8) ≡ overflows
+  row_overflows b e = beside Against.Any Comparison.Equal (pos 1) b (priced 1 8) overflows e

@@ -1,7 +1,7 @@
 -- Rows put in one by one keep a front before the rest.
 use Rattle.std.proofs.Common.{◌≡◌, ◌∙◌, ap, sym, refl, Bool, true, false, not, cond, List, [], ◌∷◌, ◌++◌, map}
 use Rattle.std.specs.List.{AllByRecursion, filter}
-use Rattle.jpql_types.specs.declared.typed.TypedKey.{TypedKey}
+use Rattle.jpql_typed.specs.declared.typed.TypedKey.{TypedKey}
 use Rattle.jpql_plan.specs.Paths.{Tuple}
 use Rattle.jpql_plan.specs.Selection.{Row, precedes, put_row, put_rows, in_order}
 use Rattle.jpql_plan.specs.Laws.{StandsCut, AreCut}

@@ -3,7 +3,7 @@ use Rattle.std.proofs.Common.{refl}
 use Rattle.std.specs.Prelude.{Bool, true, false, List, [], ◌∷◌}
 use Rattle.std.specs.Cmp.{IsTotalOrder, IsStrictWeakOrder, then_total, on_total, back_total}
 use Rattle.std.proofs.lemmas.List.MinMax.{ranks_by}
-use Rattle.jpql_types.specs.declared.typed.TypedKey.{TypedKey}
+use Rattle.jpql_typed.specs.declared.typed.TypedKey.{TypedKey}
 use Rattle.jpql_eval.specs.SeenOrder.{datum_total}
 use Rattle.jpql_plan.specs.Selection.{Row, by_key, first, rest, keys_cmp, precedes}
 

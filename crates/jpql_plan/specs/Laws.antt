@@ -5,23 +5,27 @@ use Rattle.std.specs.List.{AllByRecursion, filter, list_any}
 use Rattle.std.specs.List.Sorted.{IsSortedBy, IsStableBy}
 use Rattle.jpa_model.specs.declared.unit.PersistenceUnit.{PersistenceUnit}
 use Rattle.jpa_stored.specs.Sets.{StoredSet}
-use Rattle.jpql_types.specs.declared.scope.Step.{Step}
-use Rattle.jpql_types.specs.declared.typed.TypedCondition.{TypedCondition}
-use Rattle.jpql_types.specs.declared.typed.TypedOrigin.{TypedOrigin}
-use Rattle.jpql_types.specs.declared.typed.TypedSource.{TypedSource, roll-TypedSource}
-use Rattle.jpql_types.specs.declared.typed.TypedJoin.{TypedJoin, roll-TypedJoin}
-use Rattle.jpql_types.specs.declared.typed.TypedBlock.{TypedBlock, roll-TypedBlock}
-use Rattle.jpql_types.specs.declared.typed.TypedKey.{TypedKey}
-use Rattle.jpql_types.specs.declared.typed.TypedValue.{TypedValue}
+use Rattle.jpql_tree.specs.declared.Against.{Against}
+use Rattle.jpql_tree.specs.declared.Comparison.{Comparison}
+use Rattle.jpql_typed.specs.declared.path.Step.{Step}
+use Rattle.jpql_typed.specs.declared.typed.TypedCondition.{TypedCondition}
+use Rattle.jpql_typed.specs.declared.typed.TypedCondition.TheVariants as is
+use Rattle.jpql_typed.specs.declared.typed.TypedOrigin.{TypedOrigin}
+use Rattle.jpql_typed.specs.declared.typed.TypedSource.{TypedSource, roll-TypedSource}
+use Rattle.jpql_typed.specs.declared.typed.TypedJoin.{TypedJoin, roll-TypedJoin}
+use Rattle.jpql_typed.specs.declared.typed.TypedBlock.{TypedBlock, roll-TypedBlock}
+use Rattle.jpql_typed.specs.declared.typed.TypedKey.{TypedKey}
+use Rattle.jpql_typed.specs.declared.typed.TypedValue.{TypedValue}
 use Rattle.jpql_eval.specs.declared.datum.Datum.{Datum}
 use Rattle.jpql_eval.specs.declared.datum.Truth.{Truth}
 use Rattle.jpql_eval.specs.Answers.{Answer, gives, ◌>>=◌, each}
 use Rattle.jpql_eval.specs.Truths.{is_yes}
 use Rattle.jpql_eval.specs.Data.{same_data}
 use Rattle.jpql_eval.specs.Aggregates.{once}
+use Rattle.jpql_eval.specs.Judged.{judged}
 use Rattle.jpql_plan.specs.Paths.{Entry, Tuple, object_at, with_object, objects, related_objects}
-use Rattle.jpql_plan.specs.Meaning.{alone, is_any, in_turn, kept, tuples_where, value, value_drops, condition, truth}
-use Rattle.jpql_plan.specs.Meaning.{source, join, exists}
+use Rattle.jpql_plan.specs.Meaning.{Case, alone, is_any, in_turn, kept, tuples_where, value, value_drops, condition}
+use Rattle.jpql_plan.specs.Meaning.{source, join, rows, exists, truth}
 use Rattle.jpql_plan.specs.Selection.{Row, put_tuples, precedes, in_order}
 
 -- the objects of a class, without joins
@@ -40,7 +44,7 @@ block_of item sources filtered = roll-TypedBlock (record { item = item; sources 
 abbrev pub joined_with : PersistenceUnit → StoredSet → ℕ → Step → Tuple → List Tuple
 joined_with m s of step t = map (λ (e : Entry). with_object t (Some e)) (related_objects m s (object_at t of) step)
 
--- FROM and EXISTS (chapters 4.4 and 4.6.16), over a set, with parameters.
+-- FROM, and nested blocks (chapters 4.4, 4.6.14 and 4.6.16), over a set, with parameters.
 pub record FromLaws (m : PersistenceUnit) (s : StoredSet) (ps : List Datum) : Type 0 where
   -- a range is the objects of its class and those below it, in rising order
   pub range : (class : ℕ) (t : Tuple) → source m s ps (range_of class) t
@@ -61,6 +65,18 @@ pub record FromLaws (m : PersistenceUnit) (s : StoredSet) (ps : List Datum) : Ty
   pub parted : (all more : List TypedSource) (t : Tuple)
       → in_turn (map (source m s ps) (all ++ more)) t
       ≡ (in_turn (map (source m s ps) all) t >>= each (in_turn (map (source m s ps) more)))
+  -- the rows of a nested block are its item of each tuple that is left, in their order
+  pub rows_each : (item : TypedValue) (sources : List TypedSource) (filtered : TypedCondition) (t : Tuple)
+      (left : List Tuple) (gives_item : Tuple → Datum)
+      → tuples_where (map (source m s ps) sources)
+      (λ e. value_drops m s ps item e || (condition m s ps filtered).drops e) (Some (condition m s ps filtered)) t
+      ≡ gives left
+      → ((e : Tuple) → value m s ps item (alone e) ≡ gives (gives_item e))
+      → rows m s ps (block_of item sources filtered) t ≡ gives (map gives_item left)
+  -- a value beside the rows of a nested block: it and all rows are computed, and then it is judged
+  pub beside_rows : (against : Against) (op : Comparison) (a : TypedValue) (b : TypedBlock) (at : Case)
+      → truth m s ps (is.Rows against op a b) at
+      ≡ (value m s ps a at >>= λ x. rows m s ps b at.tuple >>= judged against op x)
   -- EXISTS is whether the nested block has a tuple, where its item never overflows
   pub exists_any : (item : TypedValue) (sources : List TypedSource) (filtered : TypedCondition) (t : Tuple)
       (left : List Tuple) (gives_item : Tuple → Datum)

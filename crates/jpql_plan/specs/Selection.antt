@@ -8,12 +8,12 @@ use Rattle.std.specs.declared.cmp.Ordering.{Ordering}
 use Rattle.std.specs.declared.cmp.Ordering.TheVariants.{Equal}
 use Rattle.jpa_model.specs.declared.unit.PersistenceUnit.{PersistenceUnit}
 use Rattle.jpa_stored.specs.Sets.{StoredSet}
-use Rattle.jpql_types.specs.declared.scope.TypedPath.{TypedPath}
-use Rattle.jpql_types.specs.declared.typed.TypedValue.{TypedValue, TypedValue-F, fold-TypedValue}
-use Rattle.jpql_types.specs.declared.typed.TypedValue.TheOpen as part
-use Rattle.jpql_types.specs.declared.typed.TypedSorted.{TypedSorted}
-use Rattle.jpql_types.specs.declared.typed.TypedKey.{TypedKey}
-use Rattle.jpql_types.specs.declared.typed.TypedSelect.{TypedSelect}
+use Rattle.jpql_typed.specs.declared.path.TypedPath.{TypedPath}
+use Rattle.jpql_typed.specs.declared.typed.TypedValue.{TypedValue, TypedValue-F, fold-TypedValue}
+use Rattle.jpql_typed.specs.declared.typed.TypedValue.TheOpen as part
+use Rattle.jpql_typed.specs.declared.typed.TypedSorted.{TypedSorted}
+use Rattle.jpql_typed.specs.declared.typed.TypedKey.{TypedKey}
+use Rattle.jpql_typed.specs.declared.typed.TypedSelect.{TypedSelect}
 use Rattle.jpql_eval.specs.declared.datum.Datum.{Datum}
 use Rattle.jpql_eval.specs.Answers.{Answer, gives, ◌>>=◌, under, every}
 use Rattle.jpql_eval.specs.Data.{null, same_data, datum_cmp}

@@ -2,7 +2,7 @@
 ghost use Rattle.std.specs.Prelude.{Bool, List};
 ghost use Rattle.jpa_model.specs.declared.unit.PersistenceUnit.{PersistenceUnit};
 ghost use Rattle.jpa_stored.specs.Sets.{StoredSet};
-ghost use Rattle.jpql_types.specs.declared.typed.TypedKey.{TypedKey};
+ghost use Rattle.jpql_typed.specs.declared.typed.TypedKey.{TypedKey};
 ghost use Rattle.jpql_eval.specs.declared.datum.Datum.{Datum};
 ghost use Rattle.jpql_eval.specs.declared.datum.Truth.{Truth};
 ghost use Rattle.jpql_eval.specs.Answers.{Answer};
@@ -11,9 +11,10 @@ ghost use Rattle.jpql_plan.specs.Selection.{Row};
 ghost use Rattle.jpql_plan.specs.Laws.{FromLaws, WhereLaws, GroupLaws, OrderLaws, FrontLaws};
 ghost use Rattle.jpql_plan.specs.Laws.{DistinctLaws};
 
-/// The laws of FROM and EXISTS (chapters 4.4 and 4.6.16); it does nothing. A range is the objects
-/// of its class in rising order, an inner join a filter of related objects; a LEFT JOIN loses no
-/// tuple; elements of FROM may be parted anywhere; EXISTS is whether the nested block has a tuple.
+/// The laws of FROM and nested blocks (chapters 4.4, 4.6.14 and 4.6.16); it does nothing. A range is
+/// the objects of its class in rising order, an inner join a filter of related objects; a LEFT JOIN
+/// loses no tuple; elements of FROM may be parted anywhere; the rows of a nested block are its item of
+/// each tuple that is left, and EXISTS is whether it has a tuple.
 pub fn from_laws()
     ensures { (m : PersistenceUnit) (s : StoredSet) (ps : List Datum) → FromLaws m s ps }
 {}

@@ -20,10 +20,10 @@ use Rattle.jpa_ordered.specs.Values.{at_object, cut_cmp, goes_on, has_begun, lea
 use Rattle.jpa_ordered.specs.declared.cut.Cut.{Cut}
 use Rattle.jpa_ordered.specs.declared.cut.Span.{Span}
 use Rattle.jpa_open.specs.Opened.{now}
-use Rattle.jpql_types.specs.declared.scope.TypedPath.{TypedPath}
-use Rattle.jpql_types.specs.declared.typed.TypedCondition.TheVariants as is
-use Rattle.jpql_types.specs.declared.typed.TypedValue.{TypedValue}
-use Rattle.jpql_types.specs.declared.typed.TypedValue.TheVariants as v
+use Rattle.jpql_typed.specs.declared.path.TypedPath.{TypedPath}
+use Rattle.jpql_typed.specs.declared.typed.TypedCondition.TheVariants as is
+use Rattle.jpql_typed.specs.declared.typed.TypedValue.{TypedValue}
+use Rattle.jpql_typed.specs.declared.typed.TypedValue.TheVariants as v
 use Rattle.jpql_eval.specs.Texts.{Text, escape_of, is_escape, is_like, is_matched, mark_of, marks, only, takes_plain}
 use Rattle.jpql_eval.specs.Answers.{both, gives}
 use Rattle.jpql_eval.specs.Calls.{like}

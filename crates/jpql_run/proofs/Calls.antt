@@ -5,9 +5,9 @@ use Rattle.jpa_model.specs.declared.unit.PersistenceUnit.{PersistenceUnit}
 use Rattle.jpa_stored.specs.Sets.{StoredSet}
 use Rattle.jpql_tree.specs.declared.Function.{Function}
 use Rattle.jpql_tree.specs.declared.Aggregate.{Aggregate}
-use Rattle.jpql_types.specs.declared.typed.TypedValue.{TypedValue, fold-TypedValue}
-use Rattle.jpql_types.specs.declared.typed.TypedValue.TheVariants as v
-use Rattle.jpql_types.specs.declared.typed.TypedValue.TheFolds as folds
+use Rattle.jpql_typed.specs.declared.typed.TypedValue.{TypedValue, fold-TypedValue}
+use Rattle.jpql_typed.specs.declared.typed.TypedValue.TheVariants as v
+use Rattle.jpql_typed.specs.declared.typed.TypedValue.TheFolds as folds
 use Rattle.jpql_eval.specs.declared.datum.Datum.{Datum}
 use Rattle.jpql_eval.specs.Answers.{Answer}
 use Rattle.jpql_plan.specs.Meaning.{Case, alone, call, aggregate, value, value_step}

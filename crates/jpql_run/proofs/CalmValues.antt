@@ -8,12 +8,12 @@ use Rattle.jpa_model.specs.declared.unit.PersistenceUnit.{PersistenceUnit}
 use Rattle.jpa_stored.specs.Sets.{StoredSet}
 use Rattle.jpql_tree.specs.declared.Function.{Function}
 use Rattle.jpql_tree.specs.declared.Sign.{Sign}
-use Rattle.jpql_types.specs.declared.scope.TypedPath.{TypedPath}
-use Rattle.jpql_types.specs.declared.typed.TypedValue.{TypedValue, TypedValue-F}
-use Rattle.jpql_types.specs.declared.typed.TypedValue.TheViews.{roll-TypedValue}
-use Rattle.jpql_types.specs.declared.typed.TypedValue.TheOpen as part
-use Rattle.jpql_types.specs.declared.typed.TypedValue.TheVariants as v
-use Rattle.jpql_types.specs.declared.typed.TypedValue.TheFolds as values
+use Rattle.jpql_typed.specs.declared.path.TypedPath.{TypedPath}
+use Rattle.jpql_typed.specs.declared.typed.TypedValue.{TypedValue, TypedValue-F}
+use Rattle.jpql_typed.specs.declared.typed.TypedValue.TheViews.{roll-TypedValue}
+use Rattle.jpql_typed.specs.declared.typed.TypedValue.TheOpen as part
+use Rattle.jpql_typed.specs.declared.typed.TypedValue.TheVariants as v
+use Rattle.jpql_typed.specs.declared.typed.TypedValue.TheFolds as values
 use Rattle.jpql_eval.specs.declared.datum.Datum.{Datum}
 use Rattle.jpql_eval.specs.Answers.{gives, overflows, ◌>>=◌}
 use Rattle.jpql_eval.specs.Calls.{applied, of_some}

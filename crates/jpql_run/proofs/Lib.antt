@@ -24,6 +24,7 @@ pub mod ByKey
 pub mod ByLink
 pub mod Left
 pub mod LeftOne
+pub mod Rows
 pub mod Narrowed
 pub mod Past
 pub mod KeySpans

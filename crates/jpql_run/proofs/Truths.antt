@@ -1,17 +1,25 @@
 -- What conditions of several parts mean, by those of their parts.
-use Rattle.std.proofs.Common.{rules, ◌≡◌, List, Option, map}
+use Rattle.std.proofs.Common.{rules, ◌≡◌, ◌∙◌, refl, List, Option, map}
 use Rattle.jpa_model.specs.declared.unit.PersistenceUnit.{PersistenceUnit}
 use Rattle.jpa_stored.specs.Sets.{StoredSet}
-use Rattle.jpql_types.specs.declared.typed.TypedValue.{TypedValue}
-use Rattle.jpql_types.specs.declared.typed.TypedCondition.{TypedCondition}
-use Rattle.jpql_types.specs.declared.typed.TypedCondition.TheVariants as is
-use Rattle.jpql_types.specs.declared.typed.TypedCondition.TheFolds as folds
+use Rattle.jpql_tree.specs.declared.Against.{Against}
+use Rattle.jpql_tree.specs.declared.Comparison.{Comparison}
+use Rattle.jpql_typed.specs.declared.typed.TypedBlock.{TypedBlock}
+use Rattle.jpql_typed.specs.declared.typed.TypedValue.{TypedValue}
+use Rattle.jpql_typed.specs.declared.typed.TypedCondition.{TypedCondition}
+use Rattle.jpql_typed.specs.declared.typed.TypedCondition.TheVariants as is
+use Rattle.jpql_typed.specs.declared.typed.TypedCondition.TheFolds as folds
 use Rattle.jpql_eval.specs.declared.datum.Datum.{Datum}
-use Rattle.jpql_eval.specs.Answers.{both}
-use Rattle.jpql_eval.specs.Truths.{or3, and3}
+use Rattle.jpql_eval.specs.Answers.{Answer, gives, overflows, both, under}
+use Rattle.jpql_eval.specs.Judged.{judged}
+use Rattle.jpql_eval.specs.Truths.{or3, and3, truth_of}
 use Rattle.jpql_eval.specs.Texts.{Text}
 use Rattle.jpql_eval.specs.Calls.{like}
-use Rattle.jpql_plan.specs.Meaning.{Case, value, truth, on_answer, among_all}
+use Rattle.jpql_plan.specs.Meaning.{Case, value, truth, rows, exists, is_any, on_answer, among_all}
+
+under_twice : {A B C : Type 0} (f : A → B) (g : B → C) (a : Answer A) → under (λ x. g (f x)) a ≡ under g (under f a)
+under_twice f g (gives x) = refl
+under_twice f g overflows = refl
 
 module _ (m : PersistenceUnit) (s : StoredSet) (ps : List Datum) (at : Case) where
   pub truth_of_or : (a b : TypedCondition) → truth m s ps (is.Or a b) at ≡ both or3 (truth m s ps a at) (truth m s ps b at)
@@ -25,3 +33,13 @@ module _ (m : PersistenceUnit) (s : StoredSet) (ps : List Datum) (at : Case) whe
 
   pub truth_of_like : (a pattern : TypedValue) (escape : Option Text) → truth m s ps (is.Like a pattern escape) at ≡ both (like escape) (value m s ps a at) (value m s ps pattern at)
   truth_of_like a pattern escape = search (rules, folds.the_lemmas)
+
+  exists_by_rows : (b : TypedBlock) → truth m s ps (is.Exists b) at ≡ under (λ all. truth_of (is_any all)) (rows m s ps b at.tuple)
+  exists_by_rows b = search (rules, folds.the_lemmas)
+
+  pub truth_of_exists : (b : TypedBlock) → truth m s ps (is.Exists b) at ≡ under truth_of (exists m s ps b at.tuple)
+  truth_of_exists b = exists_by_rows b ∙ under_twice is_any truth_of (rows m s ps b at.tuple)
+
+  pub truth_of_rows : (against : Against) (op : Comparison) (a : TypedValue) (b : TypedBlock)
+      → truth m s ps (is.Rows against op a b) at ≡ on_answer (value m s ps a at) (λ x. on_answer (rows m s ps b at.tuple) (judged against op x))
+  truth_of_rows against op a b = search (rules, folds.the_lemmas)

@@ -8,7 +8,7 @@ use Rattle.jpa_model.specs.declared.unit.Member.{Member}
 use Rattle.jpa_ordered.specs.Values.{lies_in_any, own_value}
 use Rattle.jpa_ordered.specs.declared.cut.Cut.{Cut}
 use Rattle.jpa_ordered.specs.declared.cut.Span.{Span}
-use Rattle.jpql_types.specs.declared.typed.TypedValue.{TypedValue}
+use Rattle.jpql_typed.specs.declared.typed.TypedValue.{TypedValue}
 use Rattle.jpql_eval.specs.Texts.{Text, escape_of, is_escape, mark_of}
 use Rattle.jpql_eval.specs.declared.datum.Datum.{Datum}
 use Rattle.jpql_eval.specs.declared.patterns.Mark.{Mark}

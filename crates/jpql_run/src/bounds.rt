@@ -13,7 +13,7 @@ use crate::tuple::Tuple;
 use jpa_value::Boxed;
 use jpql_eval::{Seen, is_true};
 use jpql_tree::Comparison;
-use jpql_types::{TypedCondition, TypedPath, TypedValue};
+use jpql_typed::{TypedCondition, TypedPath, TypedValue};
 
 /// A comparison of what a path leads to with a value that is the same for all tuples.
 #[derive(Drop)]

@@ -1,13 +1,13 @@
 //! What can't overflow: no `+`, `-`, `*`, ABS, MOD or aggregate stands in it, nor in its nested
-//! blocks, and no sign but that of an integer. Then an object that a condition refuses decides
-//! nothing (chapter 4.6).
+//! blocks, no sign but that of an integer, and no value beside the SUM of rows. Then an object that
+//! a condition refuses decides nothing (chapter 4.6).
 ghost use Rattle.std.specs.Prelude.{◌≡◌, option_map};
 ghost use Rattle.std.specs.List.{list_all};
 ghost use Rattle.jpql_run.specs.Calm as calm;
 
 use jpa_value::Boxed;
-use jpql_tree::Function;
-use jpql_types::{TypedBlock, TypedCondition, TypedJoin, TypedSource, TypedValue};
+use jpql_tree::{Against, Aggregate, Function};
+use jpql_typed::{TypedBlock, TypedCondition, TypedJoin, TypedSource, TypedValue};
 
 fn is_calm_function(function: Function) -> bool
     ensures { result ≡ calm.is_calm_function function }
@@ -70,6 +70,13 @@ fn are_calm_values(values: &[TypedValue]) -> bool
     true
 }
 
+/// Whether what a value is compared with can't overflow, where the rows don't: all but their SUM.
+fn is_calm_against(against: Against) -> bool
+    ensures { result ≡ calm.is_calm_against against }
+{
+    !matches!(against, Against::One(Aggregate::Sum, _))
+}
+
 /// Whether a condition can't overflow.
 #[cycle(is_calm)]
 pub(crate) fn is_calm(condition: &TypedCondition) -> bool
@@ -89,6 +96,9 @@ pub(crate) fn is_calm(condition: &TypedCondition) -> bool
         TypedCondition::Member(one, _) => is_calm_value(one),
         TypedCondition::IsEmpty(_) | TypedCondition::Type(_, _) => true,
         TypedCondition::Exists(block) => is_calm_block(block.get()),
+        TypedCondition::Rows(against, _, one, block) => {
+            is_calm_against(*against) && (is_calm_value(one) && is_calm_block(block.get()))
+        }
     }
 }
 

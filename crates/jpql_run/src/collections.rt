@@ -15,7 +15,7 @@ use crate::run::Run;
 use crate::tuple::Tuple;
 use jpa_value::{Identity, is_same_identity};
 use jpql_eval::{Failure, Seen, Truth, truth_of};
-use jpql_types::TypedPath;
+use jpql_typed::TypedPath;
 use std::alloc::Global;
 
 /// SIZE.

@@ -9,7 +9,7 @@ use crate::paths::is_broken;
 use crate::run::Run;
 use crate::tuple::Tuple;
 use jpa_value::Boxed;
-use jpql_types::{TypedCondition, TypedValue};
+use jpql_typed::{TypedCondition, TypedValue};
 
 /// Whether it has one in a value.
 #[cycle(value_drops)]
@@ -73,6 +73,7 @@ fn condition_drops<'a>(run: &Run<'a>, tuple: &Tuple<'a>, condition: &TypedCondit
         TypedCondition::Member(one, path) => {
             value_drops(run, tuple, one) || is_broken(run, tuple, path)
         }
+        TypedCondition::Rows(_, _, one, _) => value_drops(run, tuple, one),
         TypedCondition::Exists(_) | TypedCondition::Type(_, _) => false,
     }
 }

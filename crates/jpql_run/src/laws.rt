@@ -3,10 +3,10 @@ ghost use Rattle.std.specs.Prelude.{List, Option};
 ghost use Rattle.std.specs.List.{AllByRecursion};
 ghost use Rattle.jpa_model.specs.declared.unit.PersistenceUnit.{PersistenceUnit};
 ghost use Rattle.jpa_stored.specs.Sets.{StoredSet};
-ghost use Rattle.jpql_types.specs.declared.typed.TypedCondition.{TypedCondition};
-ghost use Rattle.jpql_types.specs.declared.typed.TypedSource.{TypedSource};
+ghost use Rattle.jpql_typed.specs.declared.typed.TypedCondition.{TypedCondition};
+ghost use Rattle.jpql_typed.specs.declared.typed.TypedSource.{TypedSource};
 ghost use Rattle.jpql_eval.specs.declared.datum.Datum.{Datum};
-ghost use Rattle.jpql_types.specs.declared.typed.TypedValue.{TypedValue};
+ghost use Rattle.jpql_typed.specs.declared.typed.TypedValue.{TypedValue};
 ghost use Rattle.jpql_plan.specs.Paths.{Entry, Tuple};
 ghost use Rattle.jpql_run.specs.Keys.{IsAlwaysTold, IsAnyTold};
 ghost use Rattle.jpql_run.specs.Calm.{CalmLaws};
@@ -15,7 +15,8 @@ ghost use Rattle.jpql_run.specs.Lookups.{KeyLaws, LookupLaws, KnownLaws};
 ghost use Rattle.jpql_run.specs.Refused.{AreJoinsTold, LeavingOut, JoinLeavingOut, RefusalLaws};
 
 /// The laws of what can't overflow; it does nothing. Where no `+`, `-`, `*`, ABS, MOD or aggregate
-/// stands, nested blocks and their items included, Overflow can't come from it.
+/// stands, nested blocks and their items included, and no value beside the SUM of rows, Overflow
+/// can't come from it.
 pub fn calm_laws()
     ensures { CalmLaws }
 {}

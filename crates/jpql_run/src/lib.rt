@@ -69,4 +69,4 @@ pub use tuple::Tuple;
 pub use tuples::objects_of;
 pub use value_fronts::{ValueOrder, first_objects_by, valued_member};
 pub use values::value;
-pub use ways::{FoundBy, Way, ways_of};
+pub use ways::{FoundBy, Way, Within, ways_of};

@@ -15,7 +15,7 @@ use crate::tuple::Tuple;
 use jpa_model::Member;
 use jpa_value::{Identity, Value};
 use jpql_eval::{Seen, seen_value};
-use jpql_types::{Step, TypedPath};
+use jpql_typed::{Step, TypedPath};
 use std::alloc::{AllocError, Global};
 
 #[inline(always)]

@@ -16,7 +16,7 @@ use crate::values::value;
 use jpa_value::Text;
 use jpql_eval::{Failure, Seen, Truth, between, compared, like, or3, truth_of};
 use jpql_tree::Comparison;
-use jpql_types::{TypedPath, TypedValue};
+use jpql_typed::{TypedPath, TypedValue};
 use std::alloc::Global;
 
 /// A comparison.

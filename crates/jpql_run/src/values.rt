@@ -12,7 +12,7 @@ use crate::run::Run;
 use crate::tuple::Tuple;
 use jpql_eval::{Datum, Failure, Seen, aggregated, applied, arithmetic, seen_datum, signed};
 use jpql_tree::{Aggregate, Function};
-use jpql_types::TypedValue;
+use jpql_typed::TypedValue;
 use std::alloc::Global;
 
 fn parameter<'a>(parameters: &'a [Datum], place: usize) -> Seen<'a>

@@ -3,9 +3,9 @@ use Rattle.std.proofs.Common.{rules, ◌≡◌, ◌∙◌, Bool, List, map}
 use Rattle.std.specs.List.{list_any}
 use Rattle.jpa_model.proofs.Distinct.{list_any-map}
 use Rattle.jpql_tree.specs.declared.Function.{Function}
-use Rattle.jpql_types.specs.declared.typed.TypedValue.{TypedValue}
-use Rattle.jpql_types.specs.declared.typed.TypedValue.TheVariants as v
-use Rattle.jpql_types.specs.declared.typed.TypedValue.TheFolds as folds
+use Rattle.jpql_typed.specs.declared.typed.TypedValue.{TypedValue}
+use Rattle.jpql_typed.specs.declared.typed.TypedValue.TheVariants as v
+use Rattle.jpql_typed.specs.declared.typed.TypedValue.TheFolds as folds
 use Rattle.jpql_plan.specs.Selection.{has_aggregate}
 
 parts : (f : Function) (all : List TypedValue) → has_aggregate (v.Call f all) ≡ list_any (λ a. a) (map has_aggregate all)

@@ -4,8 +4,8 @@ use Rattle.std.specs.Prelude.{All, ◌||◌, Bool}
 use Rattle.std.specs.List.{list_any}
 use Rattle.std.proofs.lemmas.Bool.{false≢true}
 use Rattle.std.proofs.lemmas.List.Elements.{All-head, All-tail}
-use Rattle.jpql_types.specs.declared.typed.TypedKey.{TypedKey}
-use Rattle.jpql_types.specs.declared.typed.TypedSorted.{TypedSorted}
+use Rattle.jpql_typed.specs.declared.typed.TypedKey.{TypedKey}
+use Rattle.jpql_typed.specs.declared.typed.TypedSorted.{TypedSorted}
 use Rattle.jpql_eval.specs.declared.datum.Datum.{Datum}
 use Rattle.jpql_eval.specs.Answers.{Answer, gives, both, every}
 use Rattle.jpql_plan.specs.Meaning.{Case}

@@ -1,7 +1,7 @@
 -- What a stable sort gives is ORDER BY.
 use Rattle.std.proofs.Common.{◌≡◌, sym, ◌∙◌, List}
 use Rattle.std.specs.List.Sorted.{IsSortedBy, IsStableBy}
-use Rattle.jpql_types.specs.declared.typed.TypedKey.{TypedKey}
+use Rattle.jpql_typed.specs.declared.typed.TypedKey.{TypedKey}
 use Rattle.jpql_plan.specs.Selection.{Row, precedes, in_order}
 use Rattle.jpql_plan.proofs.Orders.{precedes_is_order}
 use Rattle.jpql_plan.proofs.Ordered.{in_order_sorted, in_order_stable}

@@ -1,6 +1,6 @@
 -- DISTINCT and ORDER BY of rows, as the meaning of a SELECT has them.
 use Rattle.std.specs.Prelude.{Bool, List, if◌then◌else◌}
-use Rattle.jpql_types.specs.declared.typed.TypedKey.{TypedKey}
+use Rattle.jpql_typed.specs.declared.typed.TypedKey.{TypedKey}
 use Rattle.jpql_eval.specs.declared.datum.Datum.{Datum}
 use Rattle.jpql_eval.specs.Aggregates.{once}
 use Rattle.jpql_plan.specs.Laws.{is_same_row}

@@ -17,7 +17,7 @@ use crate::row::Row;
 use crate::rows::rows_of;
 use jpql_eval::Failure;
 use jpql_run::{Run, Tuple};
-use jpql_types::{TypedKey, TypedPath, TypedSelect, TypedSorted, TypedValue};
+use jpql_typed::{TypedKey, TypedPath, TypedSelect, TypedSorted, TypedValue};
 use std::alloc::{AllocError, Global};
 
 /// A tuple, and the group that it is the first of, where they stand.

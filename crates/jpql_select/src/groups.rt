@@ -16,7 +16,7 @@ use crate::case::Case;
 use crate::key::Key;
 use jpql_eval::{Seen, is_same};
 use jpql_run::{Run, Tuple, path};
-use jpql_types::TypedPath;
+use jpql_typed::TypedPath;
 use std::alloc::{AllocError, Global};
 use std::collections::BTreeMap;
 

@@ -7,7 +7,7 @@ ghost use Rattle.jpql_select.specs.Sortings.{sorting_data};
 
 use crate::row::{Row, Sorting};
 use jpql_eval::{Seen, order};
-use jpql_types::TypedKey;
+use jpql_typed::TypedKey;
 use std::alloc::AllocError;
 use std::cmp::Ordering;
 

@@ -13,7 +13,7 @@ use jpa_model::Metamodel;
 use jpa_open::OpenSet;
 use jpql_eval::{Datum, Failure};
 use jpql_run::Run;
-use jpql_types::TypedSelect;
+use jpql_typed::TypedSelect;
 use std::alloc::Global;
 
 /// The table of a statement over what the manager at work sees (chapter 4.2.1), with what stands

@@ -7,7 +7,7 @@ use crate::distinct::distinct;
 use crate::order::in_order;
 use crate::row::Row;
 use jpql_eval::Seen;
-use jpql_types::TypedKey;
+use jpql_typed::TypedKey;
 use std::alloc::{AllocError, Global};
 
 /// The rows that a SELECT gives, each with what its items give.

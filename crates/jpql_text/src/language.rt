@@ -3,6 +3,7 @@ ghost use Rattle.std.specs.Prelude.{◌≡◌};
 ghost use Rattle.std.specs.List.{list_all};
 ghost use Rattle.jpql_grammar.specs.Queries as spec;
 
+use crate::rows::has_rows;
 use jpql_tree::{Language, Query, SortKey, Sorted};
 
 fn is_named(by: &Sorted) -> bool
@@ -20,13 +21,22 @@ fn are_named(keys: &[SortKey]) -> bool
     keys.iter().all(|key| is_named(&key.by))
 }
 
+fn sorts_by_names(query: &Query) -> bool
+    ensures { result ≡ spec.sorts_by_names query.now }
+{
+    match query {
+        Query::Select(select) => are_named(select.order.as_slice()),
+        _ => true,
+    }
+}
+
 /// Whether a language has a statement: the profile sorts by result variables and paths alone
-/// (chapter 4.10).
+/// (chapter 4.10), and compares no value with the rows of a subquery.
 pub(crate) fn speaks(language: Language, query: &Query) -> bool
     ensures { result ≡ spec.speaks language query.now }
 {
-    match (language, query) {
-        (Language::Profile, Query::Select(select)) => are_named(select.order.as_slice()),
-        _ => true,
+    match language {
+        Language::Profile => sorts_by_names(query) && !has_rows(query),
+        Language::Wide => true,
     }
 }

@@ -14,6 +14,7 @@ mod language;
 mod limits;
 mod lists;
 mod read;
+mod rows;
 mod statements;
 mod variables;
 

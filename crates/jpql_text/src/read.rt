@@ -85,9 +85,10 @@ fn tree_of(
 /// The tree of a query's text in a language. The text is one of the grammar of Jakarta Persistence
 /// 3.1, chapter 4, as far as `jpql_grammar`'s `specs/Grammar` has it; keywords are those of the
 /// language and ignore ASCII case, and parentheses leave no node. The profile's ORDER BY sorts by
-/// result variables and paths alone, the wide language's by any value. A parameter that a collection is
-/// handed in for stands behind IN alone, with parentheses around it or not, for the parameters of its
-/// values (chapter 4.6.9), whose names `value_name` gives.
+/// result variables and paths alone, the wide language's by any value; the wide language compares
+/// values with the rows of subqueries too. A parameter that a collection is handed in for stands behind
+/// IN alone, with parentheses around it or not, for the parameters of its values (chapter 4.6.9), whose
+/// names `value_name` gives.
 ///
 /// `Limit` for a text over 16,384 bytes, for one in which more than 32 parentheses are open at some
 /// place outside quotes, for one in which collections become more than 65,536 values, counted at

@@ -22,7 +22,7 @@ fn in_condition(condition: &Condition) -> usize
             total(in_condition(left.get()), in_condition(right.get()))
         }
         Condition::Not(inner) => in_condition(inner.get()),
-        Condition::Exists(block) => in_block(block.get()),
+        Condition::Exists(block) | Condition::Rows(_, _, _, block) => in_block(block.get()),
         _ => 0,
     }
 }

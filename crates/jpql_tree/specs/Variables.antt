@@ -29,6 +29,7 @@ condition_step (layer.IsNull a) = 0
 condition_step (layer.IsEmpty p) = 0
 condition_step (layer.Member a p) = 0
 condition_step (layer.Exists b) = b
+condition_step (layer.Rows against op a b) = b
 condition_step (layer.«Type» x names) = 0
 
 -- the variables in a nested SELECT: those of its FROM and its WHERE

@@ -61,6 +61,15 @@ pub enum Aggregate {
     Max,
 }
 
+/// What a value is compared with of the rows of a subquery: any of them, all of them (chapters 4.6.9
+/// and 4.6.15), or what an aggregate gives of them, with whether DISTINCT is written (4.9.5).
+#[derive(Clone, Copy)]
+pub enum Against {
+    Any,
+    All,
+    One(Aggregate, bool),
+}
+
 /// A sign.
 #[derive(Clone, Copy)]
 pub enum Sign {
@@ -127,6 +136,8 @@ pub enum Condition {
     IsEmpty(Path),
     Member(Value, Path),
     Exists(Boxed<Block>),
+    /// A value beside the rows of a subquery; IN is a comparison by `=` with any of them.
+    Rows(Against, Comparison, Value, Boxed<Block>),
     Type(Text, Seq<Text>),
 }
 
@@ -150,7 +161,8 @@ pub struct Join {
     pub on: Option<Boxed<Condition>>,
 }
 
-/// A subquery, which stands in EXISTS (chapter 4.6.16).
+/// A subquery, which stands in EXISTS or beside a value (chapter 4.6.16). Beside an aggregate its
+/// item is what that is of.
 #[cycle(condition)]
 #[derive(Drop)]
 pub struct Block {

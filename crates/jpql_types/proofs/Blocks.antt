@@ -1,16 +1,18 @@
 -- What a nested SELECT is typed by, once the scope is known that its FROM leaves.
-use Rattle.std.proofs.Common.{rules, ◌≡◌, refl, ◌∙◌, ap, Bool, ◌&&◌, List, map, is_some, Option, Some, None, option_map}
-use Rattle.jpa_model.specs.WellFormed.{is_some_that, if_some}
+use Rattle.std.proofs.Common.{rules, ◌≡◌, refl, ◌∙◌, ap, Bool, List, map, Option, Some, None, option_map}
+use Rattle.std.specs.Prelude.{if◌then◌else◌}
+use Rattle.jpa_model.specs.WellFormed.{if_some}
 use Rattle.jpa_model.specs.declared.unit.PersistenceUnit.{PersistenceUnit}
 use Rattle.jpql_tree.specs.declared.Path.{Path}
 use Rattle.jpql_tree.specs.declared.Condition.TheViews.{out-Block}
 use Rattle.jpql_tree.specs.declared.Condition.TheFolds as condition
 use Rattle.jpql_tree.specs.declared.Block.{Block}
 use Rattle.jpql_tree.specs.Names.{Text}
+use Rattle.jpql_tree.specs.Steps.{◌>>=◌}
 use Rattle.jpql_types.specs.declared.scope.Clause.{Clause}
 use Rattle.jpql_types.specs.declared.sort.Sort.{Sort}
 use Rattle.jpql_types.specs.Scope.{Scope}
-use Rattle.jpql_types.specs.declared.typed.TypedBlock.{roll-TypedBlock}
+use Rattle.jpql_typed.specs.declared.typed.TypedBlock.{roll-TypedBlock}
 use Rattle.jpql_types.specs.Typing as typing
 use Rattle.jpql_types.specs.Trees as trees
 
@@ -19,19 +21,20 @@ if_some-map p f None = refl
 if_some-map p f (Some a) = refl
 
 block_in_turn : (m : PersistenceUnit) (ps : List (Text × Sort)) (groups : List Path) (b : Block) (outer : Scope)
-    → typing.is_block_typed m ps groups b outer
-    ≡ is_some_that (λ s. is_some (typing.value_sort m ps groups s Clause.Where ((out-Block b).item).value) && if_some (λ (c : Scope → Clause → Bool). c s Clause.Where) (option_map (λ c s k. typing.is_condition_typed m ps groups s k c) (out-Block b).filter))
-    (typing.in_turn (map (typing.source_scope m ps groups) (out-Block b).sources) outer)
+    → typing.block_sort m ps groups b outer
+    ≡ (typing.in_turn (map (typing.source_scope m ps groups) (out-Block b).sources) outer
+    >>= λ s. if if_some (λ (c : Scope → Clause → Bool). c s Clause.Where) (option_map (λ c s k. typing.is_condition_typed m ps groups s k c) (out-Block b).filter)
+    then typing.value_sort m ps groups s Clause.Where ((out-Block b).item).value else None)
 block_in_turn m ps groups b outer = search (rules, condition.the_lemmas)
 
-pub block_is_typed : (m : PersistenceUnit) (ps : List (Text × Sort)) (groups : List Path) (b : Block) (outer scope : Scope)
+pub block_sort_in : (m : PersistenceUnit) (ps : List (Text × Sort)) (groups : List Path) (b : Block) (outer scope : Scope)
     → typing.in_turn (map (typing.source_scope m ps groups) (out-Block b).sources) outer ≡ Some scope
-    → typing.is_block_typed m ps groups b outer
-    ≡ (is_some (typing.value_sort m ps groups scope Clause.Where ((out-Block b).item).value) && if_some (typing.is_condition_typed m ps groups scope Clause.Where) (out-Block b).filter)
-block_is_typed m ps groups b outer scope e =
+    → typing.block_sort m ps groups b outer
+    ≡ (if if_some (typing.is_condition_typed m ps groups scope Clause.Where) (out-Block b).filter then typing.value_sort m ps groups scope Clause.Where ((out-Block b).item).value else None)
+block_sort_in m ps groups b outer scope e =
     block_in_turn m ps groups b outer
-    ∙ ap (is_some_that (λ s. is_some (typing.value_sort m ps groups s Clause.Where ((out-Block b).item).value) && if_some (λ (c : Scope → Clause → Bool). c s Clause.Where) (option_map (λ c s k. typing.is_condition_typed m ps groups s k c) (out-Block b).filter))) e
-    ∙ ap (λ z. is_some (typing.value_sort m ps groups scope Clause.Where ((out-Block b).item).value) && z) (if_some-map (λ (c : Scope → Clause → Bool). c scope Clause.Where) (λ c s k. typing.is_condition_typed m ps groups s k c) (out-Block b).filter)
+    ∙ ap (λ o. o >>= λ s. if if_some (λ (c : Scope → Clause → Bool). c s Clause.Where) (option_map (λ c s k. typing.is_condition_typed m ps groups s k c) (out-Block b).filter) then typing.value_sort m ps groups s Clause.Where ((out-Block b).item).value else None) e
+    ∙ ap (λ z. if z then typing.value_sort m ps groups scope Clause.Where ((out-Block b).item).value else None) (if_some-map (λ (c : Scope → Clause → Bool). c scope Clause.Where) (λ c s k. typing.is_condition_typed m ps groups s k c) (out-Block b).filter)
 
 option_map-map : {A B C : Type 0} (g : B → C) (f : A → B) (x : Option A) → option_map g (option_map f x) ≡ option_map (λ a. g (f a)) x
 option_map-map g f None = refl

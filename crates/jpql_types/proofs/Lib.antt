@@ -7,6 +7,7 @@ mod Blocks
 mod Joined
 mod Items
 mod Judged
+mod RowSamples
 -- ---- each name means something
 pub mod Options
 pub mod ResolvedValues

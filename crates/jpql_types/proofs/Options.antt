@@ -27,6 +27,10 @@ pub there_before : {A B : Type 0} (o : Option A) (f : A → Option B) → IsTher
 there_before None f h = absurd (false≢true h)
 there_before (Some a) f h = refl
 
+pub there_at : {A B : Type 0} (o : Option A) (f : A → Option B) → IsThere (o >>= f) → (x : A) × (o ≡ Some x) × IsThere (f x)
+there_at None f h = absurd (false≢true h)
+there_at (Some a) f h = (a, refl, h)
+
 pub there_that : {A : Type 0} (p : A → Bool) (o : Option A) → is_some_that p o ≡ true → IsThere o
 there_that p None h = absurd (false≢true h)
 there_that p (Some a) h = refl
@@ -42,6 +46,10 @@ then_at (Some a) f y h = (a, refl, h)
 pub there_if : {A : Type 0} (b : Bool) (o : Option A) → IsThere (if b then o else None) → IsThere o
 there_if true o h = h
 there_if false o h = absurd (false≢true h)
+
+pub passed_if : {A : Type 0} (b : Bool) (o : Option A) → IsThere (if b then o else None) → b ≡ true
+passed_if true o h = refl
+passed_if false o h = absurd (false≢true h)
 
 pub there_both : {A B : Type 0} (test : A → B → Bool) (a : Option A) (b : Option B) → pass_both test a b ≡ true → IsThere a × IsThere b
 there_both test None b h = absurd (false≢true h)

@@ -1,7 +1,7 @@
 -- Names in conditions, nested SELECTs, joins and elements of FROM that are well typed mean something: by induction over their
 -- trees.
 use Rattle.std.proofs.Common.{◌≡◌, ◌∙◌, refl, ap, sym, subst, ℕ, Bool, true, List, [], ◌∷◌, map, is_some, Option, Some, None, option_map}
-use Rattle.std.specs.Prelude.{◌&&◌, unwrap_or}
+use Rattle.std.specs.Prelude.{◌&&◌, unwrap_or, if◌then◌else◌}
 use Rattle.std.specs.List.{list_all}
 use Rattle.std.proofs.lemmas.Bool.{and_parts}
 use Rattle.jpa_model.specs.Chains.{class_of}
@@ -21,25 +21,25 @@ use Rattle.jpql_tree.specs.declared.Source.{Source}
 use Rattle.jpql_tree.specs.declared.Value.{Value}
 use Rattle.jpql_tree.specs.Names.{Text}
 use Rattle.jpql_tree.specs.Steps.{◌>>=◌}
-use Rattle.jpql_types.specs.declared.scope.Step.{Step}
-use Rattle.jpql_types.specs.declared.scope.TypedPath.{TypedPath}
+use Rattle.jpql_typed.specs.declared.path.Step.{Step}
+use Rattle.jpql_typed.specs.declared.path.TypedPath.{TypedPath}
 use Rattle.jpql_types.specs.declared.sort.Sort.{Sort}
-use Rattle.jpql_types.specs.declared.typed.TypedValue.{TypedValue}
-use Rattle.jpql_types.specs.declared.typed.TypedCondition.{TypedCondition}
-use Rattle.jpql_types.specs.declared.typed.TypedCondition.TheVariants as is
-use Rattle.jpql_types.specs.declared.typed.TypedOrigin.{TypedOrigin}
-use Rattle.jpql_types.specs.declared.typed.TypedSource.{TypedSource, roll-TypedSource}
-use Rattle.jpql_types.specs.declared.typed.TypedJoin.{TypedJoin, roll-TypedJoin}
-use Rattle.jpql_types.specs.declared.typed.TypedBlock.{TypedBlock, roll-TypedBlock}
+use Rattle.jpql_typed.specs.declared.typed.TypedValue.{TypedValue}
+use Rattle.jpql_typed.specs.declared.typed.TypedCondition.{TypedCondition}
+use Rattle.jpql_typed.specs.declared.typed.TypedCondition.TheVariants as is
+use Rattle.jpql_typed.specs.declared.typed.TypedOrigin.{TypedOrigin}
+use Rattle.jpql_typed.specs.declared.typed.TypedSource.{TypedSource, roll-TypedSource}
+use Rattle.jpql_typed.specs.declared.typed.TypedJoin.{TypedJoin, roll-TypedJoin}
+use Rattle.jpql_typed.specs.declared.typed.TypedBlock.{TypedBlock, roll-TypedBlock}
 use Rattle.jpql_types.specs.Scope.{Scope, when, place_of, path_of, step_from, target, resolved}
-use Rattle.jpql_types.specs.Sorts.{goes_with, text, joined, joined_basic, are_comparable}
+use Rattle.jpql_types.specs.Sorts.{goes_with, text, joined, joined_basic, sort_against, are_comparable}
 use Rattle.jpql_types.specs.Typing as typing
 use Rattle.jpql_types.specs.Typing.{value_sort, sorts_of, collection, variable_path, is_of_hierarchy, allows_exists, is_one_character, related_class, origin_class, in_turn, with_variable}
 use Rattle.jpql_types.specs.Trees as trees
 use Rattle.jpql_types.specs.Trees.{place, no_step}
 use Rattle.jpql_types.specs.Resolved as names
 use Rattle.jpql_types.specs.Resolved.{both, if_written}
-use Rattle.jpql_types.proofs.Options.{IsThere, value_in, none_some, there, there_before, there_that, there_both, all_there, that_at, then_at, when_there, both_of, each_of, each_tested, each_paired}
+use Rattle.jpql_types.proofs.Options.{IsThere, value_in, none_some, there, there_before, there_at, there_that, there_if, there_both, passed_if, all_there, that_at, then_at, when_there, both_of, each_of, each_tested, each_paired}
 use Rattle.jpql_types.proofs.Turns.{Turns, turns}
 use Rattle.jpql_types.proofs.ResolvedValues.{value_resolved, values_resolved, collected_path}
 
@@ -49,14 +49,17 @@ module _ (m : PersistenceUnit) (ps : List (Text × Sort)) (groups : List Path) w
   abbrev Judges : Type 0
   Judges = typing.Judges m ps groups
 
+  abbrev Rows : Type 0
+  Rows = Scope → Option Sort
+
   abbrev Adds : Type 0
   Adds = Scope → Option Scope
 
   abbrev pub judged : Condition → Judges
-  judged = fold-Condition Judges (Scope → Bool) Adds Adds (typing.condition_step m ps groups) (typing.block_step m ps groups) (typing.join_step m ps groups) (typing.source_step m ps groups)
+  judged = fold-Condition Judges Rows Adds Adds (typing.condition_step m ps groups) (typing.block_step m ps groups) (typing.join_step m ps groups) (typing.source_step m ps groups)
 
-  abbrev block_judged : Block → Scope → Bool
-  block_judged = typing.is_block_typed m ps groups
+  abbrev block_sorted : Block → Rows
+  block_sorted = typing.block_sort m ps groups
 
   abbrev join_adds : Join → Adds
   join_adds = typing.join_scope m ps groups
@@ -100,7 +103,7 @@ module _ (m : PersistenceUnit) (ps : List (Text × Sort)) (groups : List Path) w
   C c = (scope : Scope) (clause : _) → judged c scope clause ≡ true → name c scope ≡ Some (tree c scope)
 
   abbrev B : Block → Type 0
-  B b = (scope : Scope) → block_judged b scope ≡ true → names.block m ps b scope ≡ Some (trees.typed_block m ps b scope)
+  B b = (scope : Scope) → IsThere (block_sorted b scope) → names.block m ps b scope ≡ Some (trees.typed_block m ps b scope)
 
   abbrev J : Join → Type 0
   J = Turns join_adds (names.join m ps) (trees.typed_join m ps)
@@ -123,8 +126,8 @@ module _ (m : PersistenceUnit) (ps : List (Text × Sort)) (groups : List Path) w
   -- ---- the equations of each layer
 
   judged_at : (w : Condition-F Condition Block Join Source)
-      → judged (roll-Condition w) ≡ typing.condition_step m ps groups (folds.map-Condition Condition Block Join Source Judges (Scope → Bool) Adds Adds judged block_judged join_adds source_adds w)
-  judged_at w = folds.fold-roll-Condition Judges (Scope → Bool) Adds Adds (typing.condition_step m ps groups) (typing.block_step m ps groups) (typing.join_step m ps groups) (typing.source_step m ps groups) w
+      → judged (roll-Condition w) ≡ typing.condition_step m ps groups (folds.map-Condition Condition Block Join Source Judges Rows Adds Adds judged block_sorted join_adds source_adds w)
+  judged_at w = folds.fold-roll-Condition Judges Rows Adds Adds (typing.condition_step m ps groups) (typing.block_step m ps groups) (typing.join_step m ps groups) (typing.source_step m ps groups) w
 
   named_at : (w : Condition-F Condition Block Join Source)
       → name (roll-Condition w) ≡ names.test_step m ps (folds.map-Condition Condition Block Join Source Named-in Block-named Join-named Source-named name (names.block m ps) (names.join m ps) (names.source m ps) w)
@@ -136,7 +139,7 @@ module _ (m : PersistenceUnit) (ps : List (Text × Sort)) (groups : List Path) w
 
   from_layer : (w : Condition-F Condition Block Join Source)
       → ((scope : Scope) (clause : _)
-      → typing.condition_step m ps groups (folds.map-Condition Condition Block Join Source Judges (Scope → Bool) Adds Adds judged block_judged join_adds source_adds w) scope clause ≡ true
+      → typing.condition_step m ps groups (folds.map-Condition Condition Block Join Source Judges Rows Adds Adds judged block_sorted join_adds source_adds w) scope clause ≡ true
       → names.test_step m ps (folds.map-Condition Condition Block Join Source Named-in Block-named Join-named Source-named name (names.block m ps) (names.join m ps) (names.source m ps) w) scope
       ≡ Some (trees.test_step m ps (folds.map-Condition Condition Block Join Source Made-in Block-made Join-made Source-made tree (trees.typed_block m ps) (trees.typed_join m ps) (trees.typed_source m ps) w) scope))
       → C (roll-Condition w)
@@ -193,7 +196,12 @@ module _ (m : PersistenceUnit) (ps : List (Text × Sort)) (groups : List Path) w
   layer (test.Member a p) = from_layer (test.Member a p) (λ scope clause h.
       let there_ = there_both (λ class s. goes_with (Sort.Entity (Rattle.jpa_model.specs.Chains.root_class m class)) s) (collection m groups scope clause p) (value_sort m ps groups scope clause a) h in
       both_of is.Member (value_named scope a) (path_of m scope p) (value_made scope a) (trees.typed_path m ps scope p) (value_resolved m ps groups scope a clause there_.1) (collected_path m ps groups scope clause p there_.0))
-  layer (test.Exists b) = from_layer (test.Exists b.0) (λ scope clause h. ap (option_map is.Exists) (b.1 scope (and_parts (allows_exists clause) (block_judged b.0 scope) h).1))
+  layer (test.Exists b) = from_layer (test.Exists b.0) (λ scope clause h. ap (option_map is.Exists) (b.1 scope (and_parts (allows_exists clause) (is_some (block_sorted b.0 scope)) h).1))
+  layer (test.Rows against op a b) = from_layer (test.Rows against op a b.0) (λ scope clause h.
+      let rows = block_sorted b.0 scope >>= λ s. sort_against against s in
+      let p = there_both (are_comparable op) (value_sort m ps groups scope clause a) rows (and_parts (allows_exists clause) (typing.pass_both (are_comparable op) (value_sort m ps groups scope clause a) rows) h).1 in
+      both_of (is.Rows against op) (value_named scope a) (names.block m ps b.0 scope) (value_made scope a) (trees.typed_block m ps b.0 scope)
+      (value_resolved m ps groups scope a clause p.0) (b.1 scope (there_before (block_sorted b.0 scope) (λ s. sort_against against s) p.1)))
   layer (test.«Type» x all) = from_layer (test.«Type» x all) (λ scope clause h. type_resolved scope clause x all (resolved m groups scope clause (variable_path x)) refl h)
 
   -- ---- joins: what an ON says of a scope, what its names mean there, and its tree
@@ -235,8 +243,8 @@ module _ (m : PersistenceUnit) (ps : List (Text × Sort)) (groups : List Path) w
   bare_join y = folds.map-Join Cs Bs Js Ss Condition Block Join Source (λ z. z.0) (λ z. z.0) (λ z. z.0) (λ z. z.0) y
 
   judged_join : (w : Join-F Condition Block Join Source)
-      → join_adds (roll-Join w) ≡ typing.join_step m ps groups (folds.map-Join Condition Block Join Source Judges (Scope → Bool) Adds Adds judged block_judged join_adds source_adds w)
-  judged_join w = folds.fold-roll-Join Judges (Scope → Bool) Adds Adds (typing.condition_step m ps groups) (typing.block_step m ps groups) (typing.join_step m ps groups) (typing.source_step m ps groups) w
+      → join_adds (roll-Join w) ≡ typing.join_step m ps groups (folds.map-Join Condition Block Join Source Judges Rows Adds Adds judged block_sorted join_adds source_adds w)
+  judged_join w = folds.fold-roll-Join Judges Rows Adds Adds (typing.condition_step m ps groups) (typing.block_step m ps groups) (typing.join_step m ps groups) (typing.source_step m ps groups) w
 
   named_join : (w : Join-F Condition Block Join Source)
       → names.join m ps (roll-Join w) ≡ names.join_step m ps (folds.map-Join Condition Block Join Source Named-in Block-named Join-named Source-named name (names.block m ps) (names.join m ps) (names.source m ps) w)
@@ -310,7 +318,7 @@ module _ (m : PersistenceUnit) (ps : List (Text × Sort)) (groups : List Path) w
   source_layer : (y : Source-F Cs Bs Js Ss) → S (roll-Source (bare_source y))
   source_layer y scope wider h =
       let w = bare_source y in
-      let judged_source = folds.fold-roll-Source Judges (Scope → Bool) Adds Adds (typing.condition_step m ps groups) (typing.block_step m ps groups) (typing.join_step m ps groups) (typing.source_step m ps groups) w in
+      let judged_source = folds.fold-roll-Source Judges Rows Adds Adds (typing.condition_step m ps groups) (typing.block_step m ps groups) (typing.join_step m ps groups) (typing.source_step m ps groups) w in
       let named_source = folds.fold-roll-Source Named-in Block-named Join-named Source-named (names.test_step m ps) (names.block_step m ps) (names.join_step m ps) (names.source_step m ps) w in
       let made_source = folds.fold-roll-Source Made-in Block-made Join-made Source-made (trees.test_step m ps) (trees.block_step m ps) (trees.join_step m ps) (trees.source_step m ps) w in
       let it = source_by y.origin y.variable y.joins scope wider (subst (λ f. f scope ≡ Some wider) judged_source h) in
@@ -324,22 +332,22 @@ module _ (m : PersistenceUnit) (ps : List (Text × Sort)) (groups : List Path) w
   abbrev block_as : List TypedSource → TypedValue → Option TypedCondition → TypedBlock
   block_as sources item filter = roll-TypedBlock (record { item = item; sources = sources; filter = filter })
 
-  block_by : (item : Value) (xs : List Ss) (has_sort passes : Scope → Bool) (named : Option Named-in) (made : Option Made-in)
-      → ((scope : Scope) → has_sort scope ≡ true → value_named scope item ≡ Some (value_made scope item)) → AreMeant passes named made → (outer : Scope)
-      → is_some_that (λ scope. has_sort scope && passes scope) (in_turn (map source_adds (map (λ z. z.0) xs)) outer) ≡ true
+  block_by : (item : Value) (xs : List Ss) (sort : Rows) (passes : Scope → Bool) (named : Option Named-in) (made : Option Made-in)
+      → ((scope : Scope) → IsThere (sort scope) → value_named scope item ≡ Some (value_made scope item)) → AreMeant passes named made → (outer : Scope)
+      → IsThere (in_turn (map source_adds (map (λ z. z.0) xs)) outer >>= λ scope. if passes scope then sort scope else None)
       → (names.in_scope (map (names.source m ps) (map (λ z. z.0) xs)) outer >>= λ from. both (block_as from.0) (value_named from.1 item) (if_written (λ (c : Named-in). c from.1) named))
       ≡ Some (let from = trees.in_scope (map (trees.typed_source m ps) (map (λ z. z.0) xs)) outer in block_as from.0 (value_made from.1 item) (option_map (λ (c : Made-in). c from.1) made))
-  block_by item xs has_sort passes named made sorted meant outer h =
-      let wider = that_at (λ scope. has_sort scope && passes scope) (in_turn (map source_adds (map (λ z. z.0) xs)) outer) h in
+  block_by item xs sort passes named made sorted meant outer h =
+      let wider = there_at (in_turn (map source_adds (map (λ z. z.0) xs)) outer) (λ scope. if passes scope then sort scope else None) h in
       let t = turns source_adds (names.source m ps) (trees.typed_source m ps) (map (λ z. z.0) xs) (each_paired S xs) outer wider.0 wider.1 in
       let from = trees.in_scope (map (trees.typed_source m ps) (map (λ z. z.0) xs)) outer in
-      let p = and_parts (has_sort from.1) (passes from.1) (subst (λ s. (has_sort s && passes s) ≡ true) (sym t.1) wider.2) in
+      let behind = subst (λ s. IsThere (if passes s then sort s else None)) (sym t.1) wider.2 in
       ap (λ z. z >>= λ f. both (block_as f.0) (value_named f.1 item) (if_written (λ (c : Named-in). c f.1) named)) t.0
-      ∙ both_of (block_as from.0) (value_named from.1 item) (if_written (λ (c : Named-in). c from.1) named) (value_made from.1 item) (option_map (λ (c : Made-in). c from.1) made) (sorted from.1 p.0) (meant from.1 p.1)
+      ∙ both_of (block_as from.0) (value_named from.1 item) (if_written (λ (c : Named-in). c from.1) named) (value_made from.1 item) (option_map (λ (c : Made-in). c from.1) made) (sorted from.1 (there_if (passes from.1) (sort from.1) behind)) (meant from.1 (passed_if (passes from.1) (sort from.1) behind))
 
-  judged_block : (w : Block-F Condition Block Join Source)
-      → block_judged (roll-Block w) ≡ typing.block_step m ps groups (folds.map-Block Condition Block Join Source Judges (Scope → Bool) Adds Adds judged block_judged join_adds source_adds w)
-  judged_block w = folds.fold-roll-Block Judges (Scope → Bool) Adds Adds (typing.condition_step m ps groups) (typing.block_step m ps groups) (typing.join_step m ps groups) (typing.source_step m ps groups) w
+  sorted_block : (w : Block-F Condition Block Join Source)
+      → block_sorted (roll-Block w) ≡ typing.block_step m ps groups (folds.map-Block Condition Block Join Source Judges Rows Adds Adds judged block_sorted join_adds source_adds w)
+  sorted_block w = folds.fold-roll-Block Judges Rows Adds Adds (typing.condition_step m ps groups) (typing.block_step m ps groups) (typing.join_step m ps groups) (typing.source_step m ps groups) w
 
   named_block : (w : Block-F Condition Block Join Source)
       → names.block m ps (roll-Block w) ≡ names.block_step m ps (folds.map-Block Condition Block Join Source Named-in Block-named Join-named Source-named name (names.block m ps) (names.join m ps) (names.source m ps) w)
@@ -353,13 +361,13 @@ module _ (m : PersistenceUnit) (ps : List (Text × Sort)) (groups : List Path) w
   block_case is_distinct item xs None outer h =
       let w = bare_block (record { is_distinct = is_distinct; item = item; sources = xs; filter = None }) in
       ap (λ f. f outer) (named_block w)
-      ∙ block_by item.value xs (λ s. is_some (value_sort m ps groups s _ item.value)) (λ s. true) None None (λ s e. value_resolved m ps groups s item.value _ e) (λ s e. refl) outer (subst (λ f. f outer ≡ true) (judged_block w) h)
+      ∙ block_by item.value xs (λ s. value_sort m ps groups s _ item.value) (λ s. true) None None (λ s e. value_resolved m ps groups s item.value _ e) (λ s e. refl) outer (subst (λ f. IsThere (f outer)) (sorted_block w) h)
       ∙ ap (λ f. Some (f outer)) (sym (made_block w))
   block_case is_distinct item xs (Some c) outer h =
       let w = bare_block (record { is_distinct = is_distinct; item = item; sources = xs; filter = Some c }) in
       ap (λ f. f outer) (named_block w)
-      ∙ block_by item.value xs (λ s. is_some (value_sort m ps groups s _ item.value)) (λ s. judged c.0 s _) (Some (name c.0)) (Some (tree c.0))
-      (λ s e. value_resolved m ps groups s item.value _ e) (λ s e. ap (option_map Some) (c.1 s _ e)) outer (subst (λ f. f outer ≡ true) (judged_block w) h)
+      ∙ block_by item.value xs (λ s. value_sort m ps groups s _ item.value) (λ s. judged c.0 s _) (Some (name c.0)) (Some (tree c.0))
+      (λ s e. value_resolved m ps groups s item.value _ e) (λ s e. ap (option_map Some) (c.1 s _ e)) outer (subst (λ f. IsThere (f outer)) (sorted_block w) h)
       ∙ ap (λ f. Some (f outer)) (sym (made_block w))
 
   block_layer : (y : Block-F Cs Bs Js Ss) → B (roll-Block (bare_block y))

@@ -19,17 +19,17 @@ use Rattle.jpql_tree.specs.declared.Assignment.{Assignment}
 use Rattle.jpql_tree.specs.declared.Query.{Query}
 use Rattle.jpql_tree.specs.Names.{Text}
 use Rattle.jpql_tree.specs.Steps.{◌>>=◌}
-use Rattle.jpql_types.specs.declared.scope.Step.{Step}
-use Rattle.jpql_types.specs.declared.scope.TypedPath.{TypedPath}
+use Rattle.jpql_typed.specs.declared.path.Step.{Step}
+use Rattle.jpql_typed.specs.declared.path.TypedPath.{TypedPath}
 use Rattle.jpql_types.specs.declared.sort.Sort.{Sort}
-use Rattle.jpql_types.specs.declared.typed.Typed.{Typed}
-use Rattle.jpql_types.specs.declared.typed.TypedSorted.{TypedSorted}
-use Rattle.jpql_types.specs.declared.typed.TypedKey.{TypedKey}
-use Rattle.jpql_types.specs.declared.typed.TypedSource.{TypedSource}
-use Rattle.jpql_types.specs.declared.typed.TypedValue.{TypedValue}
-use Rattle.jpql_types.specs.declared.typed.TypedCondition.{TypedCondition}
-use Rattle.jpql_types.specs.declared.typed.TypedSelect.{TypedSelect}
-use Rattle.jpql_types.specs.declared.typed.TypedAssignment.{TypedAssignment}
+use Rattle.jpql_typed.specs.declared.typed.Typed.{Typed}
+use Rattle.jpql_typed.specs.declared.typed.TypedSorted.{TypedSorted}
+use Rattle.jpql_typed.specs.declared.typed.TypedKey.{TypedKey}
+use Rattle.jpql_typed.specs.declared.typed.TypedSource.{TypedSource}
+use Rattle.jpql_typed.specs.declared.typed.TypedValue.{TypedValue}
+use Rattle.jpql_typed.specs.declared.typed.TypedCondition.{TypedCondition}
+use Rattle.jpql_typed.specs.declared.typed.TypedSelect.{TypedSelect}
+use Rattle.jpql_typed.specs.declared.typed.TypedAssignment.{TypedAssignment}
 use Rattle.jpql_types.specs.Scope.{Scope, path_of, step_from}
 use Rattle.jpql_types.specs.Sorts.{goes_with, is_basic, step_sort}
 use Rattle.jpql_types.specs.Typing.{all_some, value_sort, is_condition_typed, in_turn, source_scope, with_variable, scope_of}

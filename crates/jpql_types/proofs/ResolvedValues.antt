@@ -10,8 +10,8 @@ use Rattle.jpql_tree.specs.declared.Value.TheFolds as tree
 use Rattle.jpql_tree.specs.Names.{Text}
 use Rattle.jpql_tree.specs.Steps.{◌>>=◌}
 use Rattle.jpql_types.specs.declared.sort.Sort.{Sort}
-use Rattle.jpql_types.specs.declared.typed.TypedValue.{TypedValue}
-use Rattle.jpql_types.specs.declared.typed.TypedValue.TheVariants as v
+use Rattle.jpql_typed.specs.declared.typed.TypedValue.{TypedValue}
+use Rattle.jpql_typed.specs.declared.typed.TypedValue.TheVariants as v
 use Rattle.jpql_types.specs.Scope.{Scope, path_of, resolved}
 use Rattle.jpql_types.specs.Sorts.{integer, path_sort, collection_class, arithmetic_sort, call_sort, aggregate_sort}
 use Rattle.jpql_types.specs.Typing.{all_some, allows_aggregates, sort_of_path, collection, sort_step, value_sort}

@@ -73,6 +73,7 @@ module _ (which : Names) where
   condition_step (test.IsEmpty p) = []
   condition_step (test.Member a p) = in_value which a
   condition_step (test.Exists b) = b
+  condition_step (test.Rows against op a b) = in_value which a ++ b
   condition_step (test.«Type» x names) = []
 
   -- the names in a nested SELECT: in its item, its FROM and its WHERE

@@ -22,19 +22,19 @@ use Rattle.jpql_tree.specs.declared.Query.{Query}
 use Rattle.jpql_tree.specs.Names.{Text}
 use Rattle.jpql_tree.specs.Steps.{◌>>=◌}
 use Rattle.jpql_types.specs.declared.sort.Sort.{Sort}
-use Rattle.jpql_types.specs.declared.typed.TypedValue.{TypedValue}
-use Rattle.jpql_types.specs.declared.typed.TypedValue.TheVariants as v
-use Rattle.jpql_types.specs.declared.typed.TypedOrigin.{TypedOrigin}
-use Rattle.jpql_types.specs.declared.typed.TypedCondition.{TypedCondition}
-use Rattle.jpql_types.specs.declared.typed.TypedCondition.TheVariants as is
-use Rattle.jpql_types.specs.declared.typed.TypedSource.{TypedSource, roll-TypedSource}
-use Rattle.jpql_types.specs.declared.typed.TypedJoin.{TypedJoin, roll-TypedJoin}
-use Rattle.jpql_types.specs.declared.typed.TypedBlock.{TypedBlock, roll-TypedBlock}
-use Rattle.jpql_types.specs.declared.typed.TypedSorted.{TypedSorted}
-use Rattle.jpql_types.specs.declared.typed.TypedKey.{TypedKey}
-use Rattle.jpql_types.specs.declared.typed.TypedSelect.{TypedSelect}
-use Rattle.jpql_types.specs.declared.typed.TypedAssignment.{TypedAssignment}
-use Rattle.jpql_types.specs.declared.typed.Typed.{Typed}
+use Rattle.jpql_typed.specs.declared.typed.TypedValue.{TypedValue}
+use Rattle.jpql_typed.specs.declared.typed.TypedValue.TheVariants as v
+use Rattle.jpql_typed.specs.declared.typed.TypedOrigin.{TypedOrigin}
+use Rattle.jpql_typed.specs.declared.typed.TypedCondition.{TypedCondition}
+use Rattle.jpql_typed.specs.declared.typed.TypedCondition.TheVariants as is
+use Rattle.jpql_typed.specs.declared.typed.TypedSource.{TypedSource, roll-TypedSource}
+use Rattle.jpql_typed.specs.declared.typed.TypedJoin.{TypedJoin, roll-TypedJoin}
+use Rattle.jpql_typed.specs.declared.typed.TypedBlock.{TypedBlock, roll-TypedBlock}
+use Rattle.jpql_typed.specs.declared.typed.TypedSorted.{TypedSorted}
+use Rattle.jpql_typed.specs.declared.typed.TypedKey.{TypedKey}
+use Rattle.jpql_typed.specs.declared.typed.TypedSelect.{TypedSelect}
+use Rattle.jpql_typed.specs.declared.typed.TypedAssignment.{TypedAssignment}
+use Rattle.jpql_typed.specs.declared.typed.Typed.{Typed}
 use Rattle.jpql_types.specs.Scope.{Scope, place_of, path_of, step_from, target}
 use Rattle.jpql_types.specs.Typing.{all_some, with_variable, scope_of}
 use Rattle.jpql_types.specs.Statements.{checked}
@@ -108,6 +108,7 @@ module _ (m : PersistenceUnit) (parameters : List (Text × Sort)) where
   test_step (test.IsEmpty p) scope = option_map is.IsEmpty (path_of m scope p)
   test_step (test.Member a p) scope = both is.Member (value scope a) (path_of m scope p)
   test_step (test.Exists b) scope = option_map is.Exists (b scope)
+  test_step (test.Rows against op a b) scope = both (is.Rows against op) (value scope a) (b scope)
   test_step (test.«Type» x names) scope = both is.«Type» (place_of scope x) (all_some (map (class_of m) names))
 
   -- the tree of a nested SELECT, where its FROM, and behind it its item and WHERE, mean something

@@ -13,8 +13,8 @@ use Rattle.jpql_tree.specs.Names.{Text}
 use Rattle.jpql_tree.specs.Steps.{◌>>=◌}
 use Rattle.jpql_types.specs.declared.scope.Variable.{Variable}
 use Rattle.jpql_types.specs.declared.scope.Clause.{Clause}
-use Rattle.jpql_types.specs.declared.scope.Step.{Step}
-use Rattle.jpql_types.specs.declared.scope.TypedPath.{TypedPath}
+use Rattle.jpql_typed.specs.declared.path.Step.{Step}
+use Rattle.jpql_typed.specs.declared.path.TypedPath.{TypedPath}
 
 -- a value under a condition
 abbrev pub when : {A : Type 0} → Bool → A → Option A

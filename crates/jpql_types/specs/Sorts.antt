@@ -7,12 +7,13 @@ use Rattle.jpa_model.specs.Chains.{root_of, root_class, attributes_of}
 use Rattle.jpa_model.specs.declared.unit.PersistenceUnit.{PersistenceUnit}
 use Rattle.jpa_model.specs.declared.unit.Member.{Member}
 use Rattle.jpql_tree.specs.declared.Function.{Function}
+use Rattle.jpql_tree.specs.declared.Against.{Against}
 use Rattle.jpql_tree.specs.declared.Aggregate.{Aggregate}
 use Rattle.jpql_tree.specs.declared.Comparison.{Comparison}
 use Rattle.jpql_tree.specs.Steps.{◌>>=◌}
 use Rattle.jpql_tree.specs.Calls.{takes}
-use Rattle.jpql_types.specs.declared.scope.Step.{Step}
-use Rattle.jpql_types.specs.declared.scope.TypedPath.{TypedPath}
+use Rattle.jpql_typed.specs.declared.path.Step.{Step}
+use Rattle.jpql_typed.specs.declared.path.TypedPath.{TypedPath}
 use Rattle.jpql_types.specs.declared.sort.Sort.{Sort}
 use Rattle.jpql_types.specs.Scope.{when, target_of_one, target_of_many}
 
@@ -92,6 +93,13 @@ aggregate_sort Aggregate.Count s = Some integer
 aggregate_sort Aggregate.Sum s = when (goes_with integer s) integer
 aggregate_sort Aggregate.Min s = when (is_basic s) s
 aggregate_sort Aggregate.Max s = when (is_basic s) s
+
+-- what a value is compared with of rows of a sort: the rows themselves, or what an aggregate gives of
+-- them (chapters 4.6.9, 4.6.15 and 4.9.5)
+abbrev pub sort_against : Against → Sort → Option Sort
+sort_against Against.Any s = Some s
+sort_against Against.All s = Some s
+sort_against (Against.One g distinct) s = aggregate_sort g s
 
 -- arithmetic is of integers
 abbrev pub arithmetic_sort : List Sort → Option Sort

@@ -22,9 +22,9 @@ use Rattle.jpql_tree.specs.Names.{Text}
 use Rattle.jpql_tree.specs.Steps.{◌>>=◌}
 use Rattle.jpql_types.specs.declared.names.Names.{Names}
 use Rattle.jpql_types.specs.declared.scope.Clause.{Clause}
-use Rattle.jpql_types.specs.declared.scope.Step.{Step}
+use Rattle.jpql_typed.specs.declared.path.Step.{Step}
 use Rattle.jpql_types.specs.declared.sort.Sort.{Sort}
-use Rattle.jpql_types.specs.declared.typed.Typed.{Typed}
+use Rattle.jpql_typed.specs.declared.typed.Typed.{Typed}
 use Rattle.jpql_types.specs.Scope.{Scope, same_variable, step_from, relation_of, path_of, same_path}
 use Rattle.jpql_types.specs.Sorts.{goes_with, is_basic, step_sort}
 use Rattle.jpql_types.specs.Names.{names_in}

@@ -23,22 +23,22 @@ use Rattle.jpql_tree.specs.declared.Select.{Select}
 use Rattle.jpql_tree.specs.declared.Assignment.{Assignment}
 use Rattle.jpql_tree.specs.declared.Query.{Query}
 use Rattle.jpql_tree.specs.Names.{Text}
-use Rattle.jpql_types.specs.declared.scope.Step.{Step}
-use Rattle.jpql_types.specs.declared.scope.TypedPath.{TypedPath}
+use Rattle.jpql_typed.specs.declared.path.Step.{Step}
+use Rattle.jpql_typed.specs.declared.path.TypedPath.{TypedPath}
 use Rattle.jpql_types.specs.declared.sort.Sort.{Sort}
-use Rattle.jpql_types.specs.declared.typed.TypedValue.{TypedValue}
-use Rattle.jpql_types.specs.declared.typed.TypedValue.TheVariants as v
-use Rattle.jpql_types.specs.declared.typed.TypedOrigin.{TypedOrigin}
-use Rattle.jpql_types.specs.declared.typed.TypedCondition.{TypedCondition}
-use Rattle.jpql_types.specs.declared.typed.TypedCondition.TheVariants as is
-use Rattle.jpql_types.specs.declared.typed.TypedSource.{TypedSource, roll-TypedSource}
-use Rattle.jpql_types.specs.declared.typed.TypedJoin.{TypedJoin, roll-TypedJoin}
-use Rattle.jpql_types.specs.declared.typed.TypedBlock.{TypedBlock, roll-TypedBlock}
-use Rattle.jpql_types.specs.declared.typed.TypedSorted.{TypedSorted}
-use Rattle.jpql_types.specs.declared.typed.TypedKey.{TypedKey}
-use Rattle.jpql_types.specs.declared.typed.TypedSelect.{TypedSelect}
-use Rattle.jpql_types.specs.declared.typed.TypedAssignment.{TypedAssignment}
-use Rattle.jpql_types.specs.declared.typed.Typed.{Typed}
+use Rattle.jpql_typed.specs.declared.typed.TypedValue.{TypedValue}
+use Rattle.jpql_typed.specs.declared.typed.TypedValue.TheVariants as v
+use Rattle.jpql_typed.specs.declared.typed.TypedOrigin.{TypedOrigin}
+use Rattle.jpql_typed.specs.declared.typed.TypedCondition.{TypedCondition}
+use Rattle.jpql_typed.specs.declared.typed.TypedCondition.TheVariants as is
+use Rattle.jpql_typed.specs.declared.typed.TypedSource.{TypedSource, roll-TypedSource}
+use Rattle.jpql_typed.specs.declared.typed.TypedJoin.{TypedJoin, roll-TypedJoin}
+use Rattle.jpql_typed.specs.declared.typed.TypedBlock.{TypedBlock, roll-TypedBlock}
+use Rattle.jpql_typed.specs.declared.typed.TypedSorted.{TypedSorted}
+use Rattle.jpql_typed.specs.declared.typed.TypedKey.{TypedKey}
+use Rattle.jpql_typed.specs.declared.typed.TypedSelect.{TypedSelect}
+use Rattle.jpql_typed.specs.declared.typed.TypedAssignment.{TypedAssignment}
+use Rattle.jpql_typed.specs.declared.typed.Typed.{Typed}
 use Rattle.jpql_types.specs.Scope.{Scope, place_of, path_of, step_from, target}
 use Rattle.jpql_types.specs.Typing.{with_variable, scope_of}
 
@@ -127,6 +127,7 @@ module _ (m : PersistenceUnit) (parameters : List (Text × Sort)) where
   test_step (test.IsEmpty p) scope = is.IsEmpty (typed_path scope p)
   test_step (test.Member a p) scope = is.Member (typed_value scope a) (typed_path scope p)
   test_step (test.Exists b) scope = is.Exists (b scope)
+  test_step (test.Rows against op a b) scope = is.Rows against op (typed_value scope a) (b scope)
   test_step (test.«Type» x names) scope = is.«Type» (place (place_of scope x)) (map class_named names)
 
   -- the tree of a nested SELECT: its item and its WHERE stand in the scope behind its FROM

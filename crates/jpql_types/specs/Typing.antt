@@ -19,11 +19,11 @@ use Rattle.jpql_tree.specs.declared.Source.{Source, fold-Source}
 use Rattle.jpql_tree.specs.Names.{Text}
 use Rattle.jpql_tree.specs.Steps.{◌>>=◌}
 use Rattle.jpql_types.specs.declared.scope.Clause.{Clause}
-use Rattle.jpql_types.specs.declared.scope.TypedPath.{TypedPath}
+use Rattle.jpql_typed.specs.declared.path.TypedPath.{TypedPath}
 use Rattle.jpql_types.specs.declared.sort.Sort.{Sort}
 use Rattle.jpql_types.specs.Scope.{Scope, when, step_from, target, resolved}
 use Rattle.jpql_types.specs.Sorts.{integer, text, goes_with, joined, joined_basic, call_sort, aggregate_sort}
-use Rattle.jpql_types.specs.Sorts.{arithmetic_sort, are_comparable, path_sort, collection_class}
+use Rattle.jpql_types.specs.Sorts.{sort_against, arithmetic_sort, are_comparable, path_sort, collection_class}
 
 -- the elements of a list, where none is missing
 abbrev pub all_some : {A : Type 0} → List (Option A) → Option (List A)
@@ -64,7 +64,7 @@ allows_aggregates Clause.On = false
 allows_aggregates Clause.Where = false
 allows_aggregates _ = true
 
--- no EXISTS may stand in HAVING
+-- no EXISTS and no rows may stand in HAVING
 abbrev pub allows_exists : Clause → Bool
 allows_exists Clause.Having = false
 allows_exists _ = true
@@ -148,8 +148,12 @@ module _ (m : PersistenceUnit) (parameters : List (Text × Sort)) (groups : List
   abbrev pub Adds : Type 0
   Adds = Scope → Option Scope
 
+  -- the sort of a nested SELECT's item, by the scope around it, where that is well typed
+  abbrev pub Rows : Type 0
+  Rows = Scope → Option Sort
+
   -- whether a condition is well typed, from whether its parts are (chapter 4.6)
-  abbrev pub condition_step : Condition-F Judges (Scope → Bool) Adds Adds → Judges
+  abbrev pub condition_step : Condition-F Judges Rows Adds Adds → Judges
   condition_step (test.Or a b) scope clause = a scope clause && b scope clause
   condition_step (test.And a b) scope clause = a scope clause && b scope clause
   condition_step (test.Not a) scope clause = a scope clause
@@ -164,41 +168,49 @@ module _ (m : PersistenceUnit) (parameters : List (Text × Sort)) (groups : List
   condition_step (test.IsEmpty p) scope clause = is_some (collection m groups scope clause p)
   condition_step (test.Member a p) scope clause =
       is_member_typed (collection m groups scope clause p) (value_sort scope clause a)
-  condition_step (test.Exists b) scope clause = allows_exists clause && b scope
+  condition_step (test.Exists b) scope clause = allows_exists clause && is_some (b scope)
+  condition_step (test.Rows against op a b) scope clause = allows_exists clause
+      && pass_both (are_comparable op) (value_sort scope clause a) (b scope >>= λ s. sort_against against s)
   condition_step (test.«Type» x names) scope clause =
       is_some_that (λ (path : TypedPath). list_all (is_of_hierarchy m path.class) names)
       (resolved m groups scope clause (variable_path x))
 
-  -- a nested SELECT
-  abbrev pub block_step : Block-F Judges (Scope → Bool) Adds Adds → Scope → Bool
+  -- a nested SELECT is of its item's sort, where its FROM, and behind it its WHERE and its item, are
+  -- well typed
+  abbrev pub block_step : Block-F Judges Rows Adds Adds → Rows
   block_step b outer =
-      is_some_that (λ scope. is_some (value_sort scope Clause.Where (b.item).value)
-      && if_some (λ c. c scope Clause.Where) b.filter) (in_turn b.sources outer)
+      in_turn b.sources outer >>= λ scope.
+      if if_some (λ c. c scope Clause.Where) b.filter then value_sort scope Clause.Where (b.item).value else None
 
   -- the scope behind a join, whose ON is well typed with the join's own variable (chapter 4.4.5)
-  abbrev pub join_step : Join-F Judges (Scope → Bool) Adds Adds → Adds
+  abbrev pub join_step : Join-F Judges Rows Adds Adds → Adds
   join_step j scope = related_class m scope j.of j.relation
       >>= λ class. let wider = with_variable scope j.variable class in
       when (if_some (λ c. c wider Clause.On) j.on) wider
 
   -- the scope behind a range and its joins, where each is well typed (chapter 4.4.3)
-  abbrev pub source_step : Source-F Judges (Scope → Bool) Adds Adds → Adds
+  abbrev pub source_step : Source-F Judges Rows Adds Adds → Adds
   source_step s scope =
       origin_class m scope s.origin >>= λ class. in_turn s.joins (with_variable scope s.variable class)
 
   -- whether a condition is well typed in a scope and a clause (chapter 4.6)
   abbrev pub is_condition_typed : Scope → Clause → Condition → Bool
   is_condition_typed scope clause c =
-      fold-Condition Judges (Scope → Bool) Adds Adds condition_step block_step join_step source_step c scope clause
+      fold-Condition Judges Rows Adds Adds condition_step block_step join_step source_step c scope clause
 
   -- the scope behind a range, where that is well typed
   abbrev pub source_scope : Source → Scope → Option Scope
-  source_scope = fold-Source Judges (Scope → Bool) Adds Adds condition_step block_step join_step source_step
+  source_scope = fold-Source Judges Rows Adds Adds condition_step block_step join_step source_step
+
+  -- the sort of a nested SELECT's item, where that SELECT is well typed in the scope around it (chapter
+  -- 4.6.16)
+  abbrev pub block_sort : Block → Scope → Option Sort
+  block_sort = fold-Block Judges Rows Adds Adds condition_step block_step join_step source_step
 
   -- whether a nested SELECT is well typed in the scope around it (chapter 4.6.16)
   abbrev pub is_block_typed : Block → Scope → Bool
-  is_block_typed = fold-Block Judges (Scope → Bool) Adds Adds condition_step block_step join_step source_step
+  is_block_typed b scope = is_some (block_sort b scope)
 
   -- the scope behind a join, where that is well typed
   abbrev pub join_scope : Join → Scope → Option Scope
-  join_scope = fold-Join Judges (Scope → Bool) Adds Adds condition_step block_step join_step source_step
+  join_scope = fold-Join Judges Rows Adds Adds condition_step block_step join_step source_step

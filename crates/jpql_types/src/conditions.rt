@@ -2,6 +2,7 @@
 //! and their trees.
 ghost use Rattle.std.specs.Prelude.{◌≡◌, ◌&&◌, map, IfOk};
 ghost use Rattle.jpa_model.specs.WellFormed.{if_some};
+ghost use Rattle.jpql_tree.specs.declared.Condition.TheOpen as test;
 ghost use Rattle.jpql_types.specs.Gives.{Gives, IsJudged};
 ghost use Rattle.jpql_types.specs.Typing as typing;
 ghost use Rattle.jpql_types.specs.Trees as trees;
@@ -10,11 +11,12 @@ ghost use Rattle.jpql_types.specs.Within.{IsScope};
 use crate::context::Context;
 use crate::error::TypingError;
 use crate::scope::{Clause, Variable};
-use crate::typed::{TypedBlock, TypedCondition, TypedJoin, TypedSource};
+use crate::sort::Sort;
+use jpql_typed::{TypedBlock, TypedCondition, TypedJoin, TypedSource};
 use crate::values::typed_value;
 use crate::{from, nodes, simple};
 use jpa_value::{Boxed, Seq};
-use jpql_tree::{Block, Condition, Join, Source};
+use jpql_tree::{Against, Block, Comparison, Condition, Join, Source, Value};
 use std::alloc::Global;
 
 fn allows_exists(clause: Clause) -> bool
@@ -49,10 +51,7 @@ pub(crate) fn typed_condition(
             let (left, right) = with_right(alloc, context, scope, clause, right.get(), left)?;
             Ok(TypedCondition::And(left, right))
         }
-        Condition::Not(inner) => {
-            let inner = boxed_condition(alloc, context, scope, clause, inner.get())?;
-            Ok(TypedCondition::Not(inner))
-        }
+        Condition::Not(inner) => typed_not(alloc, context, scope, clause, inner.get()),
         Condition::Compare(comparison, left, right) => {
             simple::compare(alloc, context, scope, clause, *comparison, left, right)
         }
@@ -71,6 +70,10 @@ pub(crate) fn typed_condition(
             simple::member(alloc, context, scope, clause, value, path)
         }
         Condition::Exists(block) => typed_exists(alloc, context, scope, clause, block.get()),
+        Condition::Rows(against, comparison, value, block) => {
+            let kind = (*against, *comparison);
+            typed_rows(alloc, context, scope, clause, kind, block.get(), value)
+        }
         Condition::Type(variable, names) => {
             simple::type_of(alloc, context, scope, clause, variable, names.as_slice())
         }
@@ -118,6 +121,26 @@ fn with_right(
     Ok((left, right))
 }
 
+/// NOT (chapter 4.6.5).
+#[cycle(typed_condition)]
+fn typed_not(
+    alloc: Global,
+    context: &Context<'_>,
+    scope: &[Variable],
+    clause: Clause,
+    inner: &Condition,
+) -> Result<TypedCondition, TypingError>
+    requires { IsScope context.now.metamodel.now scope.now }
+    ensures typed { IsJudged result (typing.is_condition_typed context.now.metamodel.now
+        context.now.parameters.now context.now.groups.now scope.now clause inner.now) }
+    ensures tree { IfOk result (λ found. found ≡ TypedCondition.Not
+        (trees.typed_condition context.now.metamodel.now context.now.parameters.now inner.now
+        scope.now)) }
+{
+    let inner = boxed_condition(alloc, context, scope, clause, inner)?;
+    Ok(TypedCondition::Not(inner))
+}
+
 /// EXISTS (chapter 4.6.16).
 #[cycle(typed_condition)]
 fn typed_exists(
@@ -138,8 +161,37 @@ fn typed_exists(
     if !allows_exists(clause) {
         return Err(TypingError::Typing);
     }
-    let block = typed_block(alloc, context, scope, block)?;
-    nodes::exists(alloc, block)
+    let (block, _) = boxed_block(alloc, context, scope, block)?;
+    Ok(TypedCondition::Exists(block))
+}
+
+/// A value beside the rows of a nested SELECT, with what of those it is compared with, and how
+/// (chapters 4.6.9, 4.6.15 and 4.9.5).
+#[cycle(typed_condition)]
+fn typed_rows(
+    alloc: Global,
+    context: &Context<'_>,
+    scope: &[Variable],
+    clause: Clause,
+    kind: (Against, Comparison),
+    block: &Block,
+    value: &Value,
+) -> Result<TypedCondition, TypingError>
+    requires { IsScope context.now.metamodel.now scope.now }
+    ensures typed { IsJudged result (typing.condition_step context.now.metamodel.now
+        context.now.parameters.now context.now.groups.now (test.Rows kind.0 kind.1 value.now
+        (typing.block_sort context.now.metamodel.now context.now.parameters.now
+        context.now.groups.now block.now)) scope.now clause) }
+    ensures tree { IfOk result (λ found. found ≡ trees.test_step context.now.metamodel.now
+        context.now.parameters.now (test.Rows kind.0 kind.1 value.now
+        (trees.typed_block context.now.metamodel.now context.now.parameters.now block.now))
+        scope.now) }
+{
+    if !allows_exists(clause) {
+        return Err(TypingError::Typing);
+    }
+    let rows = boxed_block(alloc, context, scope, block)?;
+    simple::beside_rows(alloc, context, scope, clause, kind, value, rows)
 }
 
 /// A condition, where there is one and it is well typed in a clause.
@@ -164,30 +216,52 @@ pub(crate) fn typed_filter(
     }
 }
 
-/// A nested SELECT, where it is well typed in the scope around it.
+/// A nested SELECT on the heap, and what its item is of, where it is well typed in the scope around
+/// it.
+#[cycle(typed_condition)]
+fn boxed_block(
+    alloc: Global,
+    context: &Context<'_>,
+    outer: &[Variable],
+    block: &Block,
+) -> Result<(Boxed<TypedBlock>, Sort), TypingError>
+    requires { IsScope context.now.metamodel.now outer.now }
+    ensures sort { Gives (λ found. found.1) result
+        (typing.block_sort context.now.metamodel.now context.now.parameters.now
+        context.now.groups.now block.now outer.now) }
+    ensures tree { IfOk result (λ found. found.0 ≡ trees.typed_block context.now.metamodel.now
+        context.now.parameters.now block.now outer.now) }
+{
+    let block = typed_block(alloc, context, outer, block)?;
+    nodes::on_heap(alloc, block)
+}
+
+/// A nested SELECT, and what its item is of, where it is well typed in the scope around it.
 #[cycle(typed_condition)]
 fn typed_block(
     alloc: Global,
     context: &Context<'_>,
     outer: &[Variable],
     block: &Block,
-) -> Result<TypedBlock, TypingError>
+) -> Result<(TypedBlock, Sort), TypingError>
     requires { IsScope context.now.metamodel.now outer.now }
-    ensures typed { IsJudged result (typing.is_block_typed context.now.metamodel.now
-        context.now.parameters.now context.now.groups.now block.now outer.now) }
-    ensures tree { IfOk result (λ found. found ≡ trees.typed_block context.now.metamodel.now
+    ensures sort { Gives (λ found. found.1) result
+        (typing.block_sort context.now.metamodel.now context.now.parameters.now
+        context.now.groups.now block.now outer.now) }
+    ensures tree { IfOk result (λ found. found.0 ≡ trees.typed_block context.now.metamodel.now
         context.now.parameters.now block.now outer.now) }
 {
     let scope = from::copied(alloc, outer)?;
     let (scope, sources) = typed_sources(alloc, context, scope, block.sources.as_slice())?;
     let scope = scope.as_slice();
     let filter = typed_filter(alloc, context, scope, Clause::Where, &block.filter)?;
-    let (item, _) = typed_value(alloc, context, scope, Clause::Where, &block.item.value)?;
-    Ok(TypedBlock {
+    let (item, sort) = typed_value(alloc, context, scope, Clause::Where, &block.item.value)?;
+    let block = TypedBlock {
         item,
         sources,
         filter,
-    })
+    };
+    Ok((block, sort))
 }
 
 /// The scope with the variable of a join, and its tree, where it is well typed after what is in

@@ -5,7 +5,7 @@ ghost use Rattle.jpql_types.specs.Sorts as sorts;
 ghost use Rattle.jpql_types.specs.Within.{IsClass, IsPath, AreSteps};
 
 use crate::paths::{target_of_many, target_of_one};
-use crate::scope::{Step, TypedPath};
+use jpql_typed::{Step, TypedPath};
 use crate::sort::Sort;
 use jpa_model::{Member, Metamodel};
 use jpa_value::Kind;

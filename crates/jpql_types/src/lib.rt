@@ -10,7 +10,7 @@
 //! in `Names` the names that a statement has, in `Trees` its typed tree; in `Indexes` what its
 //! names and paths are found by. `Resolved` makes the same trees, and none where a name means
 //! nothing; `resolved_law` carries the law that for what a check accepts both are the same. The
-//! crate stands on those of values, of the metamodel and of the trees that are written.
+//! crate stands on those of values, of the metamodel, and of both kinds of trees.
 #![tactic(auto)]
 
 mod check;
@@ -32,14 +32,8 @@ mod select;
 mod setting;
 mod simple;
 mod sort;
-mod typed;
 mod values;
 
 pub use check::check_query;
 pub use laws::resolved_law;
-pub use scope::{Step, TypedPath};
 pub use sort::{ParamType, Sort};
-pub use typed::{
-    Typed, TypedAssignment, TypedBlock, TypedCondition, TypedJoin, TypedKey, TypedOrigin,
-    TypedSelect, TypedSorted, TypedSource, TypedValue,
-};

@@ -133,6 +133,10 @@ fn add_in_condition(
             add_in_value(names, which, value)
         }
         Condition::Exists(block) => add_in_block(names, which, block.get()),
+        Condition::Rows(_, _, value, block) => {
+            add_in_value(names, which, value)?;
+            add_in_block(names, which, block.get())
+        }
         Condition::IsEmpty(_) | Condition::Type(_, _) => Ok(()),
     }
 }

@@ -5,7 +5,7 @@ ghost use Rattle.jpql_types.specs.Sorts as sorts;
 
 use crate::error::TypingError;
 use crate::sort::{Sort, aggregate_sort, arithmetic_sort, call_sort};
-use crate::typed::{TypedBlock, TypedCondition, TypedValue};
+use jpql_typed::TypedValue;
 use jpa_value::{Boxed, Seq};
 use jpql_tree::{Aggregate, Arithmetic, Function, Sign};
 use std::alloc::Global;
@@ -101,9 +101,16 @@ fn boxed<T: Drop>(alloc: Global, left: T, right: T) -> Result<(Boxed<T>, Boxed<T
     Ok((left, right))
 }
 
-pub(crate) fn exists(alloc: Global, block: TypedBlock) -> Result<TypedCondition, TypingError>
+/// A tree on the heap beside what it is of; fails for want of memory alone.
+pub(crate) fn on_heap<T: Drop, S: Copy>(
+    alloc: Global,
+    tree: (T, S),
+) -> Result<(Boxed<T>, S), TypingError>
     ensures memory { IsJudged result true }
-    ensures tree { IfOk result (λ found. found ≡ TypedCondition.Exists block) }
+    ensures tree { IfOk result (λ found. found.0 ≡ tree.0) }
+    ensures of { IfOk result (λ found. found.1 ≡ tree.1) }
 {
-    Ok(TypedCondition::Exists(Boxed::new(alloc, block)?))
+    let (tree, of) = tree;
+    let tree = Boxed::new(alloc, tree)?;
+    Ok((tree, of))
 }

@@ -16,7 +16,7 @@ use crate::index::{NameIndex, PathIndex};
 use crate::nodes::judged;
 use crate::scope::{Clause, Variable};
 use crate::sort::Sort;
-use crate::typed::{TypedKey, TypedSorted};
+use jpql_typed::{TypedKey, TypedSorted};
 use crate::values::{typed_path, typed_value};
 use jpa_value::{Seq, Text};
 use jpql_tree::{Item, Path, Select, SortKey, Sorted, Value};

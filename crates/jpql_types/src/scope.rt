@@ -1,6 +1,5 @@
-//! Variables in scope, and paths from them.
-use jpa_model::Member;
-use jpa_value::{Seq, Text};
+//! Variables in scope, and clauses.
+use jpa_value::Text;
 
 /// An identification variable in scope, with its class (chapter 4.4.2).
 #[derive(Drop)]
@@ -22,21 +21,4 @@ pub(crate) enum Clause {
     On,
     /// WHERE, an aggregate, and all others.
     Where,
-}
-
-/// A step of a path: a member of the class that it is taken from.
-#[derive(Clone, Copy)]
-pub struct Step {
-    pub class: usize,
-    pub member: Member,
-}
-
-/// A path whose names are resolved (chapter 4.4.4).
-#[derive(Drop)]
-pub struct TypedPath {
-    /// The place of its variable among those in scope.
-    pub variable: usize,
-    /// The class of the variable.
-    pub class: usize,
-    pub steps: Seq<Step>,
 }

@@ -1,10 +1,11 @@
 //! Which conditions over values and names are well typed, and their trees.
 ghost use Rattle.std.specs.Prelude.{◌≡◌, true, not, length, filter, is_some, map, IfSome, IfOk};
 ghost use Rattle.std.specs.List.{list_all};
-ghost use Rattle.jpa_model.specs.WellFormed.{if_some};
+ghost use Rattle.jpa_model.specs.WellFormed.{if_some, is_some_that};
 ghost use Rattle.jpql_tree.specs.declared.Condition.TheOpen as test;
 ghost use Rattle.jpql_types.specs.Gives.{Gives, IsJudged};
 ghost use Rattle.jpql_types.specs.Scope as scopes;
+ghost use Rattle.jpql_types.specs.Sorts as sorts;
 ghost use Rattle.jpql_types.specs.Typing as typing;
 ghost use Rattle.jpql_types.specs.Trees as trees;
 ghost use Rattle.jpql_types.specs.Within.{IsClass, IsScope};
@@ -13,12 +14,14 @@ use crate::context::Context;
 use crate::error::TypingError;
 use crate::nodes::judged;
 use crate::paths::resolved;
-use crate::scope::{Clause, TypedPath, Variable};
-use crate::sort::{Sort, TEXT, all_go_with, are_comparable, joined_basic, joined_with};
-use crate::typed::TypedCondition;
+use jpql_typed::{TypedBlock, TypedCondition, TypedPath};
+use crate::scope::{Clause, Variable};
+use crate::sort::{
+    Sort, TEXT, all_go_with, are_comparable, joined_basic, joined_with, sort_against,
+};
 use crate::values::{typed_collection, typed_value, typed_values, with_value};
-use jpa_value::{Seq, Text};
-use jpql_tree::{Comparison, Path, Value};
+use jpa_value::{Boxed, Seq, Text};
+use jpql_tree::{Against, Comparison, Path, Value};
 use std::alloc::Global;
 
 /// A comparison (chapter 4.6.7).
@@ -92,6 +95,42 @@ pub(crate) fn among(
     let joined = joined_with(sort, others.as_slice());
     let (value, all) = judged(joined.is_some(), (value, all))?;
     Ok(TypedCondition::In(value, all))
+}
+
+/// Whether a value of a sort may be compared so with what is taken of rows of another.
+fn is_comparable_with(kind: (Against, Comparison), value: Sort, row: Sort) -> bool
+    ensures { result ≡ is_some_that (sorts.are_comparable kind.1 value)
+        (sorts.sort_against kind.0 row) }
+{
+    match sort_against(kind.0, row) {
+        None => false,
+        Some(sort) => are_comparable(kind.1, value, sort),
+    }
+}
+
+/// A value beside rows and their sort (chapters 4.6.9, 4.6.15 and 4.9.5).
+pub(crate) fn beside_rows(
+    alloc: Global,
+    context: &Context<'_>,
+    scope: &[Variable],
+    clause: Clause,
+    kind: (Against, Comparison),
+    value: &Value,
+    rows: (Boxed<TypedBlock>, Sort),
+) -> Result<TypedCondition, TypingError>
+    requires { IsScope context.now.metamodel.now scope.now }
+    ensures typed { IsJudged result (typing.pass_both (sorts.are_comparable kind.1)
+        (typing.value_sort context.now.metamodel.now context.now.parameters.now
+        context.now.groups.now scope.now clause value.now) (sorts.sort_against kind.0 rows.1)) }
+    ensures tree { IfOk result (λ found. found ≡ TypedCondition.Rows kind.0 kind.1
+        (trees.typed_value context.now.metamodel.now context.now.parameters.now scope.now value.now)
+        rows.0) }
+{
+    let (block, row) = rows;
+    let (block, (value, sort)) = with_value(alloc, context, scope, clause, value, block)?;
+    let is_typed = is_comparable_with(kind, sort, row);
+    let (value, block) = judged(is_typed, (value, block))?;
+    Ok(TypedCondition::Rows(kind.0, kind.1, value, block))
 }
 
 /// Whether a byte of a text goes on with a character that began before it.

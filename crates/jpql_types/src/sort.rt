@@ -5,7 +5,7 @@ ghost use Rattle.jpql_tree.specs.Calls as calls;
 ghost use Rattle.jpql_types.specs.Sorts as sorts;
 
 use jpa_value::Kind;
-use jpql_tree::{Aggregate, Comparison, Function};
+use jpql_tree::{Against, Aggregate, Comparison, Function};
 
 /// What a value of a query is of (chapter 4.7).
 #[derive(Clone, Copy)]
@@ -163,6 +163,17 @@ pub(crate) fn aggregate_sort(aggregate: Aggregate, sort: Sort) -> Option<Sort>
         Aggregate::Sum if INTEGER.goes_with(sort) => Some(INTEGER),
         Aggregate::Min | Aggregate::Max if sort.is_basic() => Some(sort),
         _ => None,
+    }
+}
+
+/// What a value is compared with of rows of this sort: the rows themselves, or what an aggregate
+/// gives of them (chapters 4.6.9, 4.6.15 and 4.9.5).
+pub(crate) fn sort_against(against: Against, sort: Sort) -> Option<Sort>
+    ensures { result ≡ sorts.sort_against against sort }
+{
+    match against {
+        Against::Any | Against::All => Some(sort),
+        Against::One(aggregate, _) => aggregate_sort(aggregate, sort),
     }
 }
 

@@ -310,12 +310,20 @@ class Reader:
             self._alike([it for it in node.parts if isinstance(it, Node)], scope)
         elif node.sort == "arithmetic":
             self._product(node, scope)
+        elif node.sort == "rows":
+            value, block = node.parts
+            inner = self._scope(block.sources, scope)
+            self._one_type([(value, scope), (block.items[0].value, inner)])
         for part in node.parts:
             self._within(part, scope)
 
     def _alike(self, parts: Sequence[Node], scope: Scope, known: Typed = None) -> None:
         """Values that are of one type."""
-        for part in parts:
+        self._one_type([(part, scope) for part in parts], known)
+
+    def _one_type(self, parts: Sequence[Tuple[Node, Scope]], known: Typed = None) -> None:
+        """Values that are of one type, each with the variables that it may name."""
+        for part, scope in parts:
             other = self._type(part, scope)
             if known is not None and other is not None and _differ(known[0], other[0]):
                 raise WrongValue(
@@ -323,7 +331,7 @@ class Reader:
                     "stored of the one is not of the other's kind, and they can't be compared"
                 )
             known = known or other
-        for part in parts if known is not None else ():
+        for part, scope in parts if known is not None else ():
             self._give(part, known, scope)
 
     def _give(self, node: Node, kind: Typed, scope: Scope) -> None:

@@ -300,10 +300,12 @@ class _Typing:
             else:
                 self._value_key(block, key.value, head)
 
-    def _nested(self, block: Block, outer: _Scope) -> None:
+    def _nested(self, block: Block, outer: _Scope, is_aggregate: bool = False) -> Optional[Kind]:
+        """The kind of what a nested SELECT selects."""
         scope = self._sources(block, outer.variables)
-        self._value(block.items[0].value, scope)
+        kind = self._value(block.items[0].value, scope._replace(takes_aggregates=is_aggregate))
         self._where(block.where, scope)
+        return kind
 
     def _where(self, where: Optional[Node], scope: _Scope) -> None:
         if where is not None:
@@ -436,6 +438,8 @@ class _Typing:
             if not scope.takes_exists:
                 self._wrong(node, "EXISTS isn't served in HAVING")
             self._nested(node.parts[0], scope)
+        elif node.sort == "rows":
+            self._rows(node, scope)
         elif node.sort == "type":
             self._type(node, scope)
         elif node.sort == "empty":
@@ -451,10 +455,29 @@ class _Typing:
 
     def _compared(self, node: Node, scope: _Scope) -> None:
         """A comparison, BETWEEN, IN or IS NULL."""
-        kind = self._one_kind(node.parts, scope)
+        self._ordered(node, self._one_kind(node.parts, scope))
+
+    def _ordered(self, node: Node, kind: Optional[Kind]) -> None:
         is_ordered = node.sort == "between" or node.said in ("<", "<=", ">", ">=")
         if is_ordered and kind is not None and kind.is_entity:
             self._wrong(node, "objects are only equal or not: compare members of theirs, as p.id")
+
+    def _rows(self, node: Node, scope: _Scope) -> None:
+        """A value beside the rows of a nested SELECT, or beside an aggregate of them."""
+        if not scope.takes_exists:
+            self._wrong(node, "nested SELECTs aren't served in HAVING")
+        value, block = node.parts
+        item = block.items[0].value
+        if node.words and item.sort == "aggregate":
+            way = f"compare with what it gives, as = (SELECT {self._text(item)} FROM ..)"
+            told = f"{node.words[0].said.upper()} takes the rows of a nested SELECT, and no {item.said}"
+            self._wrong(item, f"{told}: {way}")
+        kind, other = self._value(value, scope), self._nested(block, scope, item.sort == "aggregate")
+        if kind is not None and other is not None and kind != other:
+            told = f"{self._text(value)} is {kind}, and {self._text(item)} is {other}"
+            self._wrong(item, told)
+        else:
+            self._ordered(node, kind or other)
 
     def _one_kind(self, parts: Sequence[Node], scope: _Scope) -> Optional[Kind]:
         """The one kind of what is compared."""

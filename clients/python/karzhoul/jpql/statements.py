@@ -29,13 +29,15 @@ AGGREGATES = ("COUNT", "SUM", "MIN", "MAX")
 @dataclass(frozen=True)
 class Language:
     """A language of queries: its keywords, how many values each function takes, from and to,
-    whether a list may be handed in for a parameter that stands behind IN, and whether ORDER BY takes
-    values that are neither paths nor names of items."""
+    whether a list may be handed in for a parameter that stands behind IN, whether ORDER BY takes
+    values that are neither paths nor names of items, and whether values are compared with the rows of
+    nested SELECTs."""
 
     keywords: FrozenSet[str]
     functions: Mapping[str, Tuple[int, int]]
     takes_lists: bool
     orders_by_values: bool
+    compares_rows: bool
 
 
 _PROFILE = Language(
@@ -56,6 +58,7 @@ _PROFILE = Language(
     },
     takes_lists=False,
     orders_by_values=False,
+    compares_rows=False,
 )
 _WIDE = Language(
     _PROFILE.keywords
@@ -63,12 +66,14 @@ _WIDE = Language(
     {**_PROFILE.functions, "UPPER": (1, 1), "LOWER": (1, 1), "TRIM": (1, 2)},
     takes_lists=True,
     orders_by_values=True,
+    compares_rows=True,
 )
 LanguageName = Literal["profile", "wide"]
 # As `jpa --grammar` tells them.
 LANGUAGES: Mapping[LanguageName, Language] = {"profile": _PROFILE, "wide": _WIDE}
 _STATEMENTS = ("SELECT", "UPDATE", "DELETE")
 COMPARISONS = ("=", "<>", "<", "<=", ">", ">=")
+QUANTIFIERS = ("ALL", "ANY", "SOME")
 
 _BLANKS = re.compile(r"[ \t\r\n]*")
 _TOKEN = re.compile(
@@ -103,6 +108,9 @@ class Node:
     - `and`, `or`, `not`, `exists`: `parts` are conditions, or the block;
     - `compare` (said: the operator), `between`, `in`, `like` (said: the escape), `null`, `member`:
       `parts` are the values, or the path;
+    - `rows`: `parts` are a value and the block beside it; said: the operator, which is `=` of IN;
+      `words` has IN, ALL, ANY or SOME, and nothing where the block's item is an aggregate that the
+      value is compared with, on either side;
     - `empty`, `size`: the path; `type`: `words` are the variable and the entities;
     - `literal` (`value`), `parameter` (said: its name), `path` (`words`), `arithmetic`, `signed`,
       `call` and `aggregate` (said: the function, in capitals).
@@ -444,11 +452,20 @@ class _Reader:
     def _nested(self) -> Block:
         """A nested SELECT."""
         self._must("SELECT")
-        is_distinct = self._may("DISTINCT")
-        items = [self._item()]
+        return self._from_nested(self._may("DISTINCT"), self._item())
+
+    def _scalar(self) -> Block:
+        """A nested SELECT of an aggregate alone."""
+        self._must("SELECT")
+        if not any(map(self._here.is_word, AGGREGATES)):
+            self._no(*AGGREGATES)
+        return self._from_nested(False, Item(self._call(self._here.said.upper()), None))
+
+    def _from_nested(self, is_distinct: bool, item: Item) -> Block:
+        """What follows on the item of a nested SELECT."""
         self._must("FROM")
         sources = self._sources(lambda: self._try(self._range) or self._related())
-        block = Block(is_distinct, items, sources, self._end())
+        block = Block(is_distinct, [item], sources, self._end())
         if self._may("WHERE"):
             block.where = self._condition()
         return block
@@ -552,6 +569,8 @@ class _Reader:
             return Node("exists", start, parts=(self._closed(self._nested),), end=self._end())
         if self._may("TYPE"):
             return self._type_test(start)
+        if self._begins_rows():
+            return self._scalar_first()
         closed = None
         if self._here.is_mark("("):
             closed = self._try(lambda: self._closed(self._condition))
@@ -579,6 +598,11 @@ class _Reader:
         self._note("a comparison")
         if self._here.sort == "mark" and self._here.said in COMPARISONS:
             operator = self._next().said
+            if self._begins_rows():
+                return self._beside(value, operator, self._closed(self._scalar))
+            if self.language.compares_rows and any(map(self._may, QUANTIFIERS)):
+                word = self.tokens[self.at - 1]
+                return self._beside(value, operator, self._closed(self._nested), word)
             return self._of_values("compare", value, self._value(), said=operator)
         if self._here.is_word("IS"):
             self.at += 1
@@ -596,6 +620,9 @@ class _Reader:
             self._must("AND")
             return self._of_values("between", value, low, self._value())
         if self._may("IN"):
+            if self._begins_rows():
+                word = self.tokens[self.at - 1]
+                return self._beside(value, "=", self._closed(self._nested), word)
             if self.language.takes_lists and self._here.sort == "parameter":
                 return self._of_values("in", value, self._atom())
             return self._of_values("in", value, *self._closed(lambda: self._listed(self._value)))
@@ -608,6 +635,22 @@ class _Reader:
         self._must("MEMBER")
         self._may("OF")
         return self._of_values("member", value, self._path())
+
+    def _begins_rows(self) -> bool:
+        """Whether a nested SELECT that a value is compared with begins here."""
+        is_nested = self._here.is_mark("(") and self.tokens[self.at + 1].is_word("SELECT")
+        return is_nested and self.language.compares_rows
+
+    def _beside(self, value: Node, operator: str, block: Block, *words: Token) -> Node:
+        return Node("rows", value.at, self._end(), operator, (value, block), words)
+
+    def _scalar_first(self) -> Node:
+        """A nested SELECT of an aggregate, and what it is compared with."""
+        start, block = self._here.at, self._closed(self._scalar)
+        if self._here.said not in COMPARISONS:
+            self._no("a comparison")
+        operator = self._next().said
+        return replace(self._beside(self._value(), operator, block), at=start)
 
     def _of_values(self, sort: str, *values: Node, said: str = "") -> Node:
         return Node(sort, values[0].at, self._end(), said, values)

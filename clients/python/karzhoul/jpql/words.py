@@ -6,7 +6,8 @@ from __future__ import annotations
 import difflib
 from typing import Dict, List, Optional, Sequence, Tuple
 
-from .statements import AGGREGATES, LANGUAGES, LanguageName, Token, Unreadable
+from .nested import nested_told
+from .statements import AGGREGATES, LANGUAGES, QUANTIFIERS, LanguageName, Token, Unreadable
 
 _CASE = "CASE isn't served: COALESCE and NULLIF are"
 _DATES = "dates and times aren't served: store whole numbers or texts"
@@ -20,14 +21,21 @@ _SORTED_BY = (
     "ORDER BY takes values in the wider language, language='wide': here it takes paths, as p.id, and "
     "names behind AS"
 )
+_QUANTIFIED = (
+    "ALL, ANY and SOME are of the wider language, language='wide'; EXISTS (SELECT ..) is served here"
+)
+_NESTED = (
+    "a nested SELECT stands in EXISTS alone; beside values, as IN (SELECT ..), it stands in the wider "
+    "language, language='wide'"
+)
 _TRUTH = "truth values aren't served: compare a whole number"
 _PLACES = "hand in first=.. and max=.. beside the text"
 _MAPS = "maps aren't served"
 # What follows on such words of JPQL, or of other dialects, is why they aren't served.
 UNSERVED: Dict[str, str] = {
-    "ALL": "ALL, ANY and SOME aren't served: EXISTS (SELECT ..) is",
-    "ANY": "ALL, ANY and SOME aren't served: EXISTS (SELECT ..) is",
-    "SOME": "ALL, ANY and SOME aren't served: EXISTS (SELECT ..) is",
+    "ALL": _QUANTIFIED,
+    "ANY": _QUANTIFIED,
+    "SOME": _QUANTIFIED,
     "AVG": "AVG isn't served: ask for SUM and COUNT",
     "CASE": _CASE,
     "WHEN": _CASE,
@@ -95,8 +103,9 @@ def spelled(token: Token) -> str:
 def unserved(word: str, language: LanguageName) -> Optional[str]:
     """Why a word of JPQL, or of other dialects, isn't served in a language; None where it is, or is
     no such word."""
-    is_served = word.upper() in LANGUAGES[language].functions
-    return None if is_served else UNSERVED.get(word.upper())
+    served = LANGUAGES[language].functions
+    is_rows = word.upper() in QUANTIFIERS and LANGUAGES[language].compares_rows
+    return None if is_rows or word.upper() in served else UNSERVED.get(word.upper())
 
 
 def syntax_told(
@@ -110,7 +119,8 @@ def syntax_told(
         return token, _MARKS.get(token.said, f"{spelled(token)} stands in no query")
     earlier = [each for each in tokens if each.end <= token.at][-2:]
     return (
-        _unserved([token], language)
+        nested_told(fault, tokens, language)
+        or _unserved([token], language)
         or _misspelt(token, 0.6, fault.expected, language)
         or _unserved(earlier[::-1], language)
         or _sorted_by_value(token, tokens, language)
@@ -174,7 +184,7 @@ def _no_function(word: str, language: LanguageName) -> str:
 def _misplaced(token: Token, before: Optional[Token]) -> Optional[Tuple[Token, str]]:
     """Words that stand where they may not."""
     if token.is_word("SELECT"):
-        return token, "a nested SELECT stands in EXISTS alone"
+        return token, _NESTED
     if token.is_word("NULL"):
         return token, "nothing is compared with NULL: IS NULL and IS NOT NULL ask for it"
     if token.is_mark("*") and before is not None:

@@ -3,8 +3,8 @@ use Rattle.jpa_behaviour.specs.Served.{world_of_unit}
 use Rattle.jpa_context.specs.Steps.{Meets}
 use Rattle.jpa_context.specs.Undo.{now}
 use Rattle.jpql_eval.specs.declared.datum.Datum.{Datum}
-use Rattle.jpql_types.specs.declared.typed.Typed.{Typed}
-use Rattle.jpql_types.specs.declared.typed.TypedAssignment.{TypedAssignment}
+use Rattle.jpql_typed.specs.declared.typed.Typed.{Typed}
+use Rattle.jpql_typed.specs.declared.typed.TypedAssignment.{TypedAssignment}
 use Rattle.jpa_updates.specs.Updates.{settled, changed_by}
 use Rattle.jpa_updates.proofs.updating.run.Goals as goal
 

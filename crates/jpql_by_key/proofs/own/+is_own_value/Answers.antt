@@ -1,6 +1,6 @@
 use Rattle.std.proofs.Common.{◌≡◌, ◌∙◌, ap, sym, subst}
 use Rattle.std.specs.List.{list_all}
-use Rattle.jpql_types.specs.declared.typed.TypedValue.{TypedValue}
+use Rattle.jpql_typed.specs.declared.typed.TypedValue.{TypedValue}
 use Rattle.jpql_by_key.specs.Own.{is_own_value}
 use Rattle.jpql_by_key.proofs.Same.{own_of_call}
 use Rattle.jpql_by_key.proofs.own.+is_own_value.Goals as goal

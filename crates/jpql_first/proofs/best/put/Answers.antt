@@ -1,7 +1,7 @@
 use Rattle.std.proofs.Common.{rules, arith, ◌≡◌, ◌∙◌, ◌≤◌, ap, sym, refl, subst, List, [], map, length, take}
 use Rattle.std.proofs.lemmas.Grind.{common_steps}
-use Rattle.jpql_types.specs.declared.typed.TypedKey.{TypedKey}
-use Rattle.jpql_types.specs.declared.typed.TypedValue.{TypedValue}
+use Rattle.jpql_typed.specs.declared.typed.TypedKey.{TypedKey}
+use Rattle.jpql_typed.specs.declared.typed.TypedValue.{TypedValue}
 use Rattle.jpql_eval.specs.declared.datum.Datum.{Datum}
 use Rattle.jpql_eval.specs.Answers.{Answer, ◌>>=◌, every, gives, under}
 use Rattle.jpql_eval.specs.Finds.{Fails}

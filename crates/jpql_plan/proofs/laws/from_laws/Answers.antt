@@ -2,7 +2,7 @@ use Rattle.std.proofs.Common.{◌∙◌, ap, map}
 use Rattle.std.proofs.lemmas.List.{map-append}
 use Rattle.jpql_plan.specs.Meaning.{source, in_turn}
 use Rattle.jpql_plan.proofs.Parts.{a_range, in_turn_append}
-use Rattle.jpql_plan.proofs.Blocks.{inner, inner_of_all, left_joins, left_null, exists_any}
+use Rattle.jpql_plan.proofs.Blocks.{inner, inner_of_all, left_joins, left_null, beside_rows, rows_each, exists_any}
 use Rattle.jpql_plan.proofs.laws.from_laws.Goals as goal
 
 pub returns : goal.returns
@@ -14,5 +14,7 @@ returns c = λ m s ps.
       left_keeps = left_joins m s ps;
       left_null = left_null m s ps;
       parted = λ all more t. ap (λ fs. in_turn fs t) (map-append (source m s ps) all more) ∙ in_turn_append (map (source m s ps) all) (map (source m s ps) more) t;
+      rows_each = rows_each m s ps;
+      beside_rows = beside_rows m s ps;
       exists_any = exists_any m s ps;
     }

@@ -1,7 +1,7 @@
 use Rattle.std.proofs.Common.{◌≡◌, drop, map}
 use Rattle.jpa_open.specs.Opened.{now}
 use Rattle.jpql_tree.specs.declared.Comparison.{Comparison}
-use Rattle.jpql_types.specs.declared.typed.TypedValue.{TypedValue}
+use Rattle.jpql_typed.specs.declared.typed.TypedValue.{TypedValue}
 use Rattle.jpql_eval.specs.Answers.{every, under}
 use Rattle.jpql_eval.specs.Truths.{or3, any3}
 use Rattle.jpql_eval.specs.Data.{compared}

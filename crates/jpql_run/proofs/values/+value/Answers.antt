@@ -1,6 +1,6 @@
 use Rattle.std.proofs.Common.{subst, ap, sym, ◌∙◌, map}
 use Rattle.jpa_open.specs.Opened.{now}
-use Rattle.jpql_types.specs.declared.typed.TypedValue.TheVariants as v
+use Rattle.jpql_typed.specs.declared.typed.TypedValue.TheVariants as v
 use Rattle.jpql_plan.specs.Meaning.{Case, value, call}
 use Rattle.jpql_eval.specs.Finds.{Finds}
 use Rattle.jpql_eval.specs.Seen.{seen}

@@ -1,7 +1,7 @@
 use Rattle.std.proofs.Common.{◌≡◌, ◌++◌, drop, map}
 use Rattle.jpa_open.specs.Opened.{now}
 use Rattle.jpql_eval.specs.Answers.{every, under}
-use Rattle.jpql_types.specs.declared.typed.TypedValue.{TypedValue}
+use Rattle.jpql_typed.specs.declared.typed.TypedValue.{TypedValue}
 use Rattle.jpql_plan.specs.Paths.{Tuple}
 use Rattle.jpql_plan.specs.Meaning as meaning
 use Rattle.jpql_eval.specs.Seen.{seen}

@@ -2,10 +2,10 @@
 //!
 //! They are the trees of jpql_tree again, since a list of resolved paths beside those would have to
 //! be walked along with them wherever a query is given a meaning.
-use crate::scope::{Step, TypedPath};
+use crate::path::{Step, TypedPath};
 use jpa_model::Member;
 use jpa_value::{Boxed, Seq, Text};
-use jpql_tree::{Aggregate, Arithmetic, Comparison, Function, Sign};
+use jpql_tree::{Against, Aggregate, Arithmetic, Comparison, Function, Sign};
 
 /// A value (chapter 4.7).
 #[derive(Drop)]
@@ -47,6 +47,7 @@ pub enum TypedCondition {
     IsEmpty(TypedPath),
     Member(TypedValue, TypedPath),
     Exists(Boxed<TypedBlock>),
+    Rows(Against, Comparison, TypedValue, Boxed<TypedBlock>),
     /// The place of a variable, and classes.
     Type(usize, Seq<usize>),
 }
