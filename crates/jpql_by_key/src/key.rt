@@ -9,7 +9,9 @@ use jpa_value::{Boxed, Identity, Key, TryCopy, Value};
 use jpql_eval::Datum;
 use jpql_run::copied;
 use jpql_tree::Comparison;
-use jpql_typed::{Step, TypedCondition, TypedOrigin, TypedPath, TypedSelect, TypedSource, TypedValue};
+use jpql_typed::{
+    Step, TypedCondition, TypedOrigin, TypedPath, TypedSelect, TypedSource, TypedValue,
+};
 use std::alloc::{AllocError, Global};
 
 /// The class of a FROM of one variable without joins.

@@ -9,7 +9,11 @@ use std::alloc::{AllocError, Global};
 pub(crate) fn characters(alloc: Global, text: &str) -> Result<Vec<char>, AllocError>
     ensures { IfOk result (λ all. all.items ≡ chars text.now) }
 {
-    text.chars().collect(alloc)
+    let mut all = Vec::with_capacity(alloc, text.len())?;
+    for c in text.chars() {
+        all.push(c)?;
+    }
+    Ok(all)
 }
 
 /// How many characters a text has.

@@ -10,5 +10,6 @@ mod typed;
 
 pub use path::{Step, TypedPath};
 pub use typed::{
-    Typed, TypedAssignment, TypedBlock, TypedCondition, TypedJoin, TypedKey, TypedOrigin, TypedSelect, TypedSorted, TypedSource, TypedValue,
+    Typed, TypedAssignment, TypedBlock, TypedCondition, TypedJoin, TypedKey, TypedOrigin,
+    TypedSelect, TypedSorted, TypedSource, TypedValue,
 };

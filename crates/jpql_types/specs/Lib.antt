@@ -7,4 +7,5 @@ pub mod Statements
 pub mod Gives
 pub mod Within
 pub mod Indexes
+pub mod Keys
 pub mod Resolved

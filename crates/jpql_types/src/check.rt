@@ -15,10 +15,10 @@ use crate::scope::{Clause, Variable};
 use crate::select::typed_select;
 use crate::setting::typed_assignments;
 use crate::sort::ParamType;
-use jpql_typed::Typed;
 use jpa_model::Metamodel;
 use jpa_value::{Argument, Boxed, Cause, Seq, Text};
 use jpql_tree::{Assignment, Condition, Path, Query};
+use jpql_typed::Typed;
 use std::alloc::{AllocError, Global};
 
 type Filter = Option<Boxed<Condition>>;

@@ -12,11 +12,11 @@ use crate::context::Context;
 use crate::error::TypingError;
 use crate::scope::{Clause, Variable};
 use crate::sort::Sort;
-use jpql_typed::{TypedBlock, TypedCondition, TypedJoin, TypedSource};
 use crate::values::typed_value;
 use crate::{from, nodes, simple};
 use jpa_value::{Boxed, Seq};
 use jpql_tree::{Against, Block, Comparison, Condition, Join, Source, Value};
+use jpql_typed::{TypedBlock, TypedCondition, TypedJoin, TypedSource};
 use std::alloc::Global;
 
 fn allows_exists(clause: Clause) -> bool

@@ -5,10 +5,10 @@ ghost use Rattle.jpql_types.specs.Sorts as sorts;
 ghost use Rattle.jpql_types.specs.Within.{IsClass, IsPath, AreSteps};
 
 use crate::paths::{target_of_many, target_of_one};
-use jpql_typed::{Step, TypedPath};
 use crate::sort::Sort;
 use jpa_model::{Member, Metamodel};
 use jpa_value::Kind;
+use jpql_typed::{Step, TypedPath};
 
 /// What a step leads to, other than a collection.
 pub(crate) fn step_sort(metamodel: &Metamodel, step: Step) -> Option<Sort>

@@ -9,10 +9,10 @@ ghost use Rattle.jpql_types.specs.Within.{IsClass, IsScope};
 use crate::context::Context;
 use crate::error::TypingError;
 use crate::paths::{step_from, target};
-use jpql_typed::{Step, TypedOrigin};
 use crate::scope::Variable;
 use jpa_value::{Seq, Text};
 use jpql_tree::Origin;
+use jpql_typed::{Step, TypedOrigin};
 use std::alloc::Global;
 
 fn named(alloc: Global, name: &Text, class: usize) -> Result<Variable, TypingError>

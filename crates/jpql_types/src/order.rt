@@ -3,6 +3,7 @@ ghost use Rattle.std.specs.Prelude.{◌≡◌, ◌&&◌, ◌||◌, not, map, Opt
 ghost use Rattle.std.specs.List.{list_any, list_all, position_from};
 ghost use Rattle.jpa_model.specs.WellFormed.{is_some_that};
 ghost use Rattle.jpql_types.specs.Gives.{IsJudged};
+ghost use Rattle.jpql_types.specs.Keys.{AreItems};
 ghost use Rattle.jpql_types.specs.Sorts.{is_basic};
 ghost use Rattle.jpql_types.specs.Typing as typing;
 ghost use Rattle.jpql_types.specs.Statements as spec;
@@ -16,10 +17,10 @@ use crate::index::{NameIndex, PathIndex};
 use crate::nodes::judged;
 use crate::scope::{Clause, Variable};
 use crate::sort::Sort;
-use jpql_typed::{TypedKey, TypedSorted};
 use crate::values::{typed_path, typed_value};
 use jpa_value::{Seq, Text};
 use jpql_tree::{Item, Path, Select, SortKey, Sorted, Value};
+use jpql_typed::{TypedKey, TypedSorted};
 use std::alloc::{AllocError, Global};
 
 /// The items of a SELECT, found by the names and by the paths that they have.
@@ -190,11 +191,8 @@ fn typed_key(
     requires scope { IsScope context.now.metamodel.now scope.now }
     requires groups { context.now.groups.now ≡ select.now.groups }
     requires clause { clause ≡ spec.select_clause select.now }
-    requires names { items.now.names ≡ select.now.items }
-    requires paths { items.now.paths ≡ select.now.items }
-    requires sorts { typing.all_some
-        (map (spec.item_sort context.now.metamodel.now context.now.parameters.now select.now
-        scope.now) select.now.items) ≡ Some sorts.now }
+    requires items { AreItems context.now.metamodel.now context.now.parameters.now select.now
+        scope.now items.now.names items.now.paths sorts.now }
     ensures typed { IsJudged result (spec.is_key_typed context.now.metamodel.now
         context.now.parameters.now select.now scope.now key.now) }
     ensures tree { IfOk result (λ found. found ≡ trees.typed_key context.now.metamodel.now

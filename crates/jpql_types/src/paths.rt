@@ -9,11 +9,11 @@ ghost use Rattle.jpql_types.specs.Within.{IsClass, IsScope, IsPath, AreSteps};
 
 use crate::context::{Context, Groups};
 use crate::error::TypingError;
-use jpql_typed::{Step, TypedPath};
 use crate::scope::{Clause, Variable};
 use jpa_model::{Member, Metamodel, Part, Relation};
 use jpa_value::{Seq, Text};
 use jpql_tree::Path;
+use jpql_typed::{Step, TypedPath};
 use std::alloc::{AllocError, Global};
 
 /// Whether two names are one.

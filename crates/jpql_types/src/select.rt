@@ -12,13 +12,13 @@ use crate::context::{Context, Groups, Parameters};
 use crate::error::TypingError;
 use crate::groups::select_clause;
 use crate::order::typed_keys;
-use jpql_typed::{TypedPath, TypedSelect, TypedSource, TypedValue};
 use crate::scope::{Clause, Variable};
 use crate::sort::Sort;
 use crate::values::{typed_path, typed_value};
 use jpa_model::Metamodel;
 use jpa_value::Seq;
 use jpql_tree::{Item, Select};
+use jpql_typed::{TypedPath, TypedSelect, TypedSource, TypedValue};
 use std::alloc::Global;
 
 /// An item, and what it is of.

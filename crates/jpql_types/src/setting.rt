@@ -13,13 +13,13 @@ use crate::ends::step_sort;
 use crate::error::TypingError;
 use crate::nodes::judged;
 use crate::paths::{relation_of, step_from};
-use jpql_typed::{Step, TypedAssignment, TypedValue};
 use crate::scope::{Clause, Variable};
 use crate::sort::Sort;
 use crate::values::typed_value;
 use jpa_model::{Member, Metamodel};
 use jpa_value::Seq;
 use jpql_tree::{Assignment, Value};
+use jpql_typed::{Step, TypedAssignment, TypedValue};
 use std::alloc::Global;
 
 fn is_settable(metamodel: &Metamodel, step: Step) -> bool

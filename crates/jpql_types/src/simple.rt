@@ -14,7 +14,6 @@ use crate::context::Context;
 use crate::error::TypingError;
 use crate::nodes::judged;
 use crate::paths::resolved;
-use jpql_typed::{TypedBlock, TypedCondition, TypedPath};
 use crate::scope::{Clause, Variable};
 use crate::sort::{
     Sort, TEXT, all_go_with, are_comparable, joined_basic, joined_with, sort_against,
@@ -22,6 +21,7 @@ use crate::sort::{
 use crate::values::{typed_collection, typed_value, typed_values, with_value};
 use jpa_value::{Boxed, Seq, Text};
 use jpql_tree::{Against, Comparison, Path, Value};
+use jpql_typed::{TypedBlock, TypedCondition, TypedPath};
 use std::alloc::Global;
 
 /// A comparison (chapter 4.6.7).

@@ -13,11 +13,11 @@ use crate::ends::{collection_class, path_sort};
 use crate::error::TypingError;
 use crate::nodes;
 use crate::paths::resolved;
-use jpql_typed::{TypedPath, TypedValue};
 use crate::scope::{Clause, Variable};
 use crate::sort::{INTEGER, Sort, TEXT};
 use jpa_value::{Seq, Text};
 use jpql_tree::{Aggregate, Arithmetic, Function, Path, Sign, Value};
+use jpql_typed::{TypedPath, TypedValue};
 use std::alloc::Global;
 
 fn parameter_sort(parameters: &Parameters<'_>, name: &Text) -> Sort
