@@ -6,10 +6,12 @@ import jakarta.persistence.OptimisticLockException;
 import jakarta.persistence.PersistenceException;
 import jakarta.persistence.RollbackException;
 import java.util.ArrayList;
+import java.util.Collections;
 import java.util.IdentityHashMap;
 import java.util.List;
 import java.util.Map;
 import java.util.Optional;
+import java.util.Set;
 import java.util.function.BiPredicate;
 import karzhoul.jpa.engine.Ref;
 import karzhoul.jpa.engine.Refusals;
@@ -24,10 +26,13 @@ import karzhoul.jpa.model.Relation;
  */
 final class Culprits {
     private static final int MOST = 2_000;
+    private static final String MADE = ": another commit stored an object of this key meanwhile; find it, and change that one, or take"
+        + " another key";
 
     private final Context probe;
     private final List<Entry> suspects = new ArrayList<>();
     private final Map<Entry, Entry.Row> written;
+    private final Set<Entry> made = Collections.newSetFromMap(new IdentityHashMap<>());
     private final List<Entry> entries;
     private final List<Entry> removed;
     private final Optional<String> unstored;
@@ -45,8 +50,16 @@ final class Culprits {
                 || entry.lock() != LockModeType.NONE;
             if (isWritten && entry.state() != Entry.State.DETACHED && suspects.size() < MOST) {
                 suspects.add(entry);
+                if (isMade(entry)) {
+                    made.add(entry);
+                }
             }
         }
+    }
+
+    /** Whether the transaction was to store it as new. */
+    private boolean isMade(Entry entry) {
+        return entry.state() != Entry.State.REMOVED && isWithoutRow(entry);
     }
 
     /** The refusal with its entity, where that is found. */
@@ -74,7 +87,8 @@ final class Culprits {
             return new PersistenceException(lost.get(), refusal);
         } else if (refusal instanceof OptimisticLockException stale && stale.getEntity() == null) {
             return first(this::isStale).<RuntimeException>map(entry -> new OptimisticLockException(
-                about(refusal, entry.toString()), refusal, entry.instance())).orElse(refusal);
+                made.contains(entry) ? "OptimisticLock, " + entry + MADE : about(refusal, entry.toString()), refusal,
+                entry.instance())).orElse(refusal);
         } else if (refusal instanceof EntityExistsException) {
             return first((entry, shown) -> !entry.isStored() && shown != null)
                 .<RuntimeException>map(entry -> new EntityExistsException(about(refusal, entry.toString()), refusal))
@@ -106,6 +120,9 @@ final class Culprits {
     }
 
     private boolean isStale(Entry entry, Shown shown) {
+        if (made.contains(entry)) {
+            return shown != null;
+        }
         Entry.Row known = written.getOrDefault(entry, entry.row());
         if (shown == null || known.values().length == 0) {
             return shown == null && known.values().length > 0 && entry.isStored();
