@@ -118,8 +118,7 @@ final class FileStart implements Start {
         String store = command.get(command.size() - 1);
         String words = "The store " + store + " isn't opened" + ended.status();
         if (ended.status().contains("StoreFault")) {
-            words += ": another process has it open, it or its folder can't be written, the disk is full, or it is no"
-                + " store of this program's";
+            words += ": " + Unopened.why(Path.of(store));
         } else if (ended.status().isEmpty()) {
             words += ", since " + program + " isn't this version's program: " + ended.getCause().getMessage();
         }

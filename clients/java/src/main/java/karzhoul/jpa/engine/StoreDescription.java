@@ -90,7 +90,8 @@ public final class StoreDescription {
         } catch (FileAlreadyExistsException another) {
             // Another JVM begins with the same store: the program lets one of them have it.
         } catch (IOException fault) {
-            throw new PersistenceException("The store " + store + " can't be made: " + fault, fault);
+            String why = Files.isDirectory(store.toAbsolutePath().getParent()) ? fault.toString() : Unopened.why(store);
+            throw new PersistenceException("The store " + store + " can't be made: " + why, fault);
         }
     }
 

@@ -155,7 +155,8 @@ class EndsTest {
             assertTrue(factory.isOpen());
             PersistenceException refused = assertThrows(PersistenceException.class, () -> Shop.open(
                 "karzhoul:" + same, Shop.CLASSES, Duration.ofSeconds(20), null).close());
-            assertTrue(refused.getMessage().matches("The store .*db isn't opened .*another process has it open.*"),
+            assertTrue(refused.getMessage().matches("The store .*db isn't opened .*: another process has it open, and one at a time"
+                + " has a store: .* \\(process " + factory.pool().engine().pid() + "\\), which this process started"),
                 refused.getMessage());
         }
     }
@@ -167,5 +168,21 @@ class EndsTest {
             assertThrows(PersistenceException.class, () -> over(Shop.program()).close());
         assertTrue(refused.getMessage().startsWith("The store " + folder.resolve("a.db") + " isn't opened (status 3"),
             refused.getMessage());
+        assertTrue(refused.getMessage().endsWith(": it is no database of SQLite"), refused.getMessage());
+    }
+
+    @Test
+    void aFolderIsNoStore() throws Exception {
+        Files.createDirectory(folder.resolve("a.db"));
+        String said = assertThrows(PersistenceException.class, () -> over(Shop.program()).close()).getMessage();
+        assertTrue(said.endsWith("): it is a folder, and a store is a file"), said);
+    }
+
+    @Test
+    void aFolderThatIsntThereIsNamed() {
+        Path missing = folder.resolve("missing");
+        String said = assertThrows(PersistenceException.class, () -> Shop.open("karzhoul:" + missing.resolve("a.db"),
+            Shop.CLASSES, Duration.ofSeconds(20), null).close()).getMessage();
+        assertEquals("The store " + missing.resolve("a.db") + " can't be made: there is no folder " + missing, said);
     }
 }
