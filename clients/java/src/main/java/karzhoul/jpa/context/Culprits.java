@@ -32,6 +32,7 @@ final class Culprits {
     private final Context probe;
     private final List<Entry> suspects = new ArrayList<>();
     private final Map<Entry, Entry.Row> written;
+    /** Those that the transaction was to store as new. */
     private final Set<Entry> made = Collections.newSetFromMap(new IdentityHashMap<>());
     private final List<Entry> entries;
     private final List<Entry> removed;
@@ -50,16 +51,11 @@ final class Culprits {
                 || entry.lock() != LockModeType.NONE;
             if (isWritten && entry.state() != Entry.State.DETACHED && suspects.size() < MOST) {
                 suspects.add(entry);
-                if (isMade(entry)) {
+                if (entry.isManaged() && isWithoutRow(entry)) {
                     made.add(entry);
                 }
             }
         }
-    }
-
-    /** Whether the transaction was to store it as new. */
-    private boolean isMade(Entry entry) {
-        return entry.state() != Entry.State.REMOVED && isWithoutRow(entry);
     }
 
     /** The refusal with its entity, where that is found. */

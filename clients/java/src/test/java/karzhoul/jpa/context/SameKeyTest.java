@@ -112,8 +112,11 @@ class SameKeyTest extends Tried {
 
     @Test
     void whatIsStaleBesideNewOnesIsStillNamed() {
-        store(new Guest("g", "before"));
+        store(new Guest("g", "before"), new Guest("detached", ""));
+        Guest detached = read(it -> it.find(Guest.class, "detached"));
         manager.getTransaction().begin();
+        detached.name = "merged";
+        manager.merge(detached);
         Guest guest = manager.find(Guest.class, "g");
         guest.name = "mine";
         manager.persist(new Guest("h", ""));
