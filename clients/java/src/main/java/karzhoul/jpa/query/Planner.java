@@ -295,7 +295,7 @@ final class Planner {
                 return null;
             }
             if (select.isDistinct() && !isGiven(path)) {
-                throw notGiven(value.at(), path);
+                throw notGiven(value.at(), path, "");
             }
             boolean isSortedByDoor = select.isDistinct() && !path.steps().isEmpty();
             return isSortedByDoor ? null : Text.of(writer.values.path(path));
@@ -346,16 +346,17 @@ final class Planner {
                 @Override
                 Value value(Value part) {
                     if (part instanceof Reference path && !isGiven(path)) {
-                        throw notGiven(path.at(), path);
+                        throw notGiven(path.at(), path, value instanceof Reference ? ""
+                                : "; select the whole expression AS a name, and order by that");
                     }
                     return valueWithin(part);
                 }
             }.value(value);
         }
 
-        private QueryFault notGiven(int at, Reference path) {
+        private QueryFault notGiven(int at, Reference path, String remedy) {
             return QueryFault.at(text, at, "with DISTINCT, ORDER BY takes what is selected, and \"" + path
-                    + "\" isn't");
+                    + "\" isn't" + remedy);
         }
 
         private Text columns(Leaves leaves) {

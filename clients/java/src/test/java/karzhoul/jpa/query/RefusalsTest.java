@@ -80,7 +80,8 @@ class RefusalsTest {
                 SELECT NEW karzhoul.jpa.query.Shop.PlaceKey(p.age, p.name) AS k FROM Person p ORDER BY k ## 88 ORDER BY takes values that have an order, and this is NEW of a class
                 SELECT p FROM Person p ORDER BY p ## 33 ORDER BY takes values that have an order, and this is the entity Person
                 SELECT DISTINCT p.name FROM Person p ORDER BY p.age ## 47 with DISTINCT, ORDER BY takes what is selected, and "p.age" isn't
-                SELECT DISTINCT p.name FROM Person p ORDER BY UPPER(p.address.city) ## 53 with DISTINCT, ORDER BY takes what is selected, and "p.address.city" isn't
+                SELECT DISTINCT p.name FROM Person p ORDER BY UPPER(p.address.city) ## 53 with DISTINCT, ORDER BY takes what is selected, and "p.address.city" isn't; select the whole expression AS a name, and order by that
+                SELECT DISTINCT UPPER(p.name) FROM Person p ORDER BY UPPER(p.name) ## 60 with DISTINCT, ORDER BY takes what is selected, and "p.name" isn't; select the whole expression AS a name, and order by that
                 SELECT o.number FROM Person p JOIN FETCH p.orders o ## 31 JOIN FETCH reads a relation of what is selected, and "p" isn't
                 SELECT NEW a.b.C(p.name) FROM Person p ## 8 there is no class a.b.C
                 SELECT NEW karzhoul.jpa.query.Shop.PlaceKey(p.name, p.age) FROM Person p ## 8 karzhoul.jpa.query.Shop$PlaceKey has no constructor of (String, Integer)
