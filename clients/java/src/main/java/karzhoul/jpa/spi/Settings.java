@@ -6,6 +6,7 @@ import java.util.List;
 import java.util.Map;
 import java.util.Optional;
 import java.util.function.Consumer;
+import java.util.function.UnaryOperator;
 import karzhoul.jpa.engine.Program;
 import karzhoul.jpa.model.Fault;
 
@@ -22,13 +23,13 @@ final class Settings {
     private static final String URLS = "Write karzhoul:FILE, as karzhoul:shop.db, karzhoul:memory, or the address of a server";
     private static final Duration USUAL_WAIT = Duration.ofSeconds(10);
 
-    private final String place;
+    private final UnaryOperator<String> placeOf;
     private final Map<String, Object> properties;
     private final List<Fault> faults;
 
-    /** @param place of what the properties are, for words */
-    Settings(String place, Map<String, Object> properties, List<Fault> faults) {
-        this.place = place;
+    /** @param placeOf where a property was said, for words */
+    Settings(UnaryOperator<String> placeOf, Map<String, Object> properties, List<Fault> faults) {
+        this.placeOf = placeOf;
         this.properties = properties;
         this.faults = faults;
     }
@@ -41,11 +42,11 @@ final class Settings {
     String url() {
         Object url = properties.get(URL);
         if (url == null) {
-            tell("it has no " + URL, URLS);
+            faults.add(new Fault(placeOf.apply(URL), "it has no " + URL, URLS));
             return null;
         }
         if (!url.toString().startsWith(SCHEME) || url.toString().length() == SCHEME.length()) {
-            tell(URL + " is " + url, URLS);
+            tell(URL, " is " + url, URLS);
             return null;
         }
         return url.toString();
@@ -56,7 +57,7 @@ final class Settings {
         try {
             return url != null && Program.isServed(url);
         } catch (PersistenceException none) {
-            tell(URL + " is " + url, "Write karzhoul:unix:/run/app.sock or karzhoul:tcp:127.0.0.1:7117");
+            tell(URL, " is " + url, "Write karzhoul:unix:/run/app.sock or karzhoul:tcp:127.0.0.1:7117");
             return true;
         }
     }
@@ -77,7 +78,7 @@ final class Settings {
         } catch (NumberFormatException odd) {
             // Told below.
         }
-        tell(POOL_WAIT + " is " + wait, "Write milliseconds, as 10000");
+        tell(POOL_WAIT, " is " + wait, "Write milliseconds, as 10000");
         return USUAL_WAIT;
     }
 
@@ -85,11 +86,11 @@ final class Settings {
     void checkWatching() {
         Object slow = properties.getOrDefault(Program.SLOW, "0");
         if (!slow.toString().trim().matches("[0-9]{1,9}")) {
-            tell(Program.SLOW + " is " + slow, "Write milliseconds, as 200, or 0 for none");
+            tell(Program.SLOW, " is " + slow, "Write milliseconds, as 200, or 0 for none");
         }
         Object beans = properties.getOrDefault(BEANS, "false");
         if (!beans.toString().trim().matches("true|false")) {
-            tell(BEANS + " is " + beans, "Write true or false");
+            tell(BEANS, " is " + beans, "Write true or false");
         }
     }
 
@@ -112,7 +113,7 @@ final class Settings {
             case "stderr" -> {
                 return Optional.of(System.err::println);
             }
-            default -> tell(LOG + " is " + word, "Write true for the logger karzhoul.jpa, stderr, or false");
+            default -> tell(LOG, " is " + word, "Write true for the logger karzhoul.jpa, stderr, or false");
         }
         return Optional.empty();
     }
@@ -121,7 +122,7 @@ final class Settings {
     void checkSchema() {
         Object action = properties.get(SCHEMA_ACTION);
         if (action != null && action.toString().contains("drop")) {
-            tell(SCHEMA_ACTION + " is " + action + ", and nothing is dropped",
+            tell(SCHEMA_ACTION, " is " + action + ", and nothing is dropped",
                     "Delete the store's file, or use karzhoul:memory");
         }
     }
@@ -129,11 +130,11 @@ final class Settings {
     void checkAdopt() {
         Object adopt = properties.getOrDefault(Program.ADOPT, "false");
         if (!adopt.toString().equals("true") && !adopt.toString().equals("false")) {
-            tell(Program.ADOPT + " is " + adopt, "Write true or false");
+            tell(Program.ADOPT, " is " + adopt, "Write true or false");
         }
     }
 
-    private void tell(String what, String remedy) {
-        faults.add(new Fault(place, what, remedy));
+    private void tell(String property, String what, String remedy) {
+        faults.add(new Fault(placeOf.apply(property), property + what, remedy));
     }
 }

@@ -4,6 +4,7 @@ import jakarta.persistence.PersistenceException;
 import java.net.URI;
 import java.util.ArrayList;
 import java.util.Collection;
+import java.util.HashSet;
 import java.util.LinkedHashMap;
 import java.util.LinkedHashSet;
 import java.util.List;
@@ -26,6 +27,7 @@ final class UnitReader {
     private final Map<String, Object> properties;
     private final List<Fault> faults = new ArrayList<>();
     private final String place;
+    private final Set<String> ofCall = new HashSet<>();
 
     /** @param given the properties of the call, which count before those of the unit */
     UnitReader(Declared declared, Map<?, ?> given, ClassLoader loader) {
@@ -33,6 +35,9 @@ final class UnitReader {
         this.loader = loader;
         this.properties = merged(declared, given);
         this.place = declared.file();
+        if (given != null) {
+            given.keySet().forEach(name -> ofCall.add(String.valueOf(name)));
+        }
     }
 
     static Map<String, Object> merged(Declared declared, Map<?, ?> given) {
@@ -46,7 +51,7 @@ final class UnitReader {
 
     /** @throws RefusedUnit with all that is wrong with the unit */
     UnitSettings read() {
-        Settings settings = new Settings(place, properties, faults);
+        Settings settings = new Settings(this::placeOf, properties, faults);
         String url = settings.url();
         settings.checkSchema();
         settings.checkAdopt();
@@ -58,7 +63,7 @@ final class UnitReader {
         Optional<String> named = settings.program();
         boolean isServed = settings.isServed(url);
         var program = CompletableFuture.supplyAsync(
-                () -> isServed ? null : new ProgramFile(place, ofProgram).find(named), UnitReader::beside);
+                () -> isServed ? null : new ProgramFile(placeOf(Settings.PROGRAM), ofProgram).find(named), UnitReader::beside);
         int told = faults.size();
         UnitModel unit = readClasses();
         String found = program.join();
@@ -67,6 +72,10 @@ final class UnitReader {
             throw new RefusedUnit(declared.name(), faults);
         }
         return new UnitSettings(declared.name(), unit, url, found, wait, log, properties);
+    }
+
+    private String placeOf(String property) {
+        return ofCall.contains(property) ? "the properties that createEntityManagerFactory was handed" : place;
     }
 
     /** The program's sum is taken while the classes are read: a JVM that has just begun takes its time for either. */

@@ -27,6 +27,7 @@ import java.util.Optional;
 import java.util.function.Consumer;
 import java.util.jar.JarEntry;
 import java.util.jar.JarOutputStream;
+import java.util.stream.Collectors;
 import karzhoul.jpa.KarzhoulProvider;
 import karzhoul.jpa.model.EntityModel;
 import karzhoul.jpa.model.Fault;
@@ -225,6 +226,17 @@ class UnitsTest {
         RefusedUnit refused = assertThrows(RefusedUnit.class, () -> Units.find("mine", null));
         assertEquals(List.of("karzhoul.adopt is yes"), refused.faults().stream().map(Fault::what).toList());
         assertTrue(Units.find("mine", Map.of("karzhoul.adopt", "false")).isPresent());
+    }
+
+    @Test
+    void whatTheCallHandsInIsToldAsThat() throws IOException {
+        units(unit("mine", PROVIDER + LISTED, URL_PROPERTY, property("karzhoul.log", "loud")));
+        RefusedUnit refused = assertThrows(RefusedUnit.class, () -> Units.find("mine", Map.of("karzhoul.pool.wait", "soon",
+            "jakarta.persistence.jdbc.url", "karzhoul:tcp:127.0.0.1", "karzhoul.slow", "100")));
+        String handed = "the properties that createEntityManagerFactory was handed";
+        assertEquals(Map.of("karzhoul.log is loud", folder.resolve("META-INF/persistence.xml").toUri().toURL().toString(),
+            "karzhoul.pool.wait is soon", handed, "jakarta.persistence.jdbc.url is karzhoul:tcp:127.0.0.1", handed),
+            refused.faults().stream().collect(Collectors.toMap(Fault::what, Fault::place)));
     }
 
     @Test
