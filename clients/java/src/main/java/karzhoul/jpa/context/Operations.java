@@ -141,8 +141,9 @@ final class Operations {
     private void removeNew(Object instance) {
         EntityModel model = context.modelOf(instance);
         if (context.entryOf(instance) == null && isDetached(model, instance)) {
-            throw context.marked(new IllegalArgumentException("IllegalArgument(state), " + model.name()
-                + ": a detached instance can't be removed; merge it first"));
+            List<Object> key = Targets.keyOf(model, instance);
+            throw context.marked(new IllegalArgumentException("IllegalArgument(state), " + model.name() + " "
+                + (key.size() == 1 ? key.get(0) : key) + ": a detached instance can't be removed; merge it first"));
         }
         Graph graph = new Graph(context);
         graph.add(instance);

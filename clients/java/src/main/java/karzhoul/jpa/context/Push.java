@@ -108,7 +108,11 @@ class Push {
     private void tellValues(Entry entry, Object instance) {
         for (Attribute attribute : entry.model().attributes()) {
             if (attribute.role() != Attribute.Role.VERSION) {
-                value(entry, attribute, attribute.get(instance));
+                try {
+                    value(entry, attribute, attribute.get(instance));
+                } catch (Unkept unkept) {
+                    throw unkept.of(entry);
+                }
             }
         }
     }

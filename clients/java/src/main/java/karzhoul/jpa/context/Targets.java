@@ -31,7 +31,7 @@ final class Targets {
         }
         List<Object> key = new ArrayList<>();
         for (Attribute part : model.key().parts()) {
-            Object column = Values.column(part, part.get(instance));
+            Object column = ofKey(model, part, instance);
             if (column == null) {
                 return null;
             }
@@ -39,6 +39,14 @@ final class Targets {
         }
         boolean isZero = key.size() == 1 && Long.valueOf(0).equals(key.get(0));
         return isZero && model.key().generation() != KeyModel.Generation.ASSIGNED ? null : List.copyOf(key);
+    }
+
+    private static Object ofKey(EntityModel model, Attribute part, Object instance) {
+        try {
+            return Values.column(part, part.get(instance));
+        } catch (Unkept unkept) {
+            throw unkept.of(model);
+        }
     }
 
     /**

@@ -1,6 +1,5 @@
 package karzhoul.jpa.context;
 
-import jakarta.persistence.PersistenceException;
 import java.util.Arrays;
 import karzhoul.jpa.model.Attribute;
 import karzhoul.jpa.model.Codec;
@@ -47,13 +46,13 @@ final class Values {
     /**
      * What is kept of a value in a column.
      *
-     * @throws PersistenceException in words, where it can't be kept
+     * @throws Unkept where it can't be kept
      */
     static Object column(Attribute attribute, Object value) {
         try {
             return attribute.codec().toColumn(value);
         } catch (IllegalArgumentException e) {
-            throw new PersistenceException(attribute.path() + " can't be stored: " + e.getMessage(), e);
+            throw new Unkept(attribute.path(), e);
         }
     }
 
