@@ -4,10 +4,12 @@ import jakarta.persistence.PersistenceException;
 import java.io.IOException;
 import java.io.InputStream;
 import java.nio.file.Files;
+import java.nio.file.NoSuchFileException;
 import java.nio.file.Path;
 import java.security.GeneralSecurityException;
 import java.security.KeyStore;
 import java.security.cert.Certificate;
+import java.security.cert.CertificateException;
 import java.security.cert.CertificateFactory;
 import java.util.Collection;
 import javax.net.ssl.SSLContext;
@@ -46,9 +48,17 @@ final class Trust {
             parameters.setEndpointIdentificationAlgorithm("HTTPS");
             engine.setSSLParameters(parameters);
             return engine;
+        } catch (NoSuchFileException e) {
+            throw unread("there is no such file", e);
+        } catch (CertificateException e) {
+            throw unread("it has no certificates in PEM: " + e.getMessage(), e);
         } catch (IOException | GeneralSecurityException e) {
-            throw new PersistenceException("the certificates of " + CA + " can't be read: " + given + ": " + e, e);
+            throw unread(e.toString(), e);
         }
+    }
+
+    private PersistenceException unread(String why, Exception e) {
+        return new PersistenceException("the certificates of " + CA + " can't be read: " + given + ": " + why, e);
     }
 
     private KeyStore certificates() throws IOException, GeneralSecurityException {
@@ -61,7 +71,7 @@ final class Trust {
             }
         }
         if (store.size() == 0) {
-            throw new IOException("it has no certificate");
+            throw new CertificateException("it is empty, or has other things");
         }
         return store;
     }

@@ -96,9 +96,13 @@ class TlsTest {
             said = refused(server, "system");
             assertTrue(said.startsWith(untrusted), said);
             said = refused(server, folder.resolve("none.pem"));
-            assertTrue(said.startsWith("the certificates of karzhoul.tls.ca can't be read: ") && said.contains("none.pem"), said);
-            said = refused(server, token);
-            assertTrue(said.startsWith("the certificates of karzhoul.tls.ca can't be read: "), said);
+            assertTrue(said.startsWith("the certificates of karzhoul.tls.ca can't be read: ")
+                && said.endsWith("none.pem: there is no such file"), said);
+            for (Path without : List.of(token, Certificates.key(folder.resolve("server.pem")), Files.createFile(folder.resolve("empty.pem")))) {
+                said = refused(server, without);
+                assertTrue(said.startsWith("the certificates of karzhoul.tls.ca can't be read: " + without
+                    + ": it has no certificates in PEM: "), said);
+            }
             said = refused(server, null);
             assertTrue(said.startsWith("nobody serves at tcp:127.0.0.1:") && said.endsWith("; where it speaks TLS, the property"
                 + " karzhoul.tls.ca names the file with the certificates to trust"), said);
