@@ -1,9 +1,10 @@
 #!/usr/bin/env python3
-"""tests/modules.py FOLDER [MODULE..]: runs each module FOLDER/test_*.py of unittest in a process of
-its own, as many at a time as this process has processors (KARZHOUL_TEST_PROCESSES says another
-number). Those that are named come first: name the longest, so that none of them is waited for
-alone. Each has a TMPDIR of its own, which goes with it. What it says beside its count is told when
-it has ended. The last lines are those of unittest, over all modules.
+"""tests/modules.py FOLDER [MODULE..]: runs each module test_*.py of unittest in FOLDER and in the
+folders in it, in a process of its own, as many at a time as this process has processors
+(KARZHOUL_TEST_PROCESSES says another number). Those that are named, as test_a or wire.test_b, come
+first: name the longest, so that none of them is waited for alone. Each has a TMPDIR of its own,
+which goes with it. What it says beside its count is told when it has ended. The last lines are
+those of unittest, over all modules.
 
 A module that hasn't ended after SECONDS is ended with what it started, and has failed. So has one
 that gives no count. The status is 0 where nothing failed.
@@ -129,10 +130,16 @@ def _stop(*_: object) -> None:
     sys.exit(143)
 
 
+def found(folder: Path) -> List[str]:
+    """The modules of a folder and of those in it, by their names from the folder on."""
+    paths = (path.relative_to(folder) for path in folder.rglob("test_*.py"))
+    return sorted(".".join(path.with_suffix("").parts) for path in paths)
+
+
 def main(words: List[str]) -> int:
     """Runs the modules of a folder, and answers the status."""
     folder, *first = words
-    there = sorted(path.stem for path in Path(folder).glob("test_*.py"))
+    there = found(Path(folder))
     if not there or not set(first) <= set(there):
         lacking = ", ".join(sorted(set(first) - set(there))) or "test_*.py"
         print(f"modules: {folder} has no {lacking}", file=sys.stderr)

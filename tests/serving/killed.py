@@ -11,7 +11,7 @@ there at its moment, since it is being started, is waited for. After the last on
 confirmed. Then the store is opened, and what each client noted is compared: each confirmed
 transaction is there, none of those that were told to be lost is, none is half there, and no copy
 was lent twice. Ctrl-C has it kill no more, and compare. It is run by hand;
-clients/python/tests/test_server_trials.py has it short. Exit status 0 where nothing is wrong.
+clients/python/tests/server/test_server_trials.py has it short. Exit status 0 where nothing is wrong.
 """
 from __future__ import annotations
 

@@ -16,6 +16,13 @@ LAYERS: Tuple[Tuple[str, ...], ...] = (
     ("exporting",), ("console",), ("cli",),
 )
 """From below: as it is loaded, a package needs none of a later layer."""
+TESTS = Path(__file__).parent
+OF_ALL = {
+    "test_building", "test_packages", "test_refusals", "test_stubs", "test_types",
+}
+"""Tests of modules beside the packages, and of the client as a whole."""
+PAGES = {"papers", "examples"}
+"""Folders of tests of what the repository says of the client: its pages and its applications."""
 LOOKS = {"_getframe", "__traceback__", "tb_frame", "tb_next", "tb_lineno", "f_locals"}
 
 
@@ -64,6 +71,16 @@ class Packages(unittest.TestCase):
                 if folder.is_dir():
                     said = ast.get_docstring(ast.parse((folder / "__init__.py").read_text()))
                     self.assertTrue(said, name)
+
+    def test_each_module_of_tests_is_in_a_folder_of_its_package(self) -> None:
+        packages = {name for layer in LAYERS for name in layer if (PACKAGE / name).is_dir()}
+        folders: Dict[str, Set[str]] = {}
+        for path in TESTS.rglob("test_*.py"):
+            folders.setdefault(str(path.parent.relative_to(TESTS)), set()).add(path.stem)
+        self.assertEqual(folders.pop("."), OF_ALL)
+        self.assertEqual(set(folders), packages | PAGES)
+        for folder in folders:  # As the tests in it import their neighbours.
+            self.assertTrue((TESTS / folder / "__init__.py").is_file(), folder)
 
     def test_no_frame_is_walked_and_no_traceback_read(self) -> None:
         """The handler of Ctrl-C alone looks at where it came: at the frame that it is handed."""

@@ -12,7 +12,7 @@ import tempfile
 import unittest
 from pathlib import Path
 
-from . import test_tutorial
+from .papers import test_tutorial
 from .support import TOP
 
 

@@ -1,0 +1,91 @@
+"""The client's own tests of queries, relations, merges, refusals and the like, over a server in
+the place of a program of their own."""
+
+from __future__ import annotations
+
+import importlib
+import tempfile
+import threading
+import unittest
+from pathlib import Path
+from typing import Any, Dict, List, Type
+
+import karzhoul
+
+from ..served import SECONDS, Here
+from ..support import PERSONS, PROGRAM, FolderTest, ManagerTest, needs_program
+
+_MODULES = (
+    "objects.test_values", "queries.test_queries", "session.test_begin",
+    "session.test_merge_and_locks", "session.test_sessions",
+)
+# What is of a process of one's own; and interrupts at each step, which are the client's alone.
+_LEFT_OUT = {"test_a_program_that_dies", "Between"}
+
+
+class _Served(ManagerTest):
+    """A test over a server."""
+
+    def opened(self) -> karzhoul.EntityManagerFactory:
+        place = tempfile.TemporaryDirectory()
+        self.addCleanup(place.cleanup)
+        path = Path(place.name, "s")
+        server = Here(self.mapping, Path(place.name, "app.db"), listen=path)
+        self.addCleanup(server.close)
+        # Whose numbers are others than those of the test's connection.
+        with karzhoul.connect(f"unix:{path}") as other, other.begin():
+            other.new(next(iter(other._classes)))
+            return karzhoul.connect(f"unix:{path}")
+
+
+@needs_program
+class Together(FolderTest):
+    """Several factories over one server, each of them of several threads."""
+
+    def test_more_threads_than_managers(self) -> None:
+        path = self.place / "s"
+        server = Here(PERSONS, self.place / "app.db", listen=path)
+        self.addCleanup(server.close)
+        apps = [karzhoul.connect(f"unix:{path}", threads=True, wait=SECONDS) for _ in range(4)]
+
+        def work(app: karzhoul.EntityManagerFactory) -> None:
+            for number in range(5):
+                with app.begin() as manager:
+                    manager.persist(app.entity("Person")(name=f"{number}"))
+
+        threads = [threading.Thread(target=work, args=(app,)) for app in apps for _ in range(6)]
+        for thread in threads:
+            thread.start()
+        for thread in threads:
+            thread.join(SECONDS)
+        with apps[0].begin() as manager:
+            self.assertEqual(manager.one("SELECT COUNT(p) FROM Person p"), 120)
+        held = [apps[0].create_entity_manager() for _ in range(16)]
+        with karzhoul.connect(f"unix:{path}", wait=0.1) as app:
+            with self.assertRaises(karzhoul.NoFreeManager) as caught:
+                app.create_entity_manager()
+            self.assertIn("has 16", str(caught.exception))
+            held[0].close()
+            app.create_entity_manager().close()
+        for app in apps:
+            app.close()
+
+
+def load_tests(loader: unittest.TestLoader, tests: Any, pattern: Any) -> unittest.TestSuite:
+    """The tests of those modules whose factory is one of `ManagerTest`."""
+    suite = unittest.TestSuite()
+    suite.addTests(tests)
+    if PROGRAM is None:
+        return suite
+    for name in _MODULES:
+        found: Dict[str, Any] = vars(importlib.import_module(f"tests.{name}"))
+        kinds: List[Type[ManagerTest]] = [
+            it for it in found.values()
+            if isinstance(it, type) and issubclass(it, ManagerTest) and it.__module__.endswith(name)
+            and it.__name__ not in _LEFT_OUT
+        ]
+        for kind in kinds:
+            served = type(f"Served{kind.__name__}", (_Served, kind), {"__module__": __name__})
+            names = [it for it in loader.getTestCaseNames(served) if it not in _LEFT_OUT]
+            suite.addTests(map(served, names))
+    return suite
