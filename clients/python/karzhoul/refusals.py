@@ -175,6 +175,8 @@ class Refused(KarzhoulError):
     _before: Optional[Tuple[str, str]] = None
     # The numbers of the objects that flushes of its manager's transaction wrote before.
     _written: Tuple[int, ...] = ()
+    # The numbers of the objects that removals of its transaction came to.
+    _removed: Tuple[int, ...] = ()
     # What is said of it, where that was told when it was refused.
     _sentence: Optional[str] = None
 
@@ -188,7 +190,7 @@ class Refused(KarzhoulError):
 
     def __reduce__(self) -> Tuple[Any, ...]:
         # A copy, as for another process, has no objects, and no factory that could explain it.
-        of_this_process = ("_factory", "_run", "_concern", "_written")
+        of_this_process = ("_factory", "_run", "_concern", "_written", "_removed")
         told = {name: it for name, it in vars(self).items() if name not in of_this_process}
         return _copied, (type(self), self.detail, {**told, "events": ()})
 
@@ -312,7 +314,7 @@ class Rollback(Refused, number=14):
 
             cause = told_apart(cause)
         cause._factory, cause._run, cause._concern = self._factory, self._run, self._concern
-        cause._written = self._written
+        cause._written, cause._removed = self._written, self._removed
         return cause
 
     def explain(self) -> str:

@@ -6,6 +6,11 @@ from __future__ import annotations
 _OF_VALUE, _OF_WORDS = 200, 500
 
 
+def with_article(word: str) -> str:
+    """A class's name with its article, as `an Order` and `a User`."""
+    return f"{'an' if word[:1] in 'AEIO' else 'a'} {word}"
+
+
 def shown(value: object) -> str:
     """A value as messages tell it: they may stand in a log, and a text may have 65,535 bytes."""
     size = f"{len(value):,} bytes" if isinstance(value, bytes) else ""

@@ -10,7 +10,7 @@ from weakref import WeakKeyDictionary, WeakSet
 from ..objects.entities import Attribute, Entity, Event, check_names
 from ..mapping.indexes import WHY_NOT, Known, index_line
 from ..wire.lines import LifecycleEvent
-from ..told import shown
+from ..told import shown, with_article
 from ..mapping.unit import MemberKind
 from . import types
 from .checks import chain, member_of
@@ -53,7 +53,7 @@ class TypedAttribute(Attribute):
         if value is None:
             if self._may_be_none():
                 return None
-            what = self.type.what if self.type else f"a {self.member.target}"
+            what = self.type.what if self.type else with_article(str(self.member.target))
             raise WrongValue(f"{self.said} is {what}, and never None: declare it as .. | None "
                              "where it may be")
         return value if self.type is None else to_stored(self.type, value, self.said)

@@ -18,6 +18,7 @@ from ..mapping.unit import EntityDescription, Member, MemberKind, entities_of
 from ..objects.concern import Concern
 from ..objects.entities import Entity
 from ..refusals import EntityNotFound, KarzhoulError, Refused
+from ..told import with_article
 from ..wire.lines import LifecycleEvent
 from .texts import value_text
 
@@ -83,7 +84,7 @@ class Culprits:
     @cached_property
     def _removed(self) -> List[Entity]:
         told = [it.of for it in self._refused.events if it.kind in _DROPPED]
-        found = self.of([*self._concern.removed, *told])
+        found = self.of([*self._concern.removed, *told, *self._refused._removed])
         return list(dict.fromkeys([*found, *self._beyond(found, "REMOVE")]))[:_MOST]
 
     def of(self, told: Iterable[Any]) -> List[Entity]:
@@ -282,7 +283,7 @@ class Culprits:
         for each, member, value in self._members(objects, *_RELATIONS):
             way = f"{self._name(each)} leads by {member.name} to"
             if member.is_owner and value is GONE:
-                yield f"{way} a {member.type} that {what}"
+                yield f"{way} {with_article(member.type)} that {what}"
             for target in _objects(value) if member.is_owner else []:
                 if target not in inserted and self._stored(target) is None:
                     yield f"{way} {self._name(target)}, which {what}"

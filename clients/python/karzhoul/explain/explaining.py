@@ -5,17 +5,20 @@ from __future__ import annotations
 
 import json
 from itertools import islice
-from typing import TYPE_CHECKING, Any, Callable, Dict, Iterable, Iterator, Mapping, Optional
+from typing import TYPE_CHECKING, Any, Callable, Dict, Iterable, Iterator, List, Mapping, Optional
 
 from ..jpql.check import BYTES, INT, TEXT, Kind, Kinds, check
 from ..mapping.meant import meant
 from ..mapping.unit import EntityDescription, MemberKind, entities_of
 from ..refusals import BadLine, KarzhoulError, Refused, Rollback, StoreFault
+from ..told import with_article
 from .culprits import Culprits
 from .line_check import faults_of_line
 from .meanings import meaning
+from .statements import of_statement
 
 if TYPE_CHECKING:
+    from ..classes.naming import Naming
     from ..session.factory import EntityManagerFactory
 
 # So many lines are told, and so many characters of each.
@@ -76,21 +79,43 @@ def _told(refused: Refused, factory: Optional[EntityManagerFactory]) -> Iterator
     elif factory is not None:
         said = _said(refused.line)
         if refused.word in _OF_QUERIES:
-            yield from _of_query(said, factory)
+            yield from _of_query(refused, said, factory)
         if refused.name == "IllegalArgument":
             yield from _of_argument(refused.detail, said, factory)
-        elif refused.word in _ASKED and factory.turn is not None:  # Else nothing can be asked.
-            yield from _of_objects(refused, said, factory)
+        elif refused.word == "IllegalState(unfetched)":
+            yield from _of_unread(said, factory)
+        elif refused.word in _ASKED:
+            # (within a pipeline, and once the program has ended, nothing can be asked)
+            found = [] if factory.turn is None else _of_objects(refused, said, factory)
+            yield from found or _of_statement(refused, said, factory)
 
 
-def _of_query(said: Mapping[str, Any], factory: EntityManagerFactory) -> Iterator[str]:
+def _of_query(
+    refused: Refused, said: Mapping[str, Any], factory: EntityManagerFactory
+) -> Iterator[str]:
     if isinstance(said.get("text"), str):
-        from ..classes.naming import Naming
+        entities, told = entities_of(factory.mapping), _naming(factory).told
+        found = check(said["text"], entities, _kinds(said, factory), factory.language)
+        yield from (told(str(each)) for each in found)
+        if not found and refused.detail == "syntax":
+            yield (
+                "the program can't read the text, in which the client finds nothing wrong: it may be "
+                "older than what the text has; 'karzhoul --version' tells which one is started"
+            )
 
-        naming = Naming({} if factory.binding is None else factory.binding.model)
-        entities = entities_of(factory.mapping)
-        for each in check(said["text"], entities, _kinds(said, factory), factory.language):
-            yield naming.told(str(each))
+
+def _of_statement(
+    refused: Refused, said: Mapping[str, Any], factory: EntityManagerFactory
+) -> Iterator[str]:
+    if said.get("call") == "executeUpdate":
+        entities, told = entities_of(factory.mapping), _naming(factory).told
+        yield from map(told, of_statement(refused.detail or "", said, entities))
+
+
+def _naming(factory: EntityManagerFactory) -> Naming:
+    from ..classes.naming import Naming
+
+    return Naming({} if factory.binding is None else factory.binding.model)
 
 
 def _of_argument(
@@ -117,8 +142,22 @@ def _of_argument(
         yield f"{kind.__name__} has no member {name!r} of that sort{near}"
     elif detail == "type" and name in members and members[name].kind is not MemberKind.COLLECTION:
         wanted = members[name].type
-        word = _KINDS.get(wanted, f"a {wanted}")
+        word = _KINDS.get(wanted) or with_article(wanted)
         yield f"{kind.__name__}.{name} is {word}, and not {_given(said.get('value'), factory)}"
+    elif detail == "type" and name in members:
+        other = factory._kinds[said.get("member", 0)]
+        told = "no other object" if other is None else f"no {other.__name__}"
+        yield f"{kind.__name__}.{name} is a list of {members[name].type}, and takes {told}"
+
+
+def _of_unread(said: Mapping[str, Any], factory: EntityManagerFactory) -> Iterator[str]:
+    """Which relation of a detached object wasn't read before."""
+    kind = factory._kinds[said.get("object", 0)]
+    if kind is not None and "name" in said:
+        yield (
+            f"{kind.__name__}.{said['name']} wasn't read before its object was detached: read it while "
+            "it is managed, or find the object again"
+        )
 
 
 def _of_key(
@@ -146,7 +185,7 @@ def _is_of(wanted: str, value: Any) -> bool:
 def _given(value: Any, factory: EntityManagerFactory) -> str:
     if isinstance(value, dict) and "object" in value:
         kind = factory._kinds[value["object"]]
-        return f"a {kind.__name__}" if kind else "another object"
+        return with_article(kind.__name__) if kind else "another object"
     if isinstance(value, dict):
         return f"bytes ({value.get('hex')})"
     return repr(value)
@@ -154,7 +193,7 @@ def _given(value: Any, factory: EntityManagerFactory) -> str:
 
 def _of_objects(
     refused: Refused, said: Mapping[str, Any], factory: EntityManagerFactory
-) -> Iterable[str]:
+) -> List[str]:
     """The objects that a refusal is about."""
     culprits = Culprits(factory, refused)
     number = said.get("object")

@@ -17,8 +17,9 @@ _MEANINGS: Dict[Type[Refused], Dict[str, str]] = {
         "key": "What was handed in is no whole key of the entity, or a key was set of an object "
         "that is not new any more.",
         "version": "The version of an object that is not new any more can't be set.",
-        "state": "The object is not in a state for this call: it is detached, removed, or another "
-        "manager's.",
+        "state": "The object is not in a state for this call: it is new, detached, removed, or "
+        "another manager's. One that is stored is found again, or merged, and what that answers is "
+        "handed in.",
         "range": "The first row or the number of rows is negative.",
         "syntax": "The text of the query can't be read.",
         "typing": "The query compares or computes what doesn't go together, or names what isn't "

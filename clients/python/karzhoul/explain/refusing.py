@@ -15,7 +15,7 @@ if TYPE_CHECKING:
     from ..session.runs import Run
 
 _WRITTEN = {"PostPersist", "PostUpdate", "PostRemove"}
-_COMMIT, _MERGE = b'{"call":"commit"', b'{"call":"merge"'
+_COMMIT, _MERGE, _REMOVE = b'{"call":"commit"', b'{"call":"merge"', b'{"call":"remove"'
 _MANAGER = re.compile(rb'"em":([0-9]+)')
 
 
@@ -39,6 +39,15 @@ def refusal_told(
     return refused
 
 
+def refusal_of_words(refused: Refused, run: Run, line: bytes) -> Refused:
+    """A refusal that the program told of a query in its words, as that of the line which would ask
+    it."""
+    refused.line = line.decode(errors="replace")
+    refused._factory, refused._run = run.factory, run
+    _say(refused)
+    return refused
+
+
 def _say(refused: Refused) -> None:
     """Has it say what can be told of it now, without asking, or that more can be told by asking."""
     from .explaining import sentence
@@ -51,7 +60,8 @@ def _say(refused: Refused) -> None:
 
 def note_written(run: Run, line: bytes, events: Iterable[Sequence[Any]]) -> None:
     """Notes what a manager's flush has written or dropped, as that of a query, since the refusal of
-    a later call of its transaction may be about it; and what a merge has made."""
+    a later call of its transaction may be about it; what a merge has made; and what a removal has
+    come to along cascades."""
     if line.startswith(_COMMIT):  # The transaction is over.
         return
     if run.factory.uniques is not None and (found := _MANAGER.search(line)):
@@ -59,6 +69,9 @@ def note_written(run: Run, line: bytes, events: Iterable[Sequence[Any]]) -> None
     if line.startswith(_MERGE) and (found := _MANAGER.search(line)):
         made = [event[1] for event in events if event[0] == "PrePersist"]
         run.merged.setdefault(int(found[1]), []).extend(made)
+    if line.startswith(_REMOVE) and (found := _MANAGER.search(line)):
+        gone = [event[1] for event in events if event[0] == "PreRemove"]
+        run.removed.setdefault(int(found[1]), []).extend(gone)
     numbers = [event[1] for event in events if event[0] in _WRITTEN]
     if numbers and (found := _MANAGER.search(line)):
         run.written.setdefault(int(found[1]), {}).update(dict.fromkeys(numbers))
@@ -76,5 +89,6 @@ def _note_mark(run: Run, refused: Refused, line: bytes) -> None:
         manager = int(found[1])
         refused._before = run.marked.get(manager)
         refused._written = tuple(run.written.get(manager, ()))
+        refused._removed = tuple(run.removed.get(manager, ()))
         if refused.name in MARKING:
             run.marked.setdefault(manager, (refused.word, refused.line))

@@ -10,7 +10,12 @@ from .nested import nested_told
 from .statements import AGGREGATES, LANGUAGES, QUANTIFIERS, LanguageName, Token, Unreadable
 
 _CASE = "CASE isn't served: COALESCE and NULLIF are"
-_DATES = "dates and times aren't served: store whole numbers or texts"
+_NOW = "the program has no clock: hand the date or the time in as a parameter"
+_DATES = "parts of dates and times aren't served: compare whole ones, handed in as parameters"
+_FRACTIONS = (
+    "numbers with a fraction aren't served: beside a Decimal of classes write it in quotes, as '1.50', "
+    "or hand it in as a parameter"
+)
 _NUMBERS = "this function isn't served: ABS and MOD are the functions of numbers"
 _TEXTS = "this function isn't served: those of texts are LENGTH, CONCAT, SUBSTRING and LOCATE"
 _WIDER = (
@@ -43,10 +48,10 @@ UNSERVED: Dict[str, str] = {
     "ELSE": _CASE,
     "CAST": "CAST isn't served",
     "CROSS": "CROSS JOIN isn't served: write a comma between the entities",
-    "CURRENT_DATE": _DATES,
-    "CURRENT_TIME": _DATES,
-    "CURRENT_TIMESTAMP": _DATES,
-    "LOCAL": _DATES,
+    "CURRENT_DATE": _NOW,
+    "CURRENT_TIME": _NOW,
+    "CURRENT_TIMESTAMP": _NOW,
+    "LOCAL": _NOW,
     "EXTRACT": _DATES,
     "ENTRY": _MAPS,
     "KEY": _MAPS,
@@ -170,7 +175,7 @@ def _called(
     sides = [each for each in (token, before) if each is not None]
     has_point = any(each.is_mark(".") for each in sides)
     if has_point and any(each.sort == "integer" for each in sides):
-        return token, "numbers with a fraction aren't served"
+        return token, _FRACTIONS
     return None
 
 

@@ -43,6 +43,8 @@ class ClassPlan:
     pairs: List[Part] = field(default_factory=list)
     key: str = ""
     """Why a key can't be kept."""
+    key_named: str = ""
+    """What a key that is kept is called now, where that is another name."""
     gone: List[str] = field(default_factory=list)
     """The members of before that no member takes."""
     function: Optional[Callable[..., Any]] = None
@@ -66,8 +68,8 @@ class ClassPlan:
         for part in self.parts():
             if part.words and not part.name.startswith(OWN_MEMBERS):
                 yield part.words
-        if self.key:
-            yield self.key
+        if self.key or self.key_named:
+            yield self.key or self.key_named
         if self.function is not None:
             yield f"{FUNCTION}{self.old.name} gives what is said there"
 
@@ -180,7 +182,7 @@ class _Matched:
 
     def plan(self) -> ClassPlan:
         before, after = self._before, self._after
-        made = ClassPlan(before, after, key=self._key())
+        made = ClassPlan(before, after, key=self._key(), key_named=self._key_named())
         made.values = [self._value(each) for each in after.values.values()]
         made.links = [self._link(each) for each in after.links.values()]
         made.pairs = [self._pair(each) for each in after.pairs.values()]
@@ -198,6 +200,13 @@ class _Matched:
         told = [" and ".join(f"{name}, {kind.what}" for name, kind in parts)
                 for parts in (was, own)]
         return f"{self._after.name}: its key was {told[0]}, and is {told[1]}"
+
+    def _key_named(self) -> str:
+        was, own = (
+            " and ".join(side.shown(shape.name, it.name) for it in shape.key)
+            for side, shape in ((self._old, self._before), (self._new, self._after))
+        )
+        return "" if was == own else f"{was} is {own} now"
 
     @staticmethod
     def _type(side: Side, shape: Shape, member: Member) -> Any:

@@ -294,10 +294,14 @@ class _Asked(NamedTuple):
         return with_lists(text, values, factory.language)
 
     def lookups(self) -> List[str]:
-        """By what the program finds the objects for it."""
+        """By what the program finds the objects for it; a refusal as `query` tells it."""
+        from ..explain.refusing import refusal_of_words
         from .lookups import lookups_of
 
-        return lookups_of(self.manager.factory, *self.stored(self.text, self.given or {}))
+        try:
+            return lookups_of(self.manager.factory, *self.stored(self.text, self.given or {}))
+        except Refused as refused:
+            raise refusal_of_words(refused, self.manager._run, self.line("query")) from None
 
     def _listed(self, text: str, values: Mapping[str, Any]) -> str:
         """Parameters as JSON. One that can't be told is a fault that also says what is wrong with

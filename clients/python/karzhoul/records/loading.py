@@ -6,6 +6,7 @@ from typing import Any, Callable, Dict, Iterator, List, Mapping, Optional, Seque
 
 from ..refusals import Limit, ObjectLimit, OutOfMemory, Persistence, Refused, StoreFault
 from ..session.factory import EntityManagerFactory
+from ..told import with_article
 from ..wire.lines import LifecycleEvent
 from .dumping import Stored
 from .plans import Plan, Terms
@@ -109,7 +110,7 @@ class Loader:
     def _why_stored(self, entity: str, found: str) -> Optional[str]:
         if not self._terms.updates:
             return "this key is stored already; --update gives that object the row's values"
-        return None if found == entity else f"the object of this key that is stored is a {found}"
+        return None if found == entity else f"the object of this key that is stored is {with_article(found)}"
 
     def _fault(self, line: int, why: str) -> RowFault:
         return self._source.fault(line, why)

@@ -32,8 +32,8 @@ class Run:
     """
 
     __slots__ = (
-        "factory", "map", "reader", "marked", "refused", "written", "merged", "noted", "managers",
-        "opened",
+        "factory", "map", "reader", "marked", "refused", "written", "merged", "removed", "noted",
+        "managers", "opened",
     )
 
     def __init__(
@@ -50,6 +50,9 @@ class Run:
         # The numbers of the objects that merges of each manager have made since its last
         # transaction, or in the open one.
         self.merged: Dict[int, List[int]] = {}
+        # The numbers of the objects that removals of each manager came to in its transaction, along
+        # cascades too.
+        self.removed: Dict[int, List[int]] = {}
         # What each manager has persisted and removed and no flush has written, by its number, where
         # values are kept unique.
         self.noted: Dict[int, Noted] = {}
@@ -88,6 +91,7 @@ class Run:
         self.refused.pop(manager, None)
         self.written.pop(manager, None)
         self.merged.pop(manager, None)
+        self.removed.pop(manager, None)
 
     # ---- the numbers of objects
 

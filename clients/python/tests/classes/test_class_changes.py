@@ -325,7 +325,8 @@ class Changed(ClassesTest):
                      "age: int = 0", "age: bool = False")
 
     def test_another_key(self) -> None:
-        self.refused(DeclarationError, "Loan.number is a key of text, and was one of int",
+        self.refused(DeclarationError, "Loan.number is a key of text, and was one of int: a key stays as it "
+                     "is. Take the change back, or bring the store over by karzhoul migrate",
                      "number: int", "number: str")
 
     def test_a_key_that_is_generated_now(self) -> None:

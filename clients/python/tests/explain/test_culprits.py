@@ -6,7 +6,7 @@ from __future__ import annotations
 import resource
 import shlex
 import unittest
-from typing import Any, Callable
+from typing import Any, Callable, Dict
 
 import karzhoul
 
@@ -124,6 +124,92 @@ class Held(ManagerTest):
                 self.em.persist(order)
 
         self.assertIn("leads by person to the new Person", explained(change))
+
+
+def _attribute(name: str, column: int) -> Dict[str, Any]:
+    return {"name": name, "type": "int", "column": column, "required": True}
+
+
+@needs_program
+class Removed(ManagerTest):
+    """Persons whose orders go along with them, and desks that don't."""
+
+    mapping = {
+        "revision": 1,
+        "entities": [
+            {"name": "Person", "table": 1, "key": [{"name": "id", "type": "int"}],
+             "attributes": [_attribute("age", 1), _attribute("rank", 2)],
+             "relations": [{"name": "orders", "kind": "oneToMany", "target": "Order",
+                            "mappedBy": "person", "cascade": ["ALL"]}]},
+            {"name": "Clerk", "extends": "Person"},
+            {"name": "Order", "table": 2, "key": [{"name": "number", "type": "int"}],
+             "relations": [{"name": "person", "kind": "manyToOne", "target": "Person", "column": 1,
+                            "required": True}]},
+            {"name": "Desk", "table": 3, "key": [{"name": "number", "type": "int"}],
+             "relations": [{"name": "clerk", "kind": "manyToOne", "target": "Clerk", "column": 1}]},
+        ],
+    }
+
+    def setUp(self) -> None:
+        super().setUp()
+        clerk = self.app.new("Clerk", id=1, age=30, rank=2)
+        with self.app.begin() as manager:
+            manager.persist_all([
+                clerk, self.app.new("Order", number=7, person=clerk),
+                self.app.new("Desk", number=8, clerk=clerk),
+            ])
+
+    def done(self, text: str, **given: Any) -> str:
+        """What the refusal of a statement is explained by."""
+
+        def call() -> None:
+            with self.app.begin() as manager:
+                manager.execute_update(text, **given)
+
+        return explained(call)
+
+    def test_what_goes_along_is_not_in_the_way(self) -> None:
+        def remove() -> None:
+            with self.app.begin() as manager:
+                manager.remove(manager.get_reference("Person", 1))
+
+        told = "Desk 8 leads to Clerk 1 by clerk, which is removed"
+        self.assertEqual(explained(remove), told)
+
+    def test_what_a_delete_would_remove(self) -> None:
+        for name in ("Person", "Clerk"):
+            self.assertEqual(
+                self.done(f"DELETE FROM {name} p"),
+                f"what stays leads to a {name} that would be removed, by Order.person or Desk.clerk: "
+                "let that lead elsewhere first, or remove it too",
+            )
+
+    def test_what_an_update_sets_to_null(self) -> None:
+        for text, given, told in (
+            ("SET p.age = NULL", {}, "Person.age is set to null, and is required"),
+            ("SET p.rank = 1, p.age = :n", {"n": None}, "Person.age is set to null, and is required"),
+            ("SET p.age = NULLIF(p.age, 30)", {},
+             "Person.age is required, and what it is set to is null of an object"),
+            ("SET p.age = NULLIF(p.age, 30), p.rank = p.rank + 1", {},
+             "Person.age and Person.rank are required, and what one of them is set to is null of an "
+             "object"),
+        ):
+            with self.subTest(text):
+                self.assertEqual(self.done(f"UPDATE Person p {text}", **given), told)
+
+    def test_what_an_update_links_to(self) -> None:
+        self.assertEqual(
+            self.done("UPDATE Order o SET o.person = :new", new=self.app.new("Clerk", id=9)),
+            "Order.person is set to a Person that isn't stored",
+        )
+
+    def test_a_list_of_others(self) -> None:
+        clerk, desk = self.app.new("Clerk", id=2), self.app.new("Desk", number=9)
+        told = "Clerk.orders is a list of Order, and takes no Desk"
+        self.assertEqual(explained(lambda: clerk.orders.append(desk)), told)
+        order = self.app.new("Order", number=9)
+        told = "Desk.clerk is a Clerk, and not an Order"
+        self.assertEqual(explained(lambda: setattr(desk, "clerk", order)), told)
 
 
 @needs_program

@@ -10,7 +10,7 @@ from typing import Any, Callable, List, Tuple, Type
 
 import karzhoul
 
-from ..support import ProgramTest, counted, needs_program
+from ..support import PERSONS, ProgramTest, counted, needs_program, played
 
 
 @needs_program
@@ -45,6 +45,42 @@ class Sentences(ProgramTest):
             "[IllegalArgument(parameter)]\n1:1: the query: the query has no parameter 'nam': did "
             "you mean 'name'? [IllegalArgument(parameter)]",
             self.em.query, "SELECT p FROM Person p WHERE p.name = :name", nam="a",
+        )
+
+    def test_queries_that_are_explained(self) -> None:
+        """As those that are asked: the program judges them by words of its own."""
+        for text, given, told in (
+            ("SELECT p FORM Person p", {}, "1:10: FORM: did you mean FROM? [IllegalArgument(syntax)]"),
+            ("SELECT p.nmae FROM Person p", {}, "1:10: nmae: Person has no member nmae: did you mean "
+             "'name'? [IllegalArgument(typing)]"),
+            ("SELECT p FROM Person p WHERE p.name = :name", {},
+             "1:39: :name: the parameter 'name' isn't given [IllegalArgument(parameter)]"),
+            ("SELECT p FROM Person p", {"n": 1},
+             "1:1: the query: the query has no parameter 'n' [IllegalArgument(parameter)]"),
+            ("DELETE FROM Person p", {}, "The text is no statement for this call: a SELECT is asked by "
+             "query, an UPDATE or DELETE is done by execute_update."),
+        ):
+            with self.subTest(text):
+                refused = self.says(told, self.em.explain, text, **given)
+                with self.assertRaises(type(refused)) as raised:
+                    self.em.query(text, **given)
+                self.assertEqual(str(raised.exception), told)
+
+    def test_a_text_that_the_program_alone_refuses(self) -> None:
+        text = "SELECT p FROM Person p"
+        lines = {
+            '{"call":"createEntityManager"}': '{"events":[],"ok":1}',
+            f'{{"call":"query","em":1,"text":"{text}"}}':
+                '{"error":{"name":"IllegalArgument","no":6,"why":"syntax"},"events":[]}',
+        }
+        script = "".join(f"> {line}\n< {reply}\n" for line, reply in lines.items())
+        with played(script, PERSONS) as app:
+            with self.assertRaises(karzhoul.IllegalArgument) as raised:
+                app.create_entity_manager().query(text)
+        self.assertEqual(
+            str(raised.exception),
+            "the program can't read the text, in which the client finds nothing wrong: it may be older "
+            "than what the text has; 'karzhoul --version' tells which one is started",
         )
 
     def test_names_values_and_keys(self) -> None:

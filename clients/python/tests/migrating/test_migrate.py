@@ -374,6 +374,12 @@ class Told(Migrated):
         ])
         self.is_as_before()
 
+    def test_a_plan_tells_that_a_key_has_another_name(self) -> None:
+        after = self.after("    number: int = key()\n    title", "    no: int = key()\n    title")
+        status, out, err = self.migrated(after, "--plan")
+        self.assertEqual((status, err), (0, ""))
+        self.assertIn("Book: 2 objects\n  number is no now\n", out)
+
     def test_a_plan_tries_all_objects(self) -> None:
         after = self.after(NOTE, "    note: str\n", LIST, "    more: Book | None = many_to_one()\n")
         status, _, err = self.migrated(after, "--plan")

@@ -78,6 +78,13 @@ class Links(RelationsTest):
         self.em.detach(order)
         self.assertEqual(self.refuses(karzhoul.IllegalState, lambda: order.person), "unfetched")
         self.assertEqual(self.refuses(karzhoul.IllegalState, lambda: len(order.items)), "unfetched")
+        with self.assertRaises(karzhoul.IllegalState) as raised:
+            list(order.items)
+        self.assertEqual(
+            str(raised.exception),
+            "Order.items wasn't read before its object was detached: read it while it is managed, or "
+            "find the object again",
+        )
         other = self.Person()
         order.person = other
         self.assertIs(order.person, other)
