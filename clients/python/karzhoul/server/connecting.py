@@ -85,9 +85,10 @@ class Connected(Program):
             raise Disconnected(0, str(said["error"].get("why", said["error"]["name"])))
         self.served = said["ok"]
 
-    def again(self) -> Program:
-        """Another connection to the same server, which may be starting meanwhile."""
-        until = self._patience()
+    def again(self, asked: Optional[float]) -> Program:
+        """Another connection to the same server, which may be starting meanwhile, for who has waited
+        since then."""
+        until = self._patience(asked)
         while True:
             try:
                 return started(self._way, self._wait)
@@ -96,9 +97,10 @@ class Connected(Program):
                     raise
             time.sleep(_AGAIN)
 
-    def _patience(self) -> float:
+    def _patience(self, asked: Optional[float] = None) -> float:
         """Until when a server is waited for."""
-        return time.monotonic() + (30.0 if self._wait is None else self._wait)
+        begun = time.monotonic() if asked is None else asked
+        return begun + (30.0 if self._wait is None else self._wait)
 
     def await_end(self, lock: ContextManager[Any]) -> None:
         """Where the server is ending, waits until it has let this connection go: other threads may
@@ -337,7 +339,7 @@ def connect(
 
 def _again_of(app: EntityManagerFactory) -> Program:
     assert isinstance(app.program, Connected)
-    return app.program.again()
+    return app.program.again(app._asked)
 
 
 def check_alike(said: Mapping[str, Any], served: Mapping[str, Any], way: Way) -> None:

@@ -3,6 +3,7 @@
 from __future__ import annotations
 
 import json
+import time
 from contextlib import AbstractContextManager, closing, nullcontext, suppress
 from typing import TYPE_CHECKING, Any, Callable, Mapping, Optional, Sequence, Type, TypeVar
 
@@ -49,6 +50,8 @@ class EntityManagerFactory(ObjectCalls, AbstractContextManager["EntityManagerFac
         self.conversions: Optional[Conversions] = None
         self.uniques: Optional[Uniques] = None
         self._store, self._again = store, again
+        # Since when the thread waits for it that opens the program again.
+        self._asked: Optional[float] = None
         self._managers = Managers(self)
         # Where it is opened for threads.
         self._places: Optional[Places] = None
@@ -136,12 +139,23 @@ class EntityManagerFactory(ObjectCalls, AbstractContextManager["EntityManagerFac
     def reopen(self) -> None:
         """Opens the program again where it has ended, as after a `GivenUp` or a crash; else it does
         nothing. Threads may call it at one time: one of them opens it, and the others wait. It waits
-        first for the end of a server that is ending, as long as for a manager."""
+        first for the end of a server that is ending, as long as for a manager, and then for a server,
+        as long again: so long in all, however many threads wait for it."""
+        self._reopen(None)
+
+    def _reopen(self, since: Optional[float]) -> None:
+        """As `reopen`, for who has waited since then for a thread that tried to."""
+        waited = 0.0 if since is None else time.monotonic() - since
         if not self._is_ahead():
             self.program.await_end(self._lock)
+        asked = time.monotonic() - waited
         with self._lock:
             if self.program.fault is not None:
-                self.restart()
+                self._asked = asked
+                try:
+                    self.restart()
+                finally:
+                    self._asked = None
 
     def _start_again(self) -> None:
         """Ends the program, and starts another one over its file. Numbers of generated keys that no

@@ -4,6 +4,7 @@ commit came first, or since another thread's call ended the program."""
 from __future__ import annotations
 
 import threading
+import time
 from types import CoroutineType, GeneratorType
 from typing import TYPE_CHECKING, Callable, Optional, TypeVar
 
@@ -49,7 +50,7 @@ class Retry:
                         note_refusals(fault, self._refused)
                     raise
                 if not isinstance(fault, (NotUnique, Refused)):
-                    self._factory.reopen()
+                    self._factory._reopen(attempt.waits_since)
             self._factory._tally.note_retry()
             pause(self._refused)
 
@@ -63,6 +64,13 @@ class _Attempt:
         self._made = 0
         # Once the work has begun.
         self._manager: Optional[EntityManager] = None
+        self._begun = time.monotonic()
+
+    @property
+    def waits_since(self) -> Optional[float]:
+        """Since when it has waited to begin, as behind a thread that opens the program again; None
+        once it has begun."""
+        return self._begun if self._manager is None else None
 
     def answer(self, work: Callable[[EntityManager], T]) -> T:
         with Begun(self._factory, _ABOVE) as manager:

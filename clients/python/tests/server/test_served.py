@@ -6,7 +6,9 @@ from __future__ import annotations
 import importlib
 import tempfile
 import threading
+import time
 import unittest
+from concurrent.futures import ThreadPoolExecutor
 from pathlib import Path
 from typing import Any, Dict, List, Type
 
@@ -69,6 +71,27 @@ class Together(FolderTest):
             app.create_entity_manager().close()
         for app in apps:
             app.close()
+
+
+    def test_threads_wait_for_a_server_at_one_time(self) -> None:
+        """And not each behind the others: `wait` seconds are the most."""
+        path, threads, wait = self.place / "s", 8, 2.0
+        server = Here(PERSONS, self.place / "app.db", listen=path)
+        app = karzhoul.connect(f"unix:{path}", threads=True, wait=wait)
+        self.addCleanup(app.close)
+        app.create_entity_manager().close()
+        server.close()
+
+        def waited(_: int) -> float:
+            begun = time.monotonic()
+            with self.assertRaises(karzhoul.Disconnected):
+                app.retry(lambda manager: manager.query("SELECT p FROM Person p"))
+            return time.monotonic() - begun
+
+        with ThreadPoolExecutor(threads) as pool:
+            took = list(pool.map(waited, range(threads)))
+        self.assertGreaterEqual(min(took), wait)
+        self.assertLess(max(took), wait * threads / 2)
 
 
 def load_tests(loader: unittest.TestLoader, tests: Any, pattern: Any) -> unittest.TestSuite:
