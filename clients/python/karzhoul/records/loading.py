@@ -110,7 +110,9 @@ class Loader:
     def _why_stored(self, entity: str, found: str) -> Optional[str]:
         if not self._terms.updates:
             return "this key is stored already; --update gives that object the row's values"
-        return None if found == entity else f"the object of this key that is stored is {with_article(found)}"
+        if found == entity:
+            return None
+        return f"the object of this key that is stored is {with_article(found)}"
 
     def _fault(self, line: int, why: str) -> RowFault:
         return self._source.fault(line, why)

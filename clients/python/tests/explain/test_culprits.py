@@ -6,7 +6,7 @@ from __future__ import annotations
 import resource
 import shlex
 import unittest
-from typing import Any, Callable, Dict
+from typing import Any, Callable, Dict, List, Tuple
 
 import karzhoul
 
@@ -185,7 +185,7 @@ class Removed(ManagerTest):
             )
 
     def test_what_an_update_sets_to_null(self) -> None:
-        for text, given, told in (
+        cases: List[Tuple[str, Dict[str, Any], str]] = [
             ("SET p.age = NULL", {}, "Person.age is set to null, and is required"),
             ("SET p.rank = 1, p.age = :n", {"n": None}, "Person.age is set to null, and is required"),
             ("SET p.age = NULLIF(p.age, 30)", {},
@@ -193,7 +193,8 @@ class Removed(ManagerTest):
             ("SET p.age = NULLIF(p.age, 30), p.rank = p.rank + 1", {},
              "Person.age and Person.rank are required, and what one of them is set to is null of an "
              "object"),
-        ):
+        ]
+        for text, given, told in cases:
             with self.subTest(text):
                 self.assertEqual(self.done(f"UPDATE Person p {text}", **given), told)
 

@@ -6,7 +6,7 @@ from __future__ import annotations
 import logging
 import pickle
 import unittest
-from typing import Any, Callable, List, Tuple, Type
+from typing import Any, Callable, Dict, List, Tuple, Type
 
 import karzhoul
 
@@ -49,7 +49,7 @@ class Sentences(ProgramTest):
 
     def test_queries_that_are_explained(self) -> None:
         """As those that are asked: the program judges them by words of its own."""
-        for text, given, told in (
+        cases: List[Tuple[str, Dict[str, Any], str]] = [
             ("SELECT p FORM Person p", {}, "1:10: FORM: did you mean FROM? [IllegalArgument(syntax)]"),
             ("SELECT p.nmae FROM Person p", {}, "1:10: nmae: Person has no member nmae: did you mean "
              "'name'? [IllegalArgument(typing)]"),
@@ -59,7 +59,8 @@ class Sentences(ProgramTest):
              "1:1: the query: the query has no parameter 'n' [IllegalArgument(parameter)]"),
             ("DELETE FROM Person p", {}, "The text is no statement for this call: a SELECT is asked by "
              "query, an UPDATE or DELETE is done by execute_update."),
-        ):
+        ]
+        for text, given, told in cases:
             with self.subTest(text):
                 refused = self.says(told, self.em.explain, text, **given)
                 with self.assertRaises(type(refused)) as raised:
