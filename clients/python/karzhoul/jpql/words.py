@@ -13,8 +13,8 @@ _CASE = "CASE isn't served: COALESCE and NULLIF are"
 _NOW = "the program has no clock: hand the date or the time in as a parameter"
 _DATES = "parts of dates and times aren't served: compare whole ones, handed in as parameters"
 _FRACTIONS = (
-    "numbers with a fraction aren't served: beside a Decimal of classes write it in quotes, as '1.50', "
-    "or hand it in as a parameter"
+    "numbers with a fraction aren't served: over classes a manager takes a Decimal as a parameter, or "
+    "in quotes, as '1.50'"
 )
 _NUMBERS = "this function isn't served: ABS and MOD are the functions of numbers"
 _TEXTS = "this function isn't served: those of texts are LENGTH, CONCAT, SUBSTRING and LOCATE"

@@ -244,6 +244,7 @@ class EntityManager(Queries, AbstractContextManager["EntityManager"]):
         self.factory.tell(self._run, line_of("clear", {"em": self._em}))
         self._run.refused.pop(self.number, None)
         self._run.merged.pop(self.number, None)
+        self._run.removed.pop(self.number, None)
         self._concern = self._new_concern()
 
     def _new_concern(self, sets: Optional[int] = None) -> Concern:

@@ -139,7 +139,7 @@ class Told(unittest.TestCase):
             ("SELECT p FROM Person p;", "1:23: ;: a statement ends without ';'"),
             ("SELECT p FROM Person p WHERE p.id = 9223372036854775808", "1:37: 9223372036854775808: a whole number is at most 9223372036854775807"),
             ("SELECT p FROM Person p WHERE p.id = 1.5", "1:38: .: numbers with a fraction aren't "
-             "served: beside a Decimal of classes write it in quotes, as '1.50', or hand it in as a parameter"),
+             "served: over classes a manager takes a Decimal as a parameter, or in quotes, as '1.50'"),
             ("SELECT p FROM Person p WHERE p.id = ?0", "1:37: ?0: the number of a parameter is 1 or more, with no 0 first"),
             ("SELECT p FROM Person p WHERE p.id = :", "1:37: :: a parameter is :name or ?1"),
             ("SELECT MOD(p.id) FROM Person p", "1:16: ): ')' stands where ',' or the end of 2 values of MOD is expected"),
