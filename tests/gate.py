@@ -188,8 +188,8 @@ class Skips(Copy):
         self.quick("1 passed, 1 failed", 1, "modules: some has no deep.test_none")
         self.modules("some', 'deep.test_more")
         self.put("some/deep/test_more.py", "import unittest\nclass A(unittest.TestCase):\n"
-                 "    def test_e(self) -> None: pass\n")
-        self.quick("2 passed, 0 failed, 1 skipped", 0, "some.deep.test_more: 1 tests", "Ran 4 tests")
+                 "    def test_e(self) -> None: print('the deep one ran')\n")
+        self.quick("2 passed, 0 failed, 1 skipped", 0, "the deep one ran", skipped)
         self.modules("some', 'test_good")
         self.put("some/test_bad.py", "import unittest\nclass A(unittest.TestCase):\n"
                  "    def test_d(self) -> None: self.fail('as it must')\n")
