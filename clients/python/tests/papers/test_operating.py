@@ -248,7 +248,7 @@ class FullDisk(Operating):
 class Page(unittest.TestCase):
     def test_it_names_this_file(self) -> None:
         page = (TOP / "docs" / "OPERATING.md").read_text(encoding="utf-8")
-        self.assertIn("clients/python/tests/test_operating.py", page)
+        self.assertIn("clients/python/tests/papers/test_operating.py", page)
 
 
 if __name__ == "__main__":
