@@ -1,7 +1,6 @@
 pub mod Aggregates
 pub mod Answers
 pub mod Calls
-pub mod Cases
 pub mod Data
 pub mod Finds
 pub mod Fronts

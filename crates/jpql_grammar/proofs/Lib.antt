@@ -1,14 +1,8 @@
 pub mod Skips
+pub mod Scan
 pub mod Tools
 pub mod Calls
-pub mod Behind
-pub mod PartsComplete
-pub mod TestedComplete
-pub mod WhensComplete
 pub mod ValuesComplete
-pub mod PartsSound
-pub mod TestedSound
-pub mod WhensSound
 pub mod ValuesSound
 pub mod TestsSound
 pub mod CondSound
@@ -19,6 +13,7 @@ pub mod StatementsComplete
 pub mod One
 pub mod LexingLaws
 pub mod NestingLaws
+pub mod ListsNest
 pub mod Queries
 pub mod Words
 mod Samples
@@ -26,4 +21,3 @@ mod CallSamples
 mod KeySamples
 mod ListSamples
 mod RowSamples
-mod CaseSamples

@@ -1,6 +1,5 @@
 pub mod Items
 pub mod Sorts
-pub mod Cases
 pub mod Calls
 pub mod Standing
 pub mod Given

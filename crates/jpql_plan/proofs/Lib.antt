@@ -6,7 +6,4 @@ pub mod Ordered
 pub mod Once
 pub mod Grouped
 pub mod Fronts
-pub mod Alone
-pub mod AloneValues
-pub mod AloneBlocks
 mod Examples

@@ -1,4 +1,3 @@
-pub mod Alone
 pub mod Bulk
 pub mod Laws
 pub mod Meaning

@@ -200,8 +200,6 @@ class _Typing:
         language: LanguageName,
     ) -> None:
         self._kinds, self._teller, self._language = kinds, teller, language
-        # Whether a variable may have the name of one that can't be used where it is declared.
-        self._names_again = jpql.LANGUAGES[language].names_again
         self._entities: Dict[str, _Entity] = {}
         for name, entity in entities.items():
             root = entity
@@ -211,9 +209,7 @@ class _Typing:
 
     def statement(self, statement: Statement) -> None:
         """Tells what is wrong in a statement."""
-        variables = [variable.said.lower() for variable in jpql.variables_of(statement)]
-        if not self._names_again:
-            self._declared_once(statement)
+        variables = self._declared_once(statement)
         self._items_apart(statement, variables)
         if isinstance(statement, Block):
             self._select(statement)
@@ -231,15 +227,13 @@ class _Typing:
 
     # -- names
 
-    def _declared_once(self, statement: Statement) -> None:
+    def _declared_once(self, statement: Statement) -> List[str]:
         seen: List[str] = []
         for variable in jpql.variables_of(statement):
             if variable.said.lower() in seen:
-                self._second(variable)
+                self._wrong(variable, f"a second variable has the name {variable.said}")
             seen.append(variable.said.lower())
-
-    def _second(self, variable: Token) -> None:
-        self._wrong(variable, f"a second variable has the name {variable.said}")
+        return seen
 
     def _items_apart(self, statement: Statement, variables: Sequence[str]) -> None:
         seen: List[str] = []
@@ -324,10 +318,7 @@ class _Typing:
             scope = _Scope(variables)
             entity = self._entity(source.entity) if source.entity else self._joined(source, scope)
             if source.variable is not None:
-                name = source.variable.said.lower()
-                if self._names_again and name in variables:
-                    self._second(source.variable)
-                variables[name] = entity
+                variables[source.variable.said.lower()] = entity
             if source.on is not None:
                 self._condition(source.on, _Scope(dict(variables), in_on=True))
         return _Scope(variables)
