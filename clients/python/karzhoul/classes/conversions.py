@@ -20,6 +20,8 @@ from .values import WrongValue, from_stored, to_stored
 Typed = Optional[Tuple[StoredType, str]]
 _BOOLS = {"TRUE": 1, "FALSE": 0}
 _SCALED = (Money, Span)
+# Calls of what is of one type, which give that type.
+_OF_ONE_TYPE = ("COALESCE", "NULLIF", "ABS", "MOD")
 
 
 @dataclass
@@ -306,7 +308,7 @@ class Reader:
                 return
         if node.sort in ("compare", "between", "in") or (
             node.sort == "arithmetic" and self._is_sum(node)
-        ) or (node.sort == "call" and node.said in ("COALESCE", "NULLIF")):
+        ) or (node.sort == "call" and node.said in _OF_ONE_TYPE):
             self._alike([it for it in node.parts if isinstance(it, Node)], scope)
         elif node.sort == "arithmetic":
             self._product(node, scope)
@@ -347,21 +349,35 @@ class Reader:
         elif node.sort == "literal":
             self._literal(node, node.value, kind)
         elif node.sort == "signed" and node.parts[0].sort == "literal":
-            is_minus = self._text[node.at] == "-"
+            # Parentheses around it are its own.
+            is_minus = "-" in self._text[node.at : node.parts[0].at]
             value = node.parts[0].value
             if isinstance(value, int):
                 self._literal(node, -value if is_minus else value, kind)
+        elif node.sort == "signed":
+            self._give(node.parts[0], kind, scope)
         elif node.sort == "path" and len(node.words) == 1 and kind[0].form == "bool":
             word = node.words[0].said.upper()
             if word in _BOOLS and word not in map(str.upper, scope) and node.at not in self._done:
                 self._done.add(node.at)
                 self.edits.replace(node.at, node.end, str(_BOOLS[word]))
-        elif node.sort in ("call", "arithmetic"):
-            if node.sort == "call" and node.said in ("COALESCE", "NULLIF") or (
-                node.sort == "arithmetic" and self._is_sum(node)
-            ):
-                for part in node.parts:
-                    self._give(part, kind, scope)
+        elif node.sort == "call" and node.said in _OF_ONE_TYPE or (
+            node.sort == "arithmetic" and self._is_sum(node)
+        ):
+            for part in node.parts:
+                self._give(part, kind, scope)
+        elif node.sort in ("call", "arithmetic", "aggregate"):
+            self._check_scale(node, kind, scope)
+
+    def _check_scale(self, node: Node, kind: Typed, scope: Scope) -> None:
+        """Refuses a whole number that a query computes beside what is stored by a scale."""
+        assert kind is not None
+        if isinstance(kind[0], _SCALED) and self._type(node, scope) is None:
+            computed = cut(self._text[node.at : node.end])
+            raise WrongValue(
+                f"{kind[1]} is {kind[0].what}, and {computed} is a whole number that the query "
+                "computes: compute it before, and hand it in as a parameter"
+            )
 
     def _literal(self, node: Node, value: Any, kind: Typed) -> None:
         assert kind is not None
@@ -374,6 +390,8 @@ class Reader:
             told = f"{shown(value)} {cut(str(why))}"
             raise WrongValue(f"{kind[1]} is {kind[0].what}, and {told}") from None
         said = "'{}'".format(stored.replace("'", "''")) if isinstance(stored, str) else str(stored)
+        if self._text[node.at] == "(":
+            said = f"({said})"  # A sign may stand before it.
         if said != self._text[node.at : node.end] and not isinstance(stored, bytes):
             self.edits.replace(node.at, node.end, said)
 
@@ -391,7 +409,7 @@ class Reader:
                 node.said == "SUM" and kind is not None and isinstance(kind[0], _SCALED)
             )
             return kind if keeps else None
-        if node.sort == "call" and node.said in ("COALESCE", "NULLIF", "ABS"):
+        if node.sort == "call" and node.said in _OF_ONE_TYPE:
             return self._first(node.parts, scope)
         return self._first(node.parts, scope) if node.sort == "arithmetic" else None
 
