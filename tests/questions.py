@@ -11,7 +11,7 @@ import json, os, sqlite3, subprocess, sys
 from contextlib import closing
 
 sys.dont_write_bytecode = True
-import wide, wide_lists, wide_rows
+import wide, wide_cases, wide_lists, wide_rows
 from asking import HINT, Asking, made, stored
 from runs import HERE, fill, read
 from trials import see, tried
@@ -332,7 +332,7 @@ def main(given: list[str]) -> int:
     if len(given) != 1:
         sys.exit(__doc__)
     trials = [persons, places, paired, managed, words_refused, no_stores, damaged, revisions, in_use]
-    trials += [*wide.TRIALS, *wide_lists.TRIALS, *wide_rows.TRIALS, random_questions]
+    trials += [*wide.TRIALS, *wide_lists.TRIALS, *wide_rows.TRIALS, *wide_cases.TRIALS, random_questions]
     return tried(trials, "questions", lambda trial, place: trial(Asking(given[0], place)))
 
 

@@ -4,6 +4,7 @@ from __future__ import annotations
 
 from typing import TYPE_CHECKING, Any, Callable
 
+from fuzz.cases import Cases
 from fuzz.equations import Equations
 from fuzz.limits import Limits
 from fuzz.rows import Rows
@@ -35,6 +36,8 @@ TESTS = {
 }
 # Those of the wider language; the profile has a few of these too, and refuses them.
 WIDE_TESTS, TESTS = {**TESTS, "rows": 6}, {**TESTS, "rows": 0.15}
+# How often a value is a CASE in the wider language.
+CASES = 0.08
 
 
 class Block:
@@ -56,7 +59,7 @@ class Block:
         return Block(**{**vars(self), **others})
 
 
-class Texts(Equations, Rows, Limits):
+class Texts(Equations, Rows, Cases, Limits):
     """Makes statements by chance over a unit. Values come from the maker of calls; objects that a
     manager sees are counted, so that a query has no more tuples than it should."""
 
@@ -65,7 +68,9 @@ class Texts(Equations, Rows, Limits):
             calls, calls.random, calls.machine.unit, objects,
         )
         self.parameters, self.names, self.product = {}, [], 1
+        self.nested_names: list[str] = []
         self.is_wide, self.takes_lists = calls.machine.is_wide, takes_lists
+        self.inside = 0  # How many CASEs are open.
 
     def chance(self, most: float) -> bool:
         return self.random.random() < most
@@ -286,6 +291,19 @@ class Texts(Equations, Rows, Limits):
         self.names.append(name.lower())
         return name
 
+    def nested_variable(self, here: dict[str, Entity]) -> str:
+        """A name for a variable of a nested SELECT: in the wider language at times one that another nested
+        SELECT has, and rarely one that can be used here."""
+        lower = {name.lower() for name in here}
+        again = [name for name in self.nested_names if name not in lower or self.chance(0.05)]
+        if self.is_wide and again and self.chance(0.3):
+            name = self.some(again)
+            self.names.append(name)
+            return self.cased(name)
+        name = self.variable()
+        self.nested_names.append(name.lower())
+        return name
+
     def cased(self, variable: str) -> str:
         return variable.swapcase() if self.chance(0.08) else variable
 
@@ -310,7 +328,7 @@ class Texts(Equations, Rows, Limits):
                     break
                 range_ = [entity.name]
                 self.product *= max(1, self.count(entity))
-            variable = self.variable()
+            variable = self.nested_variable(variables) if depth else self.variable()
             tokens += [
                 *([","] if count else []), *range_, *(["AS"] if self.chance(0.3) else []), variable,
             ]
@@ -463,6 +481,8 @@ class Texts(Equations, Rows, Limits):
         if kind not in KINDS:
             path = self.path(kind, block)
             return path if path and self.chance(0.75) else self.parameter(kind)
+        if depth and self.inside < 2 and self.chance(CASES if self.is_wide else 0.001):
+            return self.case(kind, block, depth - 1)
         roll = self.random.random()
         path = self.path(kind, block) if roll < (0.25 if self.is_wide and kind is str else 0.5) else None
         if path:
@@ -634,7 +654,7 @@ class Texts(Equations, Rows, Limits):
     # -- paths
 
     def is_path(self, tokens: list[str]) -> bool:
-        return "." in tokens and not {"(", ",", "+", "-", "*"} & set(tokens)
+        return "." in tokens and not {"(", ",", "+", "-", "*", "CASE"} & set(tokens)
 
     def path(self, kind: Entity | type, block: Block) -> list[str] | None:
         """The tokens of some path of a kind, if there is one."""

@@ -396,7 +396,19 @@ class Sql:
         if node.sort == "aggregate":
             distinct = "DISTINCT " if node.is_distinct else ""
             return f"{node.function}({distinct}{self.value(node.value, variables)})"
+        if node.sort == "case":
+            return self.case(node, variables)
         return self.call(node.function, [self.value(value, variables) for value in node.values])
+
+    def case(self, node: Node, variables: dict[str, tuple[str, Entity]]) -> str:
+        operand = [] if node.operand is None else [self.value(node.operand, variables)]
+        judge = self.value if operand else self.condition
+        branches = [
+            f"WHEN {judge(when, variables)} THEN {self.value(then, variables)}"
+            for when, then in zip(node.whens, node.thens)
+        ]
+        words = " ".join([*operand, *branches])
+        return f"(CASE {words} ELSE {self.value(node.otherwise, variables)} END)"
 
     def literal(self, value: Datum) -> str:
         if isinstance(value, tuple):
@@ -470,7 +482,7 @@ def some_statement(
         statement = statement_of(text, machine.is_wide)
         if statement is None:  # A value that ORDER BY takes in the wider language alone.
             return None
-        Typing(unit, params.kinds()).statement(statement)
+        Typing(unit, params.kinds(), machine.is_wide).statement(statement)
     except (Refused, IllTyped):
         return None
     return None if params.has_keyless() else (text, statement, params.meant())

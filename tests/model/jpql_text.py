@@ -12,7 +12,7 @@ from model.reading import GREATEST, Refused
 if TYPE_CHECKING:
     from model.kinds import Value
 
-TEXT_LENGTH, NESTING, VARIABLES, TOGETHER = 16384, 32, 8, 65536
+TEXT_LENGTH, NESTING, VARIABLES, TOGETHER, CASES = 16384, 32, 8, 65536, 64
 KEYWORDS = set(
     """SELECT DISTINCT FROM WHERE GROUP BY HAVING ORDER AS INNER LEFT OUTER JOIN ON ASC DESC
     UPDATE SET NULL DELETE OR AND NOT BETWEEN IN LIKE ESCAPE IS EMPTY MEMBER OF EXISTS TYPE LENGTH
@@ -446,7 +446,8 @@ class Reader:
             else None
         )
 
-    def value_test(self, at: int) -> tuple[Node, int] | None:
+    def value_test(self, at: int, is_inside: bool = False) -> tuple[Node, int] | None:
+        """A test of a value; inside a CASE, one of values alone."""
         found = self.value(at)
         if not found:
             return None
@@ -457,6 +458,8 @@ class Reader:
             return (
                 (Node("compare", operator=operator, left=value, right=other[0]), other[1])
                 if other
+                else None
+                if is_inside
                 else self.against(operator, value, at + 1)
             )
         if self.is_word(at, "IS"):
@@ -467,10 +470,10 @@ class Reader:
                 else None
             )
         is_not = self.is_word(at, "NOT")
-        found = self.worded_test(value, at + is_not)
+        found = self.worded_test(value, at + is_not, is_inside)
         return (self.negated(is_not, found[0]), found[1]) if found else None
 
-    def worded_test(self, value: Node, at: int) -> tuple[Node, int] | None:
+    def worded_test(self, value: Node, at: int, is_inside: bool) -> tuple[Node, int] | None:
         """A test of a value by BETWEEN, IN, LIKE or MEMBER, which NOT may stand before."""
         if self.is_word(at, "BETWEEN"):
             low = self.value(at + 1)
@@ -479,10 +482,10 @@ class Reader:
                 (Node("between", value=value, low=low[0], high=high[0]), high[1]) if high else None
             )
         if self.is_word(at, "IN"):
-            return self.in_test(value, at + 1)
+            return self.in_values(value, at + 1) if is_inside else self.in_test(value, at + 1)
         if self.is_word(at, "LIKE"):
-            return self.like_test(value, self.value(at + 1))
-        if self.is_word(at, "MEMBER"):
+            return self.like_test(value, self.value(at + 1), is_inside)
+        if self.is_word(at, "MEMBER") and not is_inside:
             path = self.path(at + 1 + self.is_word(at + 1, "OF"))
             return (Node("member", value=value, path=path[0]), path[1]) if path else None
         return None
@@ -503,6 +506,10 @@ class Reader:
             listed, after = found
             values = [Node("parameter", name=(listed, k)) for k in range(self.lists[listed])]
             return Node("in", value=value, values=values, listed=listed), after
+        return self.in_values(value, at)
+
+    def in_values(self, value: Node, at: int) -> tuple[Node, int] | None:
+        """IN of values in parentheses."""
         values = self.closed(lambda at: self.listed(self.value, at), at)
         return (
             (Node("in", value=value, values=values[0], listed=None), values[1]) if values else None
@@ -564,7 +571,10 @@ class Reader:
         sort, said = self.tokens[at] if at < len(self.tokens) else ("end", "")
         return (said, at + 1) if sort == "parameter" and said in self.lists else None
 
-    def like_test(self, value: Node, pattern: tuple[Node, int]) -> tuple[Node, int] | None:
+    def like_test(
+        self, value: Node, pattern: tuple[Node, int], is_inside: bool
+    ) -> tuple[Node, int] | None:
+        """LIKE. Inside a CASE an ESCAPE that isn't one character escapes nothing."""
         if not pattern:
             return None
         at, escape = pattern[1], None
@@ -572,6 +582,7 @@ class Reader:
             if at + 1 >= len(self.tokens) or self.tokens[at + 1][0] != "text":
                 return None
             at, escape = at + 2, self.tokens[at + 1][1]
+            escape = None if is_inside and len(escape) != 1 else escape
         return Node("like", value=value, pattern=pattern[0], escape=escape), at
 
     # -- values
@@ -616,7 +627,56 @@ class Reader:
             return Node("parameter", name=said), at + 1
         if sort == "mark":
             return self.closed(self.value, at)
+        if self.is_wide and self.is_word(at, "CASE"):
+            return self.case(at + 1)
         return self.path(at) or self.call(at)
+
+    # -- CASE, in the wider language
+
+    def case(self, at: int) -> tuple[Node, int] | None:
+        """What stands behind CASE: tests or, behind a value, what that may equal, each with a value,
+        and the value behind ELSE."""
+        operand, rule = None, self.when
+        if not self.is_word(at, "WHEN"):
+            found = self.value(at)
+            if not found:
+                return None
+            (operand, at), rule = found, self.value
+        whens, thens = [], []
+        while self.is_word(at, "WHEN"):
+            when = rule(at + 1)
+            then = when and self.is_word(when[1], "THEN") and self.value(when[1] + 1)
+            if not then:
+                return None
+            whens.append(when[0])
+            thens.append(then[0])
+            at = then[1]
+        last = self.value(at + 1) if whens and self.is_word(at, "ELSE") else None
+        if not last or not self.is_word(last[1], "END"):
+            return None
+        node = Node("case", operand=operand, whens=whens, thens=thens, otherwise=last[0])
+        return node, last[1] + 1
+
+    def when(self, at: int) -> tuple[Node, int] | None:
+        """What stands behind WHEN: tests of values, with AND, OR, NOT and parentheses."""
+        return self.once("when_alternatives", at)
+
+    def when_alternatives(self, at: int) -> tuple[Node, int] | None:
+        return self.joined_by(
+            "OR", lambda at: self.joined_by("AND", self.when_negation, "and", at), "or", at
+        )
+
+    def when_negation(self, at: int) -> tuple[Node, int] | None:
+        if not self.is_word(at, "NOT"):
+            return self.once("when_test", at)
+        found = self.once("when_test", at + 1)
+        return (Node("not", part=found[0]), found[1]) if found else None
+
+    def when_test(self, at: int) -> tuple[Node, int] | None:
+        """A test. A parenthesis begins tests where the one that closes it ends a test."""
+        found = self.closed(self.when, at)
+        value = self.value_test(at, is_inside=True)
+        return value if value and (not found or found[1] < value[1]) else found
 
     def path(self, at: int) -> tuple[Node, int] | None:
         found = self.name(at)
@@ -715,6 +775,11 @@ def values_together(tokens: list[tuple[str, str]], lists: dict[str, int]) -> int
     return found
 
 
+def cases(tokens: list[tuple[str, str]]) -> int:
+    """How many words CASE stand in a text, of whatever use."""
+    return sum(sort == "word" and said.upper() == "CASE" for sort, said in tokens)
+
+
 def statement_of(
     text: str, is_wide: bool = False, lists: dict[str, int] | None = None
 ) -> Node | None:
@@ -725,7 +790,7 @@ def statement_of(
         raise Refused("Limit")
     try:
         tokens = tokens_of(text)
-        if values_together(tokens, lists or {}) > TOGETHER:
+        if values_together(tokens, lists or {}) > TOGETHER or is_wide and cases(tokens) > CASES:
             raise Refused("Limit")
         statement = Reader(tokens, is_wide, lists or {}).statement()
     except Syntax:

@@ -59,14 +59,19 @@ class Scope:
 
 
 class Typing:
-    """The typing of a statement over a unit, with the kinds of the parameters by their names."""
+    """The typing of a statement over a unit, with the kinds of the parameters by their names: in the
+    profile's language, or in the wider one."""
 
-    def __init__(self, unit: Unit, parameters: dict[str, Entity | type | None]) -> None:
-        self.unit, self.parameters = unit, parameters
+    def __init__(
+        self, unit: Unit, parameters: dict[str, Entity | type | None], is_wide: bool = False
+    ) -> None:
+        self.unit, self.parameters, self.is_wide = unit, parameters, is_wide
 
     def statement(self, statement: Node) -> None:
+        """In the profile no variable's name stands twice; in the wider language none is declared
+        where one of its name can be used."""
         variables = [variable.lower() for variable in variables_of(statement)]
-        see(len(set(variables)) == len(variables), "a variable twice")
+        see(self.is_wide or len(set(variables)) == len(variables), "a variable twice")
         names = [
             node.name
             for node in parts_of(statement)
@@ -91,12 +96,14 @@ class Typing:
         """The variables of a block with those around it."""
         variables = dict(outer)
         for source in block.sources:
+            name = source.variable.lower()
+            see(name not in variables, "a variable twice")
             if source.sort == "range":
-                variables[source.variable.lower()] = self.entity(source.entity)
+                variables[name] = self.entity(source.entity)
                 continue
             relation = self.variable(source.start, variables).relations.get(source.relation)
             see(relation, "relation")
-            variables[source.variable.lower()] = relation.target
+            variables[name] = relation.target
             if source.on:
                 self.condition(source.on, Scope(dict(variables), in_on=True))
         return variables
@@ -307,6 +314,16 @@ class Typing:
         for kind, value in zip(taken[node.function], node.values):
             self.of(kind, [value], scope)
         return int if node.function in ("LENGTH", "LOCATE", "ABS", "MOD") else str
+
+    def case_value(self, node: Node, scope: Scope) -> type | None:
+        if node.operand is None:
+            for when in node.whens:
+                self.condition(when, scope)
+        else:
+            joined([self.value(part, scope) for part in [node.operand, *node.whens]])
+        kind = joined([self.value(part, scope) for part in [*node.thens, node.otherwise]])
+        see(kind is None or kind in ORDERED, "CASE")
+        return kind
 
     # -- paths
 

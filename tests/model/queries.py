@@ -124,7 +124,7 @@ class Queries:
         if statement is None:
             raise Refused("IllegalArgument", "syntax")
         try:
-            Typing(self.unit, given.kinds()).statement(statement)
+            Typing(self.unit, given.kinds(), self.is_wide).statement(statement)
         except IllTyped:
             raise Refused("IllegalArgument", "typing") from None
         parts = list(parts_of(statement))

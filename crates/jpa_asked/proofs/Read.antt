@@ -14,21 +14,22 @@ use Rattle.jpql_grammar.specs.Queries.{IsQuery}
 use Rattle.jpql_grammar.specs.Text.{IsText}
 use Rattle.jpql_tree.specs.Steps.{◌>>=◌}
 use Rattle.jpql_tree.specs.Variables.{declared_variables}
+use Rattle.jpql_grammar.proofs.Tools.{both}
 use Rattle.jpql_grammar.proofs.LexingLaws.{tokens_sound, tokens_complete}
 use Rattle.jpql_text.proofs.Whole.{stated_is, is_stated}
-use Rattle.jpql_text.specs.Answers.{statement_in, IsWithin, IsRead, IsOverLimit, IsRefused, UsesLists}
+use Rattle.jpql_text.specs.Answers.{statement_in, AreFew, AreTooMany, IsWithin, IsRead, IsOverLimit, IsRefused, UsesLists}
 use Rattle.jpa_context.specs.Steps.{Done, Refused, Op, after, give, require, IsRefusedAs}
 use Rattle.jpa_context.specs.Work.{Work}
 use Rattle.jpa_asked.specs.declared.asked.Reading.{Reading}
 use Rattle.jpa_asked.specs.Asking.{read_of, ReadsAs}
-use Rattle.jpql_text.specs.Together.{most_values_together, values_together, become_few}
-use Rattle.jpa_asked.specs.Reading.{tokens_in, query_of, are_used_in, become_few_in, is_short, is_within, declares_few}
+use Rattle.jpql_text.specs.Together.{most_values_together, values_together, become_few, most_cases, cases_in, has_few_cases, are_few}
+use Rattle.jpa_asked.specs.Reading.{tokens_in, query_of, are_used_in, are_few_in, is_short, is_within, declares_few}
 
 -- ---- the tree of a text
 
-pub whole_read : (l : Language) (lists : List GivenList) (text : Text) (q : Query) → nests_over most_open_parentheses false 0 text ≡ false → IsQuery l lists text q → query_of l lists text ≡ Some q
-whole_read l lists text q n (says, (tokens, stand, t, e, s)) =
-    ap (λ (o : Option (List Token)). o >>= statement_in l lists) (tokens_complete l text tokens t) ∙ is_stated l lists text tokens q n t (says, (tokens, stand, t, e, s))
+pub whole_read : (l : Language) (lists : List GivenList) (text : Text) (q : Query) → IsQuery l lists text q → query_of l lists text ≡ Some q
+whole_read l lists text q (says, (tokens, stand, t, e, s)) =
+    ap (λ (o : Option (List Token)). o >>= statement_in l lists) (tokens_complete l text tokens t) ∙ is_stated l lists text tokens q t (says, (tokens, stand, t, e, s))
 
 pub read_whole : (l : Language) (lists : List GivenList) (text : Text) (q : Query) → query_of l lists text ≡ Some q → IsQuery l lists text q
 read_whole l lists text q h = from (tokens_in l text) refl h
@@ -58,18 +59,31 @@ used_so l lists text uses u = from (tokens_in l text) refl
 short : (text : Text) → length text ≤ most_query_bytes → nests_over most_open_parentheses false 0 text ≡ false → is_short text ≡ true
 short text fits shallow = λ i. (le-leb (length text) most_query_bytes fits) i && not (shallow i)
 
-few_in : (l : Language) (lists : List GivenList) (text : Text) → ((tokens : List Token) → IsText l text tokens → values_together lists tokens ≤ most_values_together) → become_few_in lists (tokens_in l text) ≡ true
+and_false : (b : Bool) → (b && false) ≡ false
+and_false false = refl
+and_false true = refl
+
+few_in : (l : Language) (lists : List GivenList) (text : Text) → ((tokens : List Token) → IsText l text tokens → AreFew lists tokens) → are_few_in lists (tokens_in l text) ≡ true
 few_in l lists text few = from (tokens_in l text) refl
   where
-    from : (o : Option (List Token)) → tokens_in l text ≡ o → become_few_in lists o ≡ true
+    from : (o : Option (List Token)) → tokens_in l text ≡ o → are_few_in lists o ≡ true
     from None e = refl
-    from (Some tokens) e = le-leb (values_together lists tokens) most_values_together (few tokens (tokens_sound l text tokens e))
+    from (Some tokens) e =
+        let f = few tokens (tokens_sound l text tokens e) in
+        λ i. (le-leb (values_together lists tokens) most_values_together f.0 i) && (le-leb (cases_in tokens) most_cases f.1 i)
 
-few_of : (l : Language) (lists : List GivenList) (text : Text) → become_few_in lists (tokens_in l text) ≡ true → (tokens : List Token) → IsText l text tokens → values_together lists tokens ≤ most_values_together
-few_of l lists text h tokens t = leb-true (values_together lists tokens) most_values_together (sym (ap (become_few_in lists) (tokens_complete l text tokens t)) ∙ h)
+few_of : (l : Language) (lists : List GivenList) (text : Text) → are_few_in lists (tokens_in l text) ≡ true → (tokens : List Token) → IsText l text tokens → AreFew lists tokens
+few_of l lists text h tokens t =
+    let few = sym (ap (are_few_in lists) (tokens_complete l text tokens t)) ∙ h in
+    both (become_few lists tokens) (has_few_cases tokens) few
+    (λ a b. (leb-true (values_together lists tokens) most_values_together a, leb-true (cases_in tokens) most_cases b))
 
-many_in : (l : Language) (lists : List GivenList) (text : Text) (tokens : List Token) → IsText l text tokens → most_values_together < values_together lists tokens → become_few_in lists (tokens_in l text) ≡ false
-many_in l lists text tokens t many = ap (become_few_in lists) (tokens_complete l text tokens t) ∙ lt-leb (values_together lists tokens) most_values_together many
+too_many : (lists : List GivenList) (tokens : List Token) → AreTooMany lists tokens → are_few lists tokens ≡ false
+too_many lists tokens (inl many) = ap (λ b. b && has_few_cases tokens) (lt-leb (values_together lists tokens) most_values_together many)
+too_many lists tokens (inr many) = ap (λ b. become_few lists tokens && b) (lt-leb (cases_in tokens) most_cases many) ∙ and_false (become_few lists tokens)
+
+many_in : (l : Language) (lists : List GivenList) (text : Text) (tokens : List Token) → IsText l text tokens → AreTooMany lists tokens → are_few_in lists (tokens_in l text) ≡ false
+many_in l lists text tokens t many = ap (are_few_in lists) (tokens_complete l text tokens t) ∙ too_many lists tokens many
 
 within : (l : Language) (lists : List GivenList) (text : Text) → IsWithin l lists text → is_within l lists text ≡ true
 within l lists text fits = λ i. (short text fits.0 fits.1 i) && (few_in l lists text fits.2 i)
@@ -77,10 +91,6 @@ within l lists text fits = λ i. (short text fits.0 fits.1 i) && (few_in l lists
 not_true : (b : Bool) → not b ≡ true → b ≡ false
 not_true false h = refl
 not_true true h = absurd cc
-
-and_false : (b : Bool) → (b && false) ≡ false
-and_false false = refl
-and_false true = refl
 
 first : (a b : Bool) → (a && b) ≡ true → a ≡ true
 first true b h = refl
@@ -111,7 +121,7 @@ reading b found few w = after (require b Cause.Limit w) (λ _ v. after (require 
 pub read_tree : (l : Language) (lists : List GivenList) (text : Text) (uses : Bool) (q : Query) (w : Work) → UsesLists l lists text uses → IsRead l lists text q
     → read_of l lists text w ≡ Done (record { tree = Some q; uses_lists = uses }) w
 read_tree l lists text uses q w u (is, fits, few) =
-    let tree = whole_read l lists text q (fits.1) is in
+    let tree = whole_read l lists text q is in
     let used = sym (used_so l lists text uses u) in
     (λ i. reading (within l lists text fits i) (said (tree i) (used i)) (declares_few (tree i)) w)
     ∙ ap (λ b. reading true (said (Some q) uses) b w) (le-leb (declared_variables q) most_query_variables few)
@@ -129,10 +139,10 @@ not_within l lists text w e = ap (λ b. reading b (said (query_of l lists text) 
 
 pub read_over : (l : Language) (lists : List GivenList) (text : Text) (w : Work) → IsOverLimit l lists text → read_of l lists text w ≡ Refused Cause.Limit w.events
 read_over l lists text w (inl long) =
-    not_within l lists text w (ap (λ b. (b && not (nests_over most_open_parentheses false 0 text)) && become_few_in lists (tokens_in l text)) (lt-leb (length text) most_query_bytes long))
+    not_within l lists text w (ap (λ b. (b && not (nests_over most_open_parentheses false 0 text)) && are_few_in lists (tokens_in l text)) (lt-leb (length text) most_query_bytes long))
 read_over l lists text w (inr (inl deep)) =
     not_within l lists text w
-    (ap (λ b. (nat_le (length text) most_query_bytes && not b) && become_few_in lists (tokens_in l text)) deep ∙ ap (λ b. b && become_few_in lists (tokens_in l text)) (and_false (nat_le (length text) most_query_bytes)))
+    (ap (λ b. (nat_le (length text) most_query_bytes && not b) && are_few_in lists (tokens_in l text)) deep ∙ ap (λ b. b && are_few_in lists (tokens_in l text)) (and_false (nat_le (length text) most_query_bytes)))
 read_over l lists text w (inr (inr (inl (tokens, t, many)))) =
     not_within l lists text w (ap (λ b. is_short text && b) (many_in l lists text tokens t many) ∙ and_false (is_short text))
 read_over l lists text w (inr (inr (inr (q, is, many)))) = by_limits (is_within l lists text) refl
@@ -140,7 +150,7 @@ read_over l lists text w (inr (inr (inr (q, is, many)))) = by_limits (is_within 
     by_limits : (b : Bool) → is_within l lists text ≡ b → read_of l lists text w ≡ Refused Cause.Limit w.events
     by_limits false e = not_within l lists text w e
     by_limits true e =
-        let tree = whole_read l lists text q ((is_so l lists text e).1) is in
+        let tree = whole_read l lists text q is in
         (λ i. reading (e i) (said (tree i) (are_used_in lists (tokens_in l text))) (declares_few (tree i)) w)
         ∙ ap (λ b. reading true (said (Some q) (are_used_in lists (tokens_in l text))) b w) (lt-leb (declared_variables q) most_query_variables many)
 

@@ -110,13 +110,13 @@ are_apart lists bindings = values_bound bindings == values_given lists
 
 -- ---- the statement
 
--- A statement, typed, with what stands for its parameters by place: objects stand for what they are
+-- A statement of a language, typed, with what stands for its parameters by place: objects stand for what they are
 -- before a flush. Each list stands in the text, and has its names for itself.
-abbrev pub statement_of : PersistenceUnit → Reading → List GivenList → List Binding → Op Statement
-statement_of m said lists bindings = do
+abbrev pub statement_of : Language → PersistenceUnit → Reading → List GivenList → List Binding → Op Statement
+statement_of l m said lists bindings = do
   query ← give_or (Cause.IllegalArgument Argument.Syntax) said.tree
   sorts ← read (sorts_of m bindings)
-  typed ← given (checked m query sorts)
+  typed ← given (checked l m query sorts)
   require (said.uses_lists && are_apart lists bindings) (Cause.IllegalArgument Argument.Parameter)
   found ← read (arguments_of m bindings)
   arguments ← give_or (Cause.IllegalArgument Argument.Parameter) found

@@ -13,7 +13,7 @@ use Rattle.jpql_grammar.specs.Lists.{are_used}
 use Rattle.jpql_tree.specs.Steps.{◌>>=◌}
 use Rattle.jpql_tree.specs.Variables.{declared_variables}
 use Rattle.jpql_text.specs.Answers.{statement_in}
-use Rattle.jpql_text.specs.Together.{become_few}
+use Rattle.jpql_text.specs.Together.{are_few}
 
 -- the tokens of a text in the language
 abbrev pub tokens_in : Language → Text → Option (List Token)
@@ -28,18 +28,19 @@ abbrev pub are_used_in : List GivenList → Option (List Token) → Bool
 are_used_in lists None = true
 are_used_in lists (Some tokens) = are_used lists tokens
 
--- whether lists become few enough values in these tokens, together; so it is where there are none
-abbrev pub become_few_in : List GivenList → Option (List Token) → Bool
-become_few_in lists None = true
-become_few_in lists (Some tokens) = become_few lists tokens
+-- whether lists become few enough values in these tokens, together, and their words CASE are few
+-- enough; so it is where there are none
+abbrev pub are_few_in : List GivenList → Option (List Token) → Bool
+are_few_in lists None = true
+are_few_in lists (Some tokens) = are_few lists tokens
 
 -- the text is not too long, and its parentheses do not nest too deep
 abbrev pub is_short : Text → Bool
 is_short text = nat_le (length text) most_query_bytes && not (nests_over most_open_parentheses false 0 text)
 
--- the same, and lists do not become too many values in it
+-- the same, and lists do not become too many values in it, and it has not too many words CASE
 abbrev pub is_within : Language → List GivenList → Text → Bool
-is_within l lists text = is_short text && become_few_in lists (tokens_in l text)
+is_within l lists text = is_short text && are_few_in lists (tokens_in l text)
 
 -- a text of the grammar does not declare too many variables
 abbrev pub declares_few : Option Query → Bool

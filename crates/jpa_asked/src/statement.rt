@@ -85,7 +85,7 @@ fn all_apart(uses_lists: bool, lists: &[GivenList], bindings: &[Binding]) -> Res
     }
 }
 
-/// A statement by what its text says, typed, with what is bound to its parameters (chapters 3.10.12,
+/// A statement of a language by what its text says, typed, with what is bound to its parameters (chapters 3.10.12,
 /// 4.6.4 and 4.6.9).
 ///
 /// `IllegalArgument` with `Syntax` where there is no tree, `Typing` where it is ill-typed, and
@@ -94,6 +94,7 @@ fn all_apart(uses_lists: bool, lists: &[GivenList], bindings: &[Binding]) -> Res
 /// `OutOfMemory` where a growth was refused.
 pub fn statement_of(
     alloc: Global,
+    language: Language,
     metamodel: &Metamodel,
     work: &UnitOfWork,
     said: Reading,
@@ -103,14 +104,15 @@ pub fn statement_of(
     requires ready { IsReady metamodel.now (now work.now) }
     requires bound { AreInHeap work.now.objects.now bindings.now }
     ensures meets { Meets result (now work.now)
-        (asking.statement_of metamodel.now said lists.now bindings.now (now work.now)) }
+        (asking.statement_of language metamodel.now said lists.now bindings.now
+        (now work.now)) }
 {
     let Reading { tree, uses_lists } = said;
     let Some(query) = tree else {
         return Err(Cause::IllegalArgument(Argument::Syntax));
     };
     let sorts = sorts_of(alloc, metamodel, work, bindings)?;
-    let typed = check_query(alloc, metamodel, query, sorts.as_slice())?;
+    let typed = check_query(alloc, language, metamodel, query, sorts.as_slice())?;
     all_apart(uses_lists, lists, bindings)?;
     let arguments = all_named(arguments_of(alloc, metamodel, work, bindings)?)?;
     Ok(Statement { typed, arguments })

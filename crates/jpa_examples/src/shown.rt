@@ -14,6 +14,18 @@ fn path(out: &mut Writer, path: &Path) {
     }
 }
 
+/// A comparison that is a value of CASE.
+fn truth(comparison: Comparison) -> &'static str {
+    match comparison {
+        Comparison::Equal => "=",
+        Comparison::Different => "<>",
+        Comparison::Less => "<",
+        Comparison::AtMost => "<=",
+        Comparison::Greater => ">",
+        Comparison::AtLeast => ">=",
+    }
+}
+
 fn function(function: Function) -> &'static str {
     match function {
         Function::Length => "LENGTH",
@@ -29,6 +41,16 @@ fn function(function: Function) -> &'static str {
         Function::Trim(Trimmed::Leading) => "TRIM LEADING",
         Function::Trim(Trimmed::Trailing) => "TRIM TRAILING",
         Function::Trim(Trimmed::Both) => "TRIM BOTH",
+        Function::Case => "CASE",
+        Function::Match => "MATCH",
+        Function::Test(operation) => truth(operation),
+        Function::IsBetween => "BETWEEN",
+        Function::IsAmong => "IN",
+        Function::IsLike => "LIKE",
+        Function::IsNull => "NULL",
+        Function::And => "AND",
+        Function::Or => "OR",
+        Function::Not => "NOT",
     }
 }
 

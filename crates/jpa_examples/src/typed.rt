@@ -43,7 +43,7 @@ fn typed(
     text: &str,
 ) -> Result<Typed, Cause> {
     let query = read_query(alloc, Language::Profile, &[], text)?;
-    check_query(alloc, metamodel, query, parameters)
+    check_query(alloc, Language::Profile, metamodel, query, parameters)
 }
 
 /// The name of what is answered.

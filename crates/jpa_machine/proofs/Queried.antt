@@ -59,11 +59,11 @@ read_of_reads l lists text w =
     let K : Reading → Work → Type 0 = λ a v. v ≡ w in
     require_holds K (is_within l lists text) Cause.Limit w _ (λ within. require_holds K (declares_few (query_of l lists text)) Cause.Limit w _ (λ few. refl))
 
-pub statement_of_reads : (m : PersistenceUnit) (said : Reading) (lists : List GivenList) (bindings : List Binding) → IsRead (statement_of m said lists bindings)
-statement_of_reads m said lists bindings w =
+pub statement_of_reads : (l : Language) (m : PersistenceUnit) (said : Reading) (lists : List GivenList) (bindings : List Binding) → IsRead (statement_of l m said lists bindings)
+statement_of_reads l m said lists bindings w =
     let K : Statement → Work → Type 0 = λ s v. v ≡ w in
     then_read K (give_or (Cause.IllegalArgument Argument.Syntax) said.tree) _ w (given_or_reads (Cause.IllegalArgument Argument.Syntax) said.tree) (λ q.
-    let o = checked m q (sorts_of m bindings w) in
+    let o = checked l m q (sorts_of m bindings w) in
     then_read K (given o) _ w (given_reads o) (λ typed.
     require_holds K (said.uses_lists && are_apart lists bindings) (Cause.IllegalArgument Argument.Parameter) w _ (λ apart.
     let found = arguments_of m bindings w in
@@ -74,7 +74,7 @@ judged_reads m call w =
     let K : TypedSelect × List Datum → Work → Type 0 = λ q v. v ≡ w in
     then_read K (read_of call.language call.lists call.text) _ w (read_of_reads call.language call.lists call.text) (λ said.
     require_holds K (is_count call.first && is_count call.max) (Cause.IllegalArgument Argument.Range) w _ (λ counts.
-    then_read K (statement_of m said call.lists call.bindings) _ w (statement_of_reads m said call.lists call.bindings) (λ statement.
+    then_read K (statement_of call.language m said call.lists call.bindings) _ w (statement_of_reads call.language m said call.lists call.bindings) (λ statement.
     then_read K (give_or (Cause.IllegalState State.Statement) (select_in statement.typed)) _ w (given_or_reads (Cause.IllegalState State.Statement) (select_in statement.typed)) (λ select. refl))))
 
 answer_reads : {A : Type 0} (a : answers.Answer A) → IsRead (answer a)

@@ -142,7 +142,7 @@ flushed_first world text ps is_active flushes w =
     judged_reads m l ls is_active text bs v =
         then_read (λ s u. u ≡ v) (read_of l ls text) _ v (read_of_reads l ls text) (λ said.
         require_holds (λ s u. u ≡ v) is_active Cause.TransactionRequired v _ (λ active.
-        then_read (λ s u. u ≡ v) (statement_of m said ls bs) _ v (statement_of_reads m said ls bs) (λ s.
+        then_read (λ s u. u ≡ v) (statement_of l m said ls bs) _ v (statement_of_reads l m said ls bs) (λ s.
         require_holds (λ t u. u ≡ v) (is_bulk s.typed) (Cause.IllegalState State.Statement) v _ (λ bulk. refl))))
 
 -- what was put are values of the program, where they were so after the flush

@@ -19,20 +19,20 @@ use Rattle.jpa_queries.specs.Queries.{is_count, judged, select_asked}
 abbrev stated : PersistenceUnit → Asked → Reading → Op (TypedSelect × List Datum)
 stated m call said =
     require (is_count call.first && is_count call.max) (Cause.IllegalArgument Argument.Range)
-    >> (statement_of m said call.lists call.bindings >>= select_asked)
+    >> (statement_of call.language m said call.lists call.bindings >>= select_asked)
 
 module _ (m : PersistenceUnit) (call : Asked) (w : Work) (said : Reading) (is_read : read_of call.language call.lists call.text w ≡ Done said w)
     (counts : (is_count call.first && is_count call.max) ≡ true) where
-  asked_so : judged m call w ≡ after (statement_of m said call.lists call.bindings w) select_asked
+  asked_so : judged m call w ≡ after (statement_of call.language m said call.lists call.bindings w) select_asked
   asked_so =
       ap (λ (o : Outcome Reading). after o (stated m call)) is_read
-      ∙ ap (λ b. after (require b (Cause.IllegalArgument Argument.Range) w) (λ _. statement_of m said call.lists call.bindings >>= select_asked)) counts
+      ∙ ap (λ b. after (require b (Cause.IllegalArgument Argument.Range) w) (λ _. statement_of call.language m said call.lists call.bindings >>= select_asked)) counts
 
   -- the statement is refused
-  pub judged_refused : (r : Cause) → IsRefusedAs r w.events (statement_of m said call.lists call.bindings w) → IsRefusedAs r w.events (judged m call w)
-  judged_refused r h = subst (IsRefusedAs r w.events) (sym asked_so) (refused_after r w.events (statement_of m said call.lists call.bindings w) select_asked h)
+  pub judged_refused : (r : Cause) → IsRefusedAs r w.events (statement_of call.language m said call.lists call.bindings w) → IsRefusedAs r w.events (judged m call w)
+  judged_refused r h = subst (IsRefusedAs r w.events) (sym asked_so) (refused_after r w.events (statement_of call.language m said call.lists call.bindings w) select_asked h)
 
   -- there is a statement
-  pub judged_so : (statement : Statement) (r : Result (TypedSelect × List Datum) Cause) → statement_of m said call.lists call.bindings w ≡ Done statement w
+  pub judged_so : (statement : Statement) (r : Result (TypedSelect × List Datum) Cause) → statement_of call.language m said call.lists call.bindings w ≡ Done statement w
       → Meets r w (select_asked statement w) → Meets r w (judged m call w)
   judged_so statement r is h = subst (Meets r w) (sym (asked_so ∙ ap (λ (o : Outcome Statement). after o select_asked) is)) h

@@ -62,7 +62,7 @@ abbrev pub judged : PersistenceUnit → Asked → Op (TypedSelect × List Datum)
 judged m call = do
   said ← read_of call.language call.lists call.text
   require (is_count call.first && is_count call.max) (Cause.IllegalArgument Argument.Range)
-  statement ← statement_of m said call.lists call.bindings
+  statement ← statement_of call.language m said call.lists call.bindings
   select_asked statement
 
 -- what a SELECT gives over the set that the manager sees

@@ -58,7 +58,8 @@ fn judged(
         return Err(Cause::IllegalArgument(Argument::Range));
     }
     let bindings = asked.bindings.as_slice();
-    let statement = statement_of(alloc, metamodel, work, said, lists, bindings)?;
+    let language = asked.language;
+    let statement = statement_of(alloc, language, metamodel, work, said, lists, bindings)?;
     select_asked(statement)
 }
 

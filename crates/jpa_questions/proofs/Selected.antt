@@ -24,15 +24,15 @@ module _ (m : PersistenceUnit) (l : Language) (text : Text) (ps : List Parameter
 
     module _ (sorts : List (Text × Sort)) (of : sorts ≡ map named_sort (bound_of ps)) where
       -- what the tree asks is what is made of its judgement
-      asked : (judged : Result Typed Cause) → judged ≡ checked m tree sorts → and_then judged (select_if (uses && list_all has_no_comma ps)) ≡ select_of m l text ps uses tree
-      asked judged is = ap (λ (r : Result Typed Cause). and_then r (select_if (uses && list_all has_no_comma ps))) (is ∙ ap (checked m tree) of)
+      asked : (judged : Result Typed Cause) → judged ≡ checked l m tree sorts → and_then judged (select_if (uses && list_all has_no_comma ps)) ≡ select_of m l text ps uses tree
+      asked judged is = ap (λ (r : Result Typed Cause). and_then r (select_if (uses && list_all has_no_comma ps))) (is ∙ ap (checked l m tree) of)
 
       -- an ill-typed text is refused so
-      pub untyped_text : (cause : Cause) → (cause ≡ Cause.OutOfMemory) ⊎ (Err cause ≡ checked m tree sorts) → (cause ≡ Cause.OutOfMemory) ⊎ IsTextRefused m l text ps cause
+      pub untyped_text : (cause : Cause) → (cause ≡ Cause.OutOfMemory) ⊎ (Err cause ≡ checked l m tree sorts) → (cause ≡ Cause.OutOfMemory) ⊎ IsTextRefused m l text ps cause
       untyped_text cause (inl memory) = inl memory
       untyped_text cause (inr is) = inr (inr (tree, uses, has_tree, sym (asked (Err cause) is)))
 
-      module _ (typed : Typed) (is : Ok typed ≡ checked m tree sorts) where
+      module _ (typed : Typed) (is : Ok typed ≡ checked l m tree sorts) where
         -- the SELECT of a typed text is what it asks
         pub typed_asked : (r : Result TypedSelect Cause) → r ≡ select_if (uses && list_all has_no_comma ps) typed → IfOk r (Selects m l text ps)
         typed_asked (Ok q) e = (tree, uses, has_tree, sym (e ∙ asked (Ok typed) is))

@@ -106,7 +106,7 @@ module _ (m : PersistenceUnit) (l : Language) (text : Text) (ps : List Parameter
   -- collection stands behind IN.
   abbrev pub select_of : Bool → Query → Result TypedSelect Cause
   select_of uses tree =
-      and_then (checked m tree (map named_sort (bound_of ps))) (select_if (uses && list_all has_no_comma ps))
+      and_then (checked l m tree (map named_sort (bound_of ps))) (select_if (uses && list_all has_no_comma ps))
 
   -- the text has this tree in the language, and so it says of each collection whether it stands behind IN
   abbrev pub HasTree : Bool → Query → Type 0

@@ -101,7 +101,7 @@ fn read_select(
     let tree = read_query(alloc, language, lists.as_slice(), text)?;
     let uses = uses_lists(alloc, language, lists.as_slice(), text)?;
     let sorts = sorts_of(alloc, bound)?;
-    let typed = check_query(alloc, metamodel, tree, sorts.as_slice())?;
+    let typed = check_query(alloc, language, metamodel, tree, sorts.as_slice())?;
     select_if(uses, parameters, typed)
 }
 

@@ -71,7 +71,7 @@ const PAIRED: &[Changed] = &[
 /// The SELECT that a text is.
 fn select_of(alloc: Global, metamodel: &Metamodel, text: &str) -> Result<TypedSelect, Fail> {
     let tree = read_query(alloc, Language::Profile, &[], text)?;
-    match check_query(alloc, metamodel, tree, &[])? {
+    match check_query(alloc, Language::Profile, metamodel, tree, &[])? {
         Typed::Select(select) => Ok(select),
         _ => Err(Fail::from("the text is no SELECT")),
     }

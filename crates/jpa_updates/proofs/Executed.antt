@@ -60,18 +60,18 @@ by_limits true true found said w v h = (same_done found said w v h).1
 by_limits true false found said w v h = absurd cc
 by_limits false b found said w v h = absurd cc
 
-record IsStatement (m : PersistenceUnit) (bindings : List Binding) (w : Work) (q : Statement) : Type 0 where
+record IsStatement (l : Language) (m : PersistenceUnit) (bindings : List Binding) (w : Work) (q : Statement) : Type 0 where
   query : Query
-  typed : checked m query (sorts_of m bindings w) ≡ Ok q.typed
+  typed : checked l m query (sorts_of m bindings w) ≡ Ok q.typed
   arguments : arguments_of m bindings w ≡ Some q.arguments
 
 module _ (m : PersistenceUnit) (lists : List GivenList) (bindings : List Binding) where
-  stated : (tree : Option Query) (uses : Bool) (q : Statement) (w v : Work) → statement_of m (record { tree = tree; uses_lists = uses }) lists bindings w ≡ Done q v
-      → IsStatement m bindings w q × (w ≡ v)
-  stated None uses q w v h = absurd cc
-  stated (Some query) uses q w v h =
-      let a = steps_of (given (checked m query (sorts_of m bindings w)) w) _ q v h in
-      let typed = given_ok (checked m query (sorts_of m bindings w)) a.answer w a.between a.first in
+  stated : (l : Language) (tree : Option Query) (uses : Bool) (q : Statement) (w v : Work) → statement_of l m (record { tree = tree; uses_lists = uses }) lists bindings w ≡ Done q v
+      → IsStatement l m bindings w q × (w ≡ v)
+  stated l None uses q w v h = absurd cc
+  stated l (Some query) uses q w v h =
+      let a = steps_of (given (checked l m query (sorts_of m bindings w)) w) _ q v h in
+      let typed = given_ok (checked l m query (sorts_of m bindings w)) a.answer w a.between a.first in
       let r = steps_of (require (uses && are_apart lists bindings) (Cause.IllegalArgument Argument.Parameter) a.between) _ q v a.second in
       let apart = required (uses && are_apart lists bindings) (Cause.IllegalArgument Argument.Parameter) a.between r.between r.first in
       let b = steps_of (give_or (Cause.IllegalArgument Argument.Parameter) (arguments_of m bindings r.between) r.between) _ q v r.second in
@@ -89,16 +89,16 @@ module _ (m : PersistenceUnit) (lists : List GivenList) (bindings : List Binding
   read_only l text said w v h =
       by_limits (is_within l lists text) (declares_few (query_of l lists text)) (record { tree = query_of l lists text; uses_lists = are_used_in lists (tokens_in l text) }) said w v h
 
-  judged : (is_active : Bool) (l : Language) (text : Text) (q : Statement) (w v : Work) → judged_bulk m is_active l lists text bindings w ≡ Done q v → IsStatement m bindings w q × (w ≡ v)
+  judged : (is_active : Bool) (l : Language) (text : Text) (q : Statement) (w v : Work) → judged_bulk m is_active l lists text bindings w ≡ Done q v → IsStatement l m bindings w q × (w ≡ v)
   judged is_active l text q w v h =
       let a = steps_of (read_of l lists text w) _ q v h in
       let b = steps_of (require is_active Cause.TransactionRequired a.between) _ q v a.second in
-      let c = steps_of (statement_of m a.answer lists bindings b.between) _ q v b.second in
+      let c = steps_of (statement_of l m a.answer lists bindings b.between) _ q v b.second in
       let d = steps_of (require (is_bulk c.answer.typed) (Cause.IllegalState State.Statement) c.between) _ q v c.second in
       let so_far = read_only l text a.answer w a.between a.first ∙ required is_active Cause.TransactionRequired a.between b.between b.first in
-      let s = stated a.answer.tree a.answer.uses_lists c.answer b.between c.between c.first in
+      let s = stated l a.answer.tree a.answer.uses_lists c.answer b.between c.between c.first in
       let last = same_done c.answer q d.between v d.second in (
-        subst (λ (u : Work). IsStatement m bindings u q) (sym so_far) (subst (IsStatement m bindings b.between) last.0 s.0),
+        subst (λ (u : Work). IsStatement l m bindings u q) (sym so_far) (subst (IsStatement l m bindings b.between) last.0 s.0),
         so_far ∙ s.1 ∙ required (is_bulk c.answer.typed) (Cause.IllegalState State.Statement) c.between d.between d.first ∙ last.1,
       )
 
@@ -120,6 +120,7 @@ executed world is_active flushes language lists text bindings w v k convertible 
             inherited = inherited;
             held = held;
             given = arguments_are m w keys bindings bound a.answer.arguments statement.arguments;
+            language = language;
             checked = statement.typed;
           })
           b.second values;

@@ -67,7 +67,7 @@ module _ (world : World) (query : Query) (sorts : List (Text × Sort)) (w v : Wo
       let here : made.set ≡ v.view = ap (λ (u : Work). u.view) (made.settled).seen in
       held_at made.set
       (update_keeps world w.view w.numbers query sorts ds class all filter
-      (record { convertible = asked.convertible; inherited = asked.inherited; held = asked.held; given = asked.given; checked = asked.checked })
+      (record { convertible = asked.convertible; inherited = asked.inherited; held = asked.held; given = asked.given; language = asked.language; checked = asked.checked })
       made.set made.count made.made (subst (λ (t : StoredSet). all_representable t ≡ true) (sym here) values) (made.settled).sound)
       (made.settled).seen
   by_statement (Typed.Delete class is_named filter) ds asked h values =

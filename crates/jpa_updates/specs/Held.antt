@@ -26,7 +26,7 @@ use Rattle.jpa_asked.specs.Premises.{AreInHeap}
 use Rattle.jpa_flush.specs.Flush.{flush_if}
 use Rattle.jpa_updates.specs.Updates.{with_view, run_bulk, execute_update}
 
--- a statement that was checked for arguments of these sorts, asked of a work that sees a set which
+-- a statement of a language that was checked for arguments of these sorts, asked of a work that sees a set which
 -- a store can hold
 pub record IsAsked (world : World) (query : Query) (sorts : List (Text × Sort)) (typed : Typed) (arguments : List Datum)
     (w : Work) : Type 0 where
@@ -34,7 +34,8 @@ pub record IsAsked (world : World) (query : Query) (sorts : List (Text × Sort))
   pub inherited : AreInherited world.model
   pub held : CanBeHeld world w.view w.numbers
   pub given : are_of world.model sorts arguments ≡ true
-  pub checked : checked world.model query sorts ≡ Ok typed
+  pub language : Language
+  pub checked : checked language world.model query sorts ≡ Ok typed
 
 -- a store can hold the set that is seen then, and nothing else of the work changed
 pub record IsHeld (world : World) (w v : Work) : Type 0 where

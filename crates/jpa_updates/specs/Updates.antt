@@ -36,7 +36,7 @@ abbrev pub judged_bulk : PersistenceUnit → Bool → Language → List GivenLis
 judged_bulk m is_active language lists text bindings = do
   said ← read_of language lists text
   require is_active Cause.TransactionRequired
-  statement ← statement_of m said lists bindings
+  statement ← statement_of language m said lists bindings
   require (is_bulk statement.typed) (Cause.IllegalState State.Statement)
   give statement
 

@@ -60,7 +60,7 @@ fn judged(
     if !is_active {
         return Err(Cause::TransactionRequired);
     }
-    let statement = statement_of(alloc, metamodel, work, said, lists, bindings)?;
+    let statement = statement_of(alloc, language, metamodel, work, said, lists, bindings)?;
     if !is_bulk(&statement.typed) {
         return Err(Cause::IllegalState(State::Statement));
     }

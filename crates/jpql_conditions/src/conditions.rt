@@ -6,11 +6,10 @@ ghost use Rattle.jpql_grammar.specs.Conditions as spec;
 ghost use Rattle.jpql_grammar.specs.Conditions.{cond_at};
 
 use crate::lookahead::opens_condition;
-use crate::predicates::{
-    begins_variable, comparison, negated_if, opposite, sees_comparison, tested, typed,
-};
+use crate::predicates::{begins_variable, path_follows, path_tested, typed, value_tested};
 use crate::rows::{aggregated, begins_rows, opposed, quantifier, rows_follow, selected, turned};
 use crate::steps::{after, after_word, is_word, name, optional_word, sees, variable};
+use crate::tested::{comparison, negated_if, opposite, sees_comparison};
 use crate::values::value;
 use jpa_value::{Boxed, Seq, Text};
 use jpql_grammar::{Keyword, Mark, Token};
@@ -407,7 +406,7 @@ fn among_rows(
     Ok((negated_if(alloc, negated, test)?, rest))
 }
 
-/// What follows a value: rows, or a test of it.
+/// What follows a value: rows, a test of a path, or a test of values.
 #[cycle(cond)]
 #[tactic(auto, unfolding(jpql_grammar::specs::Conditions::follows_at))]
 fn follows(
@@ -421,7 +420,11 @@ fn follows(
         (spec.follows_at depth (cond_at depth) first bare tokens.now) }
 {
     if !rows_follow(tokens) {
-        tested(alloc, depth, first, bare, tokens)
+        if path_follows(tokens) {
+            path_tested(alloc, first, bare, tokens)
+        } else {
+            value_tested(alloc, depth, first, tokens)
+        }
     } else if sees_comparison(tokens) {
         beside(alloc, depth, first, tokens)
     } else {

@@ -5,7 +5,8 @@
 //! (chapters 4.6.9, 4.6.15 and 4.6.16).
 //!
 //! `steps` has the steps over tokens that every line of the grammar takes: marks, words, names and
-//! paths. `lookahead` tells whether an open parenthesis begins a condition or a value.
+//! paths. `lookahead` tells whether an open parenthesis begins a condition or a value, by what follows
+//! the one that closes it. `tested` has tests of values, which stand in conditions and in CASE.
 //!
 //! Each function answers what its function on lists in `jpql_grammar`'s `specs/Values` and
 //! `specs/Conditions` gives for the tokens, and `Memory` where a growth was refused; that crate has
@@ -18,6 +19,7 @@ mod lookahead;
 mod predicates;
 mod rows;
 mod steps;
+mod tested;
 mod values;
 
 pub use conditions::{clause, item, named, optional_name, related, sources};

@@ -1,6 +1,7 @@
 //! What an open parenthesis begins.
-ghost use Rattle.std.specs.Prelude.{◌≡◌, false};
-ghost use Rattle.jpql_grammar.specs.Conditions as spec;
+ghost use Rattle.std.specs.Prelude.{◌≡◌};
+ghost use Rattle.jpql_grammar.specs.Nesting.{past_close};
+ghost use Rattle.jpql_grammar.specs.Values as spec;
 
 use crate::steps::{is_mark, sees};
 use jpql_grammar::{Keyword, Mark, Token};
@@ -19,56 +20,64 @@ fn is_test_word(keyword: Keyword) -> bool
     ensures { result ≡ spec.is_test_word keyword }
 {
     match keyword {
-        Keyword::Is
+        Keyword::Not
+        | Keyword::Is
         | Keyword::In
         | Keyword::Between
         | Keyword::Like
-        | Keyword::Member
-        | Keyword::Exists
-        | Keyword::Select
-        | Keyword::Type => true,
+        | Keyword::Member => true,
         _ => false,
     }
 }
 
-fn tells(dotted: bool, token: &Token) -> bool
-    ensures { result ≡ spec.tells dotted token.now }
+fn is_test_mark(mark: Mark) -> bool
+    ensures { result ≡ spec.is_test_mark mark }
 {
-    match token {
-        Token::Mark(mark) => is_comparison(*mark),
-        Token::Key(keyword, _) => !dotted && is_test_word(*keyword),
+    match mark {
+        Mark::Plus | Mark::Minus | Mark::Star => true,
+        _ => is_comparison(mark),
+    }
+}
+
+/// Whether what comes next goes on a value, or a test behind its value.
+fn goes_on(tokens: &[Token]) -> bool
+    ensures { result ≡ spec.goes_on_at tokens.now }
+{
+    match tokens {
+        [Token::Mark(mark), ..] => is_test_mark(*mark),
+        [Token::Key(keyword, _), ..] => is_test_word(*keyword),
         _ => false,
     }
 }
 
-fn has_test(tokens: &[Token]) -> bool
-    ensures { result ≡ spec.has_test 0 false tokens.now }
+/// The tokens behind the parenthesis that closes, where those begin inside it.
+fn behind_close(tokens: &[Token]) -> &[Token]
+    ensures { result.now ≡ past_close 0 tokens.now }
 {
     let mut depth: usize = 0;
-    let mut dotted = false;
-    for token in tokens {
-        if tells(dotted, token) {
-            return true;
-        }
-        if is_mark(Mark::Close, token) {
-            if depth == 0 {
-                return false;
+    let mut rest = tokens;
+    for _turn in 0..tokens.len() {
+        match rest {
+            [] => return rest,
+            [token, more @ ..] => {
+                if is_mark(Mark::Close, token) {
+                    if depth == 0 {
+                        return more;
+                    }
+                    depth -= 1;
+                } else if is_mark(Mark::Open, token) {
+                    depth += 1;
+                }
+                rest = more;
             }
-            depth -= 1;
-            dotted = false;
-        } else if is_mark(Mark::Open, token) {
-            depth += 1;
-            dotted = false;
-        } else {
-            dotted = is_mark(Mark::Dot, token);
         }
     }
-    false
+    rest
 }
 
 /// Whether a condition begins with the parenthesis that comes next, and no value.
 pub fn opens_condition(tokens: &[Token]) -> bool
     ensures { result ≡ spec.opens_condition tokens.now }
 {
-    sees(Mark::Open, tokens) && has_test(&tokens[1..])
+    sees(Mark::Open, tokens) && !goes_on(behind_close(&tokens[1..]))
 }

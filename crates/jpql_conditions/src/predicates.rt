@@ -1,43 +1,17 @@
-//! Tests of values, and TYPE.
+//! Tests of paths, tests of values as conditions, and TYPE.
 ghost use Rattle.std.specs.Prelude.{◌≡◌, ◌∷◌, [], IfOk, length};
 ghost use Rattle.jpql_lexer.specs.Gives.{Gives};
 ghost use Rattle.jpql_grammar.specs.Values.{list_at, name_at};
 ghost use Rattle.jpql_grammar.specs.Conditions as spec;
 
-use crate::lookahead::is_comparison;
 use crate::steps::{after, after_word, is_word, name, optional_word, path, sees, variable};
-use crate::values::{value, value_list};
-use jpa_value::{Boxed, Seq, Text};
+use crate::tested::{condition_of, negated_if};
+use crate::values::tested;
+use jpa_value::{Seq, Text};
 use jpql_grammar::{Keyword, Mark, Token};
 use jpql_lexer::ReadError;
-use jpql_tree::{Comparison, Condition, Path, Value};
+use jpql_tree::{Condition, Path, Value};
 use std::alloc::{AllocError, Global};
-
-/// A comparison.
-#[tactic(auto, unfolding(jpql_grammar::specs::Conditions::comparison_at))]
-pub fn comparison(tokens: &[Token]) -> Result<(Comparison, &[Token]), ReadError>
-    ensures { Gives (λ r. (r.0, r.1.now)) result (spec.comparison_at tokens.now) }
-{
-    match tokens {
-        [Token::Mark(Mark::Equal), rest @ ..] => Ok((Comparison::Equal, rest)),
-        [Token::Mark(Mark::Different), rest @ ..] => Ok((Comparison::Different, rest)),
-        [Token::Mark(Mark::Less), rest @ ..] => Ok((Comparison::Less, rest)),
-        [Token::Mark(Mark::AtMost), rest @ ..] => Ok((Comparison::AtMost, rest)),
-        [Token::Mark(Mark::Greater), rest @ ..] => Ok((Comparison::Greater, rest)),
-        [Token::Mark(Mark::AtLeast), rest @ ..] => Ok((Comparison::AtLeast, rest)),
-        _ => Err(ReadError::Syntax),
-    }
-}
-
-/// Whether a comparison comes next.
-pub fn sees_comparison(tokens: &[Token]) -> bool
-    ensures { result ≡ spec.sees_comparison tokens.now }
-{
-    match tokens {
-        [Token::Mark(mark), ..] => is_comparison(*mark),
-        _ => false,
-    }
-}
 
 /// Whether a variable comes next.
 pub fn begins_variable(tokens: &[Token]) -> bool
@@ -46,24 +20,6 @@ pub fn begins_variable(tokens: &[Token]) -> bool
     match tokens {
         [Token::Word(_), ..] => true,
         _ => false,
-    }
-}
-
-/// The NOT of a test.
-pub fn opposite(alloc: Global, test: Condition) -> Result<Condition, AllocError>
-    ensures { IfOk result (λ c. c ≡ Condition.Not test) }
-{
-    Ok(Condition::Not(Boxed::new(alloc, test)?))
-}
-
-/// The test, or its NOT.
-pub fn negated_if(alloc: Global, negated: bool, test: Condition) -> Result<Condition, AllocError>
-    ensures { IfOk result (λ c. c ≡ spec.negated_if negated test) }
-{
-    if negated {
-        opposite(alloc, test)
-    } else {
-        Ok(test)
     }
 }
 
@@ -79,99 +35,32 @@ fn bare_path(bare: bool, value: Value) -> Result<Path, ReadError>
     }
 }
 
-#[tactic(auto, unfolding(jpql_grammar::specs::Conditions::compared_at))]
-fn compared(
-    alloc: Global,
-    depth: usize,
-    left: Value,
-    tokens: &[Token],
-) -> Result<(Condition, &[Token]), ReadError>
-    ensures { Gives (λ r. (r.0, r.1.now)) result (spec.compared_at depth left tokens.now) }
+/// Whether a test of a path follows a value: IS EMPTY or MEMBER.
+pub fn path_follows(tokens: &[Token]) -> bool
+    ensures { result ≡ spec.path_follows tokens.now }
 {
-    let (operation, rest) = comparison(tokens)?;
-    let (right, rest) = value(alloc, depth, rest)?;
-    Ok((Condition::Compare(operation, left, right), rest))
+    if is_word(Keyword::Is, tokens) {
+        let (_, rest) = optional_word(Keyword::Not, &tokens[1..]);
+        is_word(Keyword::Empty, rest)
+    } else {
+        let (_, rest) = optional_word(Keyword::Not, tokens);
+        is_word(Keyword::Member, rest)
+    }
 }
 
-#[tactic(auto, unfolding(jpql_grammar::specs::Conditions::is_at))]
-fn is_null_or_empty(
+#[tactic(auto, unfolding(jpql_grammar::specs::Conditions::empty_at))]
+fn empty(
     alloc: Global,
     tested: Value,
     bare: bool,
     tokens: &[Token],
 ) -> Result<(Condition, &[Token]), ReadError>
-    ensures { Gives (λ r. (r.0, r.1.now)) result (spec.is_at tested bare tokens.now) }
+    ensures { Gives (λ r. (r.0, r.1.now)) result (spec.empty_at tested bare tokens.now) }
 {
     let (negated, rest) = optional_word(Keyword::Not, tokens);
-    if is_word(Keyword::Null, rest) {
-        let test = negated_if(alloc, negated, Condition::IsNull(tested))?;
-        Ok((test, &rest[1..]))
-    } else {
-        let rest = after_word(Keyword::Empty, rest)?;
-        let path = bare_path(bare, tested)?;
-        Ok((negated_if(alloc, negated, Condition::IsEmpty(path))?, rest))
-    }
-}
-
-#[tactic(auto, unfolding(jpql_grammar::specs::Conditions::between_at))]
-fn between(
-    alloc: Global,
-    depth: usize,
-    tested: Value,
-    tokens: &[Token],
-) -> Result<(Condition, &[Token]), ReadError>
-    ensures { Gives (λ r. (r.0, r.1.now)) result (spec.between_at depth tested tokens.now) }
-{
-    let (least, rest) = value(alloc, depth, tokens)?;
-    let rest = after_word(Keyword::And, rest)?;
-    let (greatest, rest) = value(alloc, depth, rest)?;
-    Ok((Condition::Between(tested, least, greatest), rest))
-}
-
-#[tactic(auto, unfolding(jpql_grammar::specs::Conditions::among_at))]
-fn among(
-    alloc: Global,
-    depth: usize,
-    tested: Value,
-    tokens: &[Token],
-) -> Result<(Condition, &[Token]), ReadError>
-    ensures { Gives (λ r. (r.0, r.1.now)) result (spec.among_at depth tested tokens.now) }
-{
-    let rest = after(Mark::Open, tokens)?;
-    if sees(Mark::Close, rest) {
-        return Ok((Condition::In(tested, Seq::new(alloc)), &rest[1..]));
-    }
-    let (all, rest) = value_list(alloc, depth, rest)?;
-    Ok((Condition::In(tested, all), rest))
-}
-
-#[tactic(auto, unfolding(jpql_grammar::specs::Conditions::escape_at))]
-fn escape(alloc: Global, tokens: &[Token]) -> Result<(Option<Text>, &[Token]), ReadError>
-    ensures { Gives (λ r. (r.0, r.1.now)) result (spec.escape_at tokens.now) }
-{
-    match tokens {
-        [
-            Token::Key(Keyword::Escape, _),
-            Token::Quoted(text),
-            rest @ ..,
-        ] => { Ok((Some(Text::of(alloc, text.as_str())?), rest)) }
-        [Token::Key(Keyword::Escape, _), ..] => Err(ReadError::Syntax),
-        _ => Ok((None, tokens)),
-    }
-}
-
-#[tactic(auto, unfolding(jpql_grammar::specs::Conditions::like_at))]
-fn like(
-    alloc: Global,
-    depth: usize,
-    tested: Value,
-    tokens: &[Token],
-) -> Result<(Condition, &[Token]), ReadError>
-    ensures { Gives (λ r. (r.0, r.1.now)) result (spec.like_at depth tested tokens.now) }
-{
-    let (pattern, rest) = value(alloc, depth, tokens)?;
-    let (escape, rest) = escape(alloc, rest)?;
-    Ok((Condition::Like(tested, pattern, escape), rest))
+    let rest = after_word(Keyword::Empty, rest)?;
+    let path = bare_path(bare, tested)?;
+    Ok((negated_if(alloc, negated, Condition::IsEmpty(path))?, rest))
 }
 
 #[tactic(auto, unfolding(jpql_grammar::specs::Conditions::member_at))]
@@ -182,53 +71,45 @@ fn member(
 ) -> Result<(Condition, &[Token]), ReadError>
     ensures { Gives (λ r. (r.0, r.1.now)) result (spec.member_at tested tokens.now) }
 {
-    let (_, rest) = optional_word(Keyword::Of, tokens);
+    let (negated, rest) = optional_word(Keyword::Not, tokens);
+    let rest = after_word(Keyword::Member, rest)?;
+    let (_, rest) = optional_word(Keyword::Of, rest);
     let (path, rest) = path(alloc, rest)?;
-    Ok((Condition::Member(tested, path), rest))
+    Ok((
+        negated_if(alloc, negated, Condition::Member(tested, path))?,
+        rest,
+    ))
 }
 
-#[tactic(auto, unfolding(jpql_grammar::specs::Conditions::worded_at))]
-fn worded(
+/// A test of a path, which follows the value.
+#[tactic(auto, unfolding(jpql_grammar::specs::Conditions::path_tested_at))]
+pub fn path_tested(
     alloc: Global,
-    depth: usize,
-    tested: Value,
-    tokens: &[Token],
-) -> Result<(Condition, &[Token]), ReadError>
-    ensures { Gives (λ r. (r.0, r.1.now)) result (spec.worded_at depth tested tokens.now) }
-{
-    if is_word(Keyword::Between, tokens) {
-        between(alloc, depth, tested, &tokens[1..])
-    } else if is_word(Keyword::In, tokens) {
-        among(alloc, depth, tested, &tokens[1..])
-    } else if is_word(Keyword::Like, tokens) {
-        like(alloc, depth, tested, &tokens[1..])
-    } else if is_word(Keyword::Member, tokens) {
-        member(alloc, tested, &tokens[1..])
-    } else {
-        Err(ReadError::Syntax)
-    }
-}
-
-/// What follows a value, where no rows do.
-#[tactic(auto, unfolding(jpql_grammar::specs::Conditions::tested_at))]
-pub fn tested(
-    alloc: Global,
-    depth: usize,
     first: Value,
     bare: bool,
     tokens: &[Token],
 ) -> Result<(Condition, &[Token]), ReadError>
-    ensures { Gives (λ r. (r.0, r.1.now)) result (spec.tested_at depth first bare tokens.now) }
+    ensures { Gives (λ r. (r.0, r.1.now)) result (spec.path_tested_at first bare tokens.now) }
 {
-    if sees_comparison(tokens) {
-        compared(alloc, depth, first, tokens)
-    } else if is_word(Keyword::Is, tokens) {
-        is_null_or_empty(alloc, first, bare, &tokens[1..])
+    if is_word(Keyword::Is, tokens) {
+        empty(alloc, first, bare, &tokens[1..])
     } else {
-        let (negated, rest) = optional_word(Keyword::Not, tokens);
-        let (test, rest) = worded(alloc, depth, first, rest)?;
-        Ok((negated_if(alloc, negated, test)?, rest))
+        member(alloc, first, tokens)
     }
+}
+
+/// A test of values behind its first value.
+#[tactic(auto, unfolding(jpql_grammar::specs::Conditions::value_tested_at))]
+pub fn value_tested(
+    alloc: Global,
+    depth: usize,
+    first: Value,
+    tokens: &[Token],
+) -> Result<(Condition, &[Token]), ReadError>
+    ensures { Gives (λ r. (r.0, r.1.now)) result (spec.value_tested_at depth first tokens.now) }
+{
+    let (test, rest) = tested(alloc, depth, first, tokens)?;
+    Ok((condition_of(alloc, test)?, rest))
 }
 
 #[tactic(auto, unfolding(jpql_grammar::specs::Values::list_at, jpql_grammar::specs::Values::others_at))]

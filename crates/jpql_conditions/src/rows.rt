@@ -4,8 +4,8 @@ ghost use Rattle.jpql_lexer.specs.Gives.{Gives};
 ghost use Rattle.jpql_grammar.specs.Parts as parts;
 ghost use Rattle.jpql_grammar.specs.Conditions as spec;
 
-use crate::predicates::{comparison, sees_comparison};
 use crate::steps::{after, after_word, is_word, optional_word, sees};
+use crate::tested::{comparison, sees_comparison};
 use crate::values::value;
 use jpql_grammar::{Keyword, Mark, Token};
 use jpql_lexer::ReadError;

@@ -1,14 +1,16 @@
-//! Values.
+//! Values, and the tests that stand behind WHEN.
 ghost use Rattle.std.specs.Prelude.{◌≡◌, ◌∷◌, [], length, IfOk};
 ghost use Rattle.jpql_lexer.specs.Gives.{Gives};
 ghost use Rattle.jpql_tree.specs.Calls as calls;
 ghost use Rattle.jpql_grammar.specs.Parts.{trimmed_value};
 ghost use Rattle.jpql_grammar.specs.Values as spec;
-ghost use Rattle.jpql_grammar.specs.Values.{value_at};
+ghost use Rattle.jpql_grammar.specs.Values.{value_at, when_at};
 
+use crate::lookahead::opens_condition;
 use crate::steps::{after, after_word, copied, is_word, optional_word, path, sees};
+use crate::tested::{comparison, denied_if, escape, joined, sees_comparison, value_of};
 use jpa_value::{Boxed, Seq};
-use jpql_grammar::{Callee, Keyword, Mark, Token};
+use jpql_grammar::{Callee, Keyword, Mark, Tested, Token};
 use jpql_lexer::ReadError;
 use jpql_tree::{Aggregate, Arithmetic, Function, Path, Sign, Trimmed, Value};
 use std::alloc::{AllocError, Global};
@@ -42,10 +44,15 @@ fn takes(function: Function, count: usize) -> bool
 {
     match function {
         Function::Length | Function::Abs | Function::Upper | Function::Lower => count == 1,
+        Function::IsNull | Function::Not => count == 1,
         Function::Trim(_) => count == 1 || count == 2,
         Function::Mod | Function::NullIf => count == 2,
-        Function::Substring | Function::Locate => count == 2 || count == 3,
-        Function::Concat | Function::Coalesce => 2 <= count,
+        Function::Test(_) | Function::And | Function::Or => count == 2,
+        Function::Substring | Function::Locate | Function::IsLike => count == 2 || count == 3,
+        Function::IsBetween => count == 3,
+        Function::Concat | Function::Coalesce | Function::IsAmong => 2 <= count,
+        Function::Case => 3 <= count && count % 2 == 1,
+        Function::Match => 4 <= count && count % 2 == 0,
     }
 }
 
@@ -125,7 +132,8 @@ fn trimmed(
 #[cycle(value)]
 #[tactic(auto, unfolding(jpql_grammar::specs::Values::unary_at))]
 fn unary(alloc: Global, depth: usize, tokens: &[Token]) -> Result<(Value, &[Token]), ReadError>
-    ensures { Gives (λ r. (r.0, r.1.now)) result (spec.unary_at (value_at depth) tokens.now) }
+    ensures { Gives (λ r. (r.0, r.1.now)) result
+        (spec.unary_at (value_at depth) (when_at depth) tokens.now) }
 {
     if sees(Mark::Plus, tokens) {
         let (operand, rest) = atom(alloc, depth, &tokens[1..])?;
@@ -144,7 +152,8 @@ fn unary(alloc: Global, depth: usize, tokens: &[Token]) -> Result<(Value, &[Toke
 #[cycle(value)]
 #[tactic(auto, unfolding(jpql_grammar::specs::Values::atom_at, jpql_grammar::specs::Values::word_at))]
 fn atom(alloc: Global, depth: usize, tokens: &[Token]) -> Result<(Value, &[Token]), ReadError>
-    ensures { Gives (λ r. (r.0, r.1.now)) result (spec.atom_at (value_at depth) tokens.now) }
+    ensures { Gives (λ r. (r.0, r.1.now)) result
+        (spec.atom_at (value_at depth) (when_at depth) tokens.now) }
 {
     match tokens {
         [Token::Number(number), rest @ ..] => Ok((Value::Integer(*number), rest)),
@@ -155,12 +164,13 @@ fn atom(alloc: Global, depth: usize, tokens: &[Token]) -> Result<(Value, &[Token
             Ok((Value::Path(path), rest))
         }
         [Token::Mark(Mark::Open), rest @ ..] => nested(alloc, depth, rest),
-        [Token::Key(keyword, _), rest @ ..] => call(
-            alloc,
-            depth,
-            callee_of(*keyword),
-            after(Mark::Open, rest)?,
-        ),
+        [Token::Key(keyword, _), rest @ ..] => {
+            if Keyword::Case.is(*keyword) {
+                case(alloc, depth, rest)
+            } else {
+                call(alloc, depth, callee_of(*keyword), after(Mark::Open, rest)?)
+            }
+        }
         _ => Err(ReadError::Syntax),
     }
 }
@@ -279,7 +289,7 @@ fn times(
     tokens: &[Token],
 ) -> Result<(Value, &[Token]), ReadError>
     ensures { Gives (λ r. (r.0, r.1.now)) result
-        (spec.times_at (value_at depth) (length tokens.now) first tokens.now) }
+        (spec.times_at (value_at depth) (when_at depth) (length tokens.now) first tokens.now) }
 {
     let mut found = first;
     let mut rest = tokens;
@@ -301,7 +311,8 @@ fn times(
 #[cycle(value)]
 #[tactic(auto, unfolding(jpql_grammar::specs::Values::product_at))]
 fn product(alloc: Global, depth: usize, tokens: &[Token]) -> Result<(Value, &[Token]), ReadError>
-    ensures { Gives (λ r. (r.0, r.1.now)) result (spec.product_at (value_at depth) tokens.now) }
+    ensures { Gives (λ r. (r.0, r.1.now)) result
+        (spec.product_at (value_at depth) (when_at depth) tokens.now) }
 {
     let (first, rest) = unary(alloc, depth, tokens)?;
     times(alloc, depth, first, rest)
@@ -310,7 +321,8 @@ fn product(alloc: Global, depth: usize, tokens: &[Token]) -> Result<(Value, &[To
 #[cycle(value)]
 #[tactic(auto, unfolding(jpql_grammar::specs::Values::level_at))]
 fn level(alloc: Global, depth: usize, tokens: &[Token]) -> Result<(Value, &[Token]), ReadError>
-    ensures { Gives (λ r. (r.0, r.1.now)) result (spec.level_at (value_at depth) tokens.now) }
+    ensures { Gives (λ r. (r.0, r.1.now)) result
+        (spec.level_at (value_at depth) (when_at depth) tokens.now) }
 {
     let (first, rest) = product(alloc, depth, tokens)?;
     sums(alloc, depth, first, rest)
@@ -325,7 +337,7 @@ fn sums(
     tokens: &[Token],
 ) -> Result<(Value, &[Token]), ReadError>
     ensures { Gives (λ r. (r.0, r.1.now)) result
-        (spec.sums_at (value_at depth) (length tokens.now) first tokens.now) }
+        (spec.sums_at (value_at depth) (when_at depth) (length tokens.now) first tokens.now) }
 {
     let mut found = first;
     let mut rest = tokens;
@@ -348,7 +360,343 @@ fn sums(
     Ok((found, rest))
 }
 
-/// A value, with fewer than `depth` parentheses inside one another.
+#[cycle(value)]
+#[tactic(auto, unfolding(jpql_grammar::specs::Values::compared_at))]
+fn compared(
+    alloc: Global,
+    depth: usize,
+    left: Value,
+    tokens: &[Token],
+) -> Result<(Tested, &[Token]), ReadError>
+    ensures { Gives (λ r. (r.0, r.1.now)) result
+        (spec.compared_at (value_at depth) left tokens.now) }
+{
+    let (operation, rest) = comparison(tokens)?;
+    let (right, rest) = value(alloc, depth, rest)?;
+    Ok((Tested::Compare(operation, left, right), rest))
+}
+
+#[cycle(value)]
+#[tactic(auto, unfolding(jpql_grammar::specs::Values::between_at))]
+fn between(
+    alloc: Global,
+    depth: usize,
+    negated: bool,
+    tested: Value,
+    tokens: &[Token],
+) -> Result<(Tested, &[Token]), ReadError>
+    ensures { Gives (λ r. (r.0, r.1.now)) result
+        (spec.between_at (value_at depth) tested negated tokens.now) }
+{
+    let (least, rest) = value(alloc, depth, tokens)?;
+    let rest = after_word(Keyword::And, rest)?;
+    let (greatest, rest) = value(alloc, depth, rest)?;
+    Ok((Tested::Between(negated, tested, least, greatest), rest))
+}
+
+#[cycle(value)]
+#[tactic(auto, unfolding(jpql_grammar::specs::Values::among_at))]
+fn among(
+    alloc: Global,
+    depth: usize,
+    negated: bool,
+    tested: Value,
+    tokens: &[Token],
+) -> Result<(Tested, &[Token]), ReadError>
+    ensures { Gives (λ r. (r.0, r.1.now)) result
+        (spec.among_at (value_at depth) tested negated tokens.now) }
+{
+    let rest = after(Mark::Open, tokens)?;
+    if sees(Mark::Close, rest) {
+        return Ok((Tested::In(negated, tested, Seq::new(alloc)), &rest[1..]));
+    }
+    let (all, rest) = value_list(alloc, depth, rest)?;
+    Ok((Tested::In(negated, tested, all), rest))
+}
+
+#[cycle(value)]
+#[tactic(auto, unfolding(jpql_grammar::specs::Values::like_at))]
+fn like(
+    alloc: Global,
+    depth: usize,
+    negated: bool,
+    tested: Value,
+    tokens: &[Token],
+) -> Result<(Tested, &[Token]), ReadError>
+    ensures { Gives (λ r. (r.0, r.1.now)) result
+        (spec.like_at (value_at depth) tested negated tokens.now) }
+{
+    let (pattern, rest) = value(alloc, depth, tokens)?;
+    let (escape, rest) = escape(alloc, rest)?;
+    Ok((Tested::Like(negated, tested, pattern, escape), rest))
+}
+
+#[tactic(auto, unfolding(jpql_grammar::specs::Values::null_at))]
+fn null(depth: usize, tested: Value, tokens: &[Token]) -> Result<(Tested, &[Token]), ReadError>
+    ensures { Gives (λ r. (r.0, r.1.now)) result
+        (spec.null_at (value_at depth) tested tokens.now) }
+{
+    let (negated, rest) = optional_word(Keyword::Not, tokens);
+    let rest = after_word(Keyword::Null, rest)?;
+    Ok((Tested::IsNull(negated, tested), rest))
+}
+
+#[cycle(value)]
+#[tactic(auto, unfolding(jpql_grammar::specs::Values::worded_at))]
+fn worded(
+    alloc: Global,
+    depth: usize,
+    negated: bool,
+    tested: Value,
+    tokens: &[Token],
+) -> Result<(Tested, &[Token]), ReadError>
+    ensures { Gives (λ r. (r.0, r.1.now)) result
+        (spec.worded_at (value_at depth) tested negated tokens.now) }
+{
+    if is_word(Keyword::Between, tokens) {
+        between(alloc, depth, negated, tested, &tokens[1..])
+    } else if is_word(Keyword::In, tokens) {
+        among(alloc, depth, negated, tested, &tokens[1..])
+    } else if is_word(Keyword::Like, tokens) {
+        like(alloc, depth, negated, tested, &tokens[1..])
+    } else {
+        Err(ReadError::Syntax)
+    }
+}
+
+/// What follows the first value of a test.
+#[cycle(value)]
+#[tactic(auto, unfolding(jpql_grammar::specs::Values::tested_at))]
+pub fn tested(
+    alloc: Global,
+    depth: usize,
+    first: Value,
+    tokens: &[Token],
+) -> Result<(Tested, &[Token]), ReadError>
+    ensures { Gives (λ r. (r.0, r.1.now)) result
+        (spec.tested_at (value_at depth) first tokens.now) }
+{
+    if sees_comparison(tokens) {
+        compared(alloc, depth, first, tokens)
+    } else if is_word(Keyword::Is, tokens) {
+        null(depth, first, &tokens[1..])
+    } else {
+        let (negated, rest) = optional_word(Keyword::Not, tokens);
+        worded(alloc, depth, negated, first, rest)
+    }
+}
+
+#[cycle(value)]
+#[tactic(auto, unfolding(jpql_grammar::specs::Values::when_test_at, jpql_grammar::specs::Values::closed))]
+fn when_test(alloc: Global, depth: usize, tokens: &[Token]) -> Result<(Value, &[Token]), ReadError>
+    ensures { Gives (λ r. (r.0, r.1.now)) result
+        (spec.when_test_at (value_at depth) (when_at depth) tokens.now) }
+{
+    if opens_condition(tokens) {
+        let (inner, rest) = when(alloc, depth, &tokens[1..])?;
+        return Ok((inner, after(Mark::Close, rest)?));
+    }
+    let (first, rest) = value(alloc, depth, tokens)?;
+    let (test, rest) = tested(alloc, depth, first, rest)?;
+    Ok((value_of(alloc, test)?, rest))
+}
+
+#[cycle(value)]
+#[tactic(auto, unfolding(jpql_grammar::specs::Values::when_not_at))]
+fn when_not(alloc: Global, depth: usize, tokens: &[Token]) -> Result<(Value, &[Token]), ReadError>
+    ensures { Gives (λ r. (r.0, r.1.now)) result
+        (spec.when_not_at (value_at depth) (when_at depth) tokens.now) }
+{
+    if is_word(Keyword::Not, tokens) {
+        let (inner, rest) = when_test(alloc, depth, &tokens[1..])?;
+        Ok((denied_if(alloc, true, inner)?, rest))
+    } else {
+        when_test(alloc, depth, tokens)
+    }
+}
+
+#[cycle(value)]
+#[tactic(auto, unfolding(jpql_grammar::specs::Values::when_ands_at))]
+fn when_ands(
+    alloc: Global,
+    depth: usize,
+    first: Value,
+    tokens: &[Token],
+) -> Result<(Value, &[Token]), ReadError>
+    ensures { Gives (λ r. (r.0, r.1.now)) result
+        (spec.when_ands_at (value_at depth) (when_at depth) (length tokens.now) first tokens.now) }
+{
+    let mut found = first;
+    let mut rest = tokens;
+    for _turn in 0..tokens.len() {
+        if !is_word(Keyword::And, rest) {
+            return Ok((found, rest));
+        }
+        let (operand, more) = when_not(alloc, depth, &rest[1..])?;
+        found = joined(alloc, Function::And, found, operand)?;
+        rest = more;
+    }
+    Ok((found, rest))
+}
+
+#[cycle(value)]
+#[tactic(auto, unfolding(jpql_grammar::specs::Values::when_and_at))]
+fn when_and(alloc: Global, depth: usize, tokens: &[Token]) -> Result<(Value, &[Token]), ReadError>
+    ensures { Gives (λ r. (r.0, r.1.now)) result
+        (spec.when_and_at (value_at depth) (when_at depth) tokens.now) }
+{
+    let (first, rest) = when_not(alloc, depth, tokens)?;
+    when_ands(alloc, depth, first, rest)
+}
+
+#[cycle(value)]
+#[tactic(auto, unfolding(jpql_grammar::specs::Values::when_ors_at))]
+fn when_ors(
+    alloc: Global,
+    depth: usize,
+    first: Value,
+    tokens: &[Token],
+) -> Result<(Value, &[Token]), ReadError>
+    ensures { Gives (λ r. (r.0, r.1.now)) result
+        (spec.when_ors_at (value_at depth) (when_at depth) (length tokens.now) first tokens.now) }
+{
+    let mut found = first;
+    let mut rest = tokens;
+    for _turn in 0..tokens.len() {
+        if !is_word(Keyword::Or, rest) {
+            return Ok((found, rest));
+        }
+        let (operand, more) = when_and(alloc, depth, &rest[1..])?;
+        found = joined(alloc, Function::Or, found, operand)?;
+        rest = more;
+    }
+    Ok((found, rest))
+}
+
+#[cycle(value)]
+#[tactic(auto, unfolding(jpql_grammar::specs::Values::when_level_at))]
+fn when_level(alloc: Global, depth: usize, tokens: &[Token]) -> Result<(Value, &[Token]), ReadError>
+    ensures { Gives (λ r. (r.0, r.1.now)) result
+        (spec.when_level_at (value_at depth) (when_at depth) tokens.now) }
+{
+    let (first, rest) = when_and(alloc, depth, tokens)?;
+    when_ors(alloc, depth, first, rest)
+}
+
+/// What stands behind WHEN, with fewer than `depth` parentheses and CASEs inside one another.
+#[cycle(value)]
+#[tactic(auto, unfolding(jpql_grammar::specs::Values::when_at))]
+fn when(alloc: Global, depth: usize, tokens: &[Token]) -> Result<(Value, &[Token]), ReadError>
+    ensures { Gives (λ r. (r.0, r.1.now)) result (when_at depth tokens.now) }
+{
+    if depth == 0 {
+        return Err(ReadError::Syntax);
+    }
+    when_level(alloc, depth - 1, tokens)
+}
+
+/// ELSE, its value and END, behind what was found.
+#[cycle(value)]
+#[tactic(auto, unfolding(jpql_grammar::specs::Values::otherwise_at))]
+fn otherwise(
+    alloc: Global,
+    depth: usize,
+    found: Seq<Value>,
+    tokens: &[Token],
+) -> Result<(Seq<Value>, &[Token]), ReadError>
+    ensures { Gives (λ r. (r.0, r.1.now)) result
+        (spec.otherwise_at (value_at depth) found tokens.now) }
+{
+    let mut all = found;
+    let (value, rest) = value(alloc, depth, after_word(Keyword::Else, tokens)?)?;
+    all.push(value)?;
+    Ok((all, after_word(Keyword::End, rest)?))
+}
+
+/// The branches of a CASE of tests, and what stands behind ELSE.
+#[cycle(value)]
+#[tactic(auto, unfolding(jpql_grammar::specs::Values::branches_at))]
+fn branches(
+    alloc: Global,
+    depth: usize,
+    first: Seq<Value>,
+    tokens: &[Token],
+) -> Result<(Seq<Value>, &[Token]), ReadError>
+    ensures { Gives (λ r. (r.0, r.1.now)) result
+        (spec.branches_at (value_at depth) (when_at depth) (length tokens.now) first tokens.now) }
+{
+    let mut found = first;
+    let mut rest = tokens;
+    for _turn in 0..tokens.len() {
+        if !is_word(Keyword::When, rest) {
+            return otherwise(alloc, depth, found, rest);
+        }
+        let (test, more) = when(alloc, depth, &rest[1..])?;
+        let (chosen, more) = value(alloc, depth, after_word(Keyword::Then, more)?)?;
+        found.push(test)?;
+        found.push(chosen)?;
+        rest = more;
+    }
+    otherwise(alloc, depth, found, rest)
+}
+
+/// The branches of a CASE of a value, and what stands behind ELSE.
+#[cycle(value)]
+#[tactic(auto, unfolding(jpql_grammar::specs::Values::branches_at))]
+fn value_branches(
+    alloc: Global,
+    depth: usize,
+    first: Seq<Value>,
+    tokens: &[Token],
+) -> Result<(Seq<Value>, &[Token]), ReadError>
+    ensures { Gives (λ r. (r.0, r.1.now)) result
+        (spec.branches_at (value_at depth) (value_at depth) (length tokens.now) first tokens.now) }
+{
+    let mut found = first;
+    let mut rest = tokens;
+    for _turn in 0..tokens.len() {
+        if !is_word(Keyword::When, rest) {
+            return otherwise(alloc, depth, found, rest);
+        }
+        let (test, more) = value(alloc, depth, &rest[1..])?;
+        let (chosen, more) = value(alloc, depth, after_word(Keyword::Then, more)?)?;
+        found.push(test)?;
+        found.push(chosen)?;
+        rest = more;
+    }
+    otherwise(alloc, depth, found, rest)
+}
+
+#[cycle(value)]
+#[tactic(auto, unfolding(jpql_grammar::specs::Values::match_at))]
+fn matched(alloc: Global, depth: usize, tokens: &[Token]) -> Result<(Value, &[Token]), ReadError>
+    ensures { Gives (λ r. (r.0, r.1.now)) result
+        (spec.match_at (value_at depth) tokens.now) }
+{
+    let (first, rest) = value(alloc, depth, tokens)?;
+    if !is_word(Keyword::When, rest) {
+        return Err(ReadError::Syntax);
+    }
+    let mut found = Seq::new(alloc);
+    found.push(first)?;
+    let (all, rest) = value_branches(alloc, depth, found, rest)?;
+    Ok((Value::Call(Function::Match, all), rest))
+}
+
+#[cycle(value)]
+#[tactic(auto, unfolding(jpql_grammar::specs::Values::case_at))]
+fn case(alloc: Global, depth: usize, tokens: &[Token]) -> Result<(Value, &[Token]), ReadError>
+    ensures { Gives (λ r. (r.0, r.1.now)) result
+        (spec.case_at (value_at depth) (when_at depth) tokens.now) }
+{
+    if !is_word(Keyword::When, tokens) {
+        return matched(alloc, depth, tokens);
+    }
+    let (all, rest) = branches(alloc, depth, Seq::new(alloc), tokens)?;
+    Ok((Value::Call(Function::Case, all), rest))
+}
+
+/// A value, with fewer than `depth` parentheses and CASEs inside one another.
 #[cycle(value)]
 #[tactic(auto, unfolding(jpql_grammar::specs::Values::value_at))]
 pub fn value(alloc: Global, depth: usize, tokens: &[Token]) -> Result<(Value, &[Token]), ReadError>

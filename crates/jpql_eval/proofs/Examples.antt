@@ -8,7 +8,7 @@ use Rattle.jpql_tree.specs.declared.Function.{Function}
 use Rattle.jpql_tree.specs.declared.Arithmetic.{Arithmetic}
 use Rattle.jpql_tree.specs.declared.Trimmed.{Trimmed}
 use Rattle.jpql_eval.specs.declared.datum.Truth.{Truth}
-use Rattle.jpql_eval.specs.Answers.{gives, overflows, under}
+use Rattle.jpql_eval.specs.Answers.{gives, overflows, under, ◌>>=◌}
 use Rattle.jpql_eval.specs.Truths.{not3}
 use Rattle.jpql_eval.specs.Data.{null, between}
 use Rattle.jpql_eval.specs.Numbers.{number, arithmetic}
@@ -180,3 +180,87 @@ count_of_each = refl
 -- a total outside 64 bits, also beside null
 sum_overflows : judged (Against.One Aggregate.Sum false) Comparison.Less null (number (pos 9223372036854775807) ∷ number (pos 1) ∷ []) ≡ overflows
 sum_overflows = refl
+
+-- CASE WHEN no THEN 1 WHEN yes THEN 2 WHEN yes THEN 3 ELSE 4 END: the first test that is true
+first_true : applied Function.Case (number (pos 0) ∷ number (pos 1) ∷ number (pos 1) ∷ number (pos 2) ∷ number (pos 1) ∷ number (pos 3) ∷ number (pos 4) ∷ []) ≡ gives (number (pos 2))
+first_true = refl
+
+-- a test that is unknown isn't true
+unknown_when : applied Function.Case (null ∷ text (codes "a") ∷ text (codes "b") ∷ []) ≡ gives (text (codes "b"))
+unknown_when = refl
+
+-- null behind THEN is what CASE gives
+null_then : applied Function.Case (number (pos 1) ∷ null ∷ text (codes "b") ∷ []) ≡ gives null
+null_then = refl
+
+null_else : applied Function.Case (number (pos 0) ∷ text (codes "a") ∷ null ∷ []) ≡ gives null
+null_else = refl
+
+-- CASE 2 WHEN null THEN 'a' WHEN 2 THEN 'b' ELSE 'c' END
+beside_null : applied Function.Match (number (pos 2) ∷ null ∷ text (codes "a") ∷ number (pos 2) ∷ text (codes "b") ∷ text (codes "c") ∷ []) ≡ gives (text (codes "b"))
+beside_null = refl
+
+-- null equals nothing, null included
+match_null : applied Function.Match (null ∷ null ∷ text (codes "a") ∷ text (codes "b") ∷ []) ≡ gives (text (codes "b"))
+match_null = refl
+
+-- 1 is what it is in a CASE of a value, and no truth
+match_zero : applied Function.Match (number (pos 0) ∷ number (pos 1) ∷ text (codes "a") ∷ number (pos 0) ∷ text (codes "b") ∷ text (codes "c") ∷ []) ≡ gives (text (codes "b"))
+match_zero = refl
+
+-- CASE (CASE WHEN yes THEN 5 ELSE null END) WHEN 5 THEN 'a' ELSE 'b' END
+case_of_case : (applied Function.Case (number (pos 1) ∷ number (pos 5) ∷ null ∷ []) >>= λ x. applied Function.Match (x ∷ number (pos 5) ∷ text (codes "a") ∷ text (codes "b") ∷ [])) ≡ gives (text (codes "a"))
+case_of_case = refl
+
+-- CASE WHEN 1 < 2 THEN 'a' ELSE 'b' END
+less_chosen : (applied (Function.Test Comparison.Less) (number (pos 1) ∷ number (pos 2) ∷ []) >>= λ w. applied Function.Case (w ∷ text (codes "a") ∷ text (codes "b") ∷ [])) ≡ gives (text (codes "a"))
+less_chosen = refl
+
+-- the truth of a test as a value
+not_less : applied (Function.Test Comparison.Less) (number (pos 2) ∷ number (pos 2) ∷ []) ≡ gives (number (pos 0))
+not_less = refl
+
+less_unknown : applied (Function.Test Comparison.Less) (number (pos 1) ∷ null ∷ []) ≡ gives null
+less_unknown = refl
+
+between_one_end : applied Function.IsBetween (number (pos 5) ∷ null ∷ number (pos 3) ∷ []) ≡ gives (number (pos 0))
+between_one_end = refl
+
+among_beside_null : applied Function.IsAmong (number (pos 2) ∷ null ∷ number (pos 2) ∷ []) ≡ gives (number (pos 1))
+among_beside_null = refl
+
+among_unknown : applied Function.IsAmong (number (pos 1) ∷ null ∷ number (pos 2) ∷ []) ≡ gives null
+among_unknown = refl
+
+is_null : applied Function.IsNull (null ∷ []) ≡ gives (number (pos 1))
+is_null = refl
+
+zero_is_not_null : applied Function.IsNull (number (pos 0) ∷ []) ≡ gives (number (pos 0))
+zero_is_not_null = refl
+
+-- NOT of unknown, unknown AND false, unknown OR true
+not_of_unknown : applied Function.Not (null ∷ []) ≡ gives null
+not_of_unknown = refl
+
+unknown_and_false : applied Function.And (null ∷ number (pos 0) ∷ []) ≡ gives (number (pos 0))
+unknown_and_false = refl
+
+unknown_and_true : applied Function.And (null ∷ number (pos 1) ∷ []) ≡ gives null
+unknown_and_true = refl
+
+unknown_or_true : applied Function.Or (null ∷ number (pos 1) ∷ []) ≡ gives (number (pos 1))
+unknown_or_true = refl
+
+-- 'a!b' LIKE 'a!b', and with ESCAPE '!': that pattern is 'ab' then
+like_inside : applied Function.IsLike (text (codes "a!b") ∷ text (codes "a!b") ∷ []) ≡ gives (number (pos 1))
+unfolding chars
+like_inside = refl
+
+like_escaped : applied Function.IsLike (text (codes "a!b") ∷ text (codes "a!b") ∷ text (codes "!") ∷ []) ≡ gives (number (pos 0))
+unfolding chars
+like_escaped = refl
+
+-- what isn't one character escapes nothing
+like_two : applied Function.IsLike (text (codes "a!b") ∷ text (codes "a!b") ∷ text (codes "!!") ∷ []) ≡ gives (number (pos 1))
+unfolding chars
+like_two = refl

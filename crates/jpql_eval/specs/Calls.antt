@@ -1,4 +1,5 @@
--- Functions (chapter 4.7.2 to 4.7.4): of a null argument each is null, but COALESCE and NULLIF.
+-- Functions (chapter 4.7.2 to 4.7.4): of a null argument each is null, but COALESCE, NULLIF, CASE and the
+-- tests inside one.
 use Rattle.std.specs.Prelude.{ℤ, pos, List, [], ◌∷◌, ◌++◌, length, Option, Some, None, option_map, if◌then◌else◌, chars}
 use Rattle.std.specs.StrCase.Lower.{str_to_lowercase}
 use Rattle.std.specs.StrCase.Upper.{str_to_uppercase}
@@ -9,8 +10,9 @@ use Rattle.jpql_tree.specs.declared.Trimmed.{Trimmed}
 use Rattle.jpql_eval.specs.declared.datum.Datum.{Datum}
 use Rattle.jpql_eval.specs.Answers.{Answer, gives}
 use Rattle.jpql_eval.specs.declared.datum.Truth.{Truth}
-use Rattle.jpql_eval.specs.Truths.{truth_of, is_yes}
-use Rattle.jpql_eval.specs.Data.{null, is_nothing, compared}
+use Rattle.jpql_eval.specs.Truths.{truth_of, not3, and3, or3, is_yes}
+use Rattle.jpql_eval.specs.Data.{null, is_nothing, compared, between}
+use Rattle.jpql_eval.specs.Cases.{truth_datum, truth_in, chosen, chosen_of, is_among}
 use Rattle.jpql_eval.specs.Numbers.{number, absolute, modulo}
 use Rattle.jpql_eval.specs.Texts.{Text, substring, locate, is_like}
 use Rattle.jpql_eval.specs.Trims.{trimmed, blank}
@@ -83,6 +85,15 @@ lower_of a = of_one (λ t. text (str_to_lowercase t)) (text_in a)
 abbrev pub trim_of : Trimmed → Datum → Datum → Datum
 trim_of side a off = of_one (λ o. of_one (λ t. text (trimmed side o t)) (text_in a)) (text_in off)
 
+-- LIKE of a null operand is unknown
+abbrev pub of_texts : (Text → Text → Truth) → Option Text → Option Text → Truth
+of_texts judge (Some a) (Some b) = judge a b
+of_texts judge _ _ = Truth.Unknown
+
+-- LIKE of a text and a pattern (chapter 4.6.10)
+abbrev pub like : Option Text → Datum → Datum → Truth
+like escape a pattern = of_texts (λ t p. truth_of (is_like t p escape)) (text_in a) (text_in pattern)
+
 -- of one operand, of two, of three
 abbrev pub of_operand : Function → Datum → Answer Datum
 of_operand Function.Length a = gives (length_of a)
@@ -90,6 +101,8 @@ of_operand Function.Abs a = absolute a
 of_operand Function.Upper a = gives (upper_of a)
 of_operand Function.Lower a = gives (lower_of a)
 of_operand (Function.Trim side) a = gives (trim_of side a (text blank))
+of_operand Function.IsNull a = gives (truth_datum (truth_of (is_nothing a)))
+of_operand Function.Not a = gives (truth_datum (not3 (truth_in a)))
 of_operand _ a = gives null
 
 -- a function of two operands; a function that takes another number gives null
@@ -99,12 +112,18 @@ of_two Function.Locate x a = gives (locate_from x a (number (pos 1)))
 of_two Function.Mod a b = modulo a b
 of_two Function.NullIf a b = gives (null_if a b)
 of_two (Function.Trim side) a off = gives (trim_of side a off)
+of_two (Function.Test op) a b = gives (truth_datum (compared op a b))
+of_two Function.IsLike a pattern = gives (truth_datum (like None a pattern))
+of_two Function.And a b = gives (truth_datum (and3 (truth_in a) (truth_in b)))
+of_two Function.Or a b = gives (truth_datum (or3 (truth_in a) (truth_in b)))
 of_two _ a b = gives null
 
 -- a function of three operands; a function that takes another number gives null
 abbrev pub of_three : Function → Datum → Datum → Datum → Answer Datum
 of_three Function.Substring a from n = gives (substring_upto a from n)
 of_three Function.Locate x a from = gives (locate_from x a from)
+of_three Function.IsBetween a low high = gives (truth_datum (between a low high))
+of_three Function.IsLike a pattern escape = gives (truth_datum (like (text_in escape) a pattern))
 of_three _ a b c = gives null
 
 -- a function of one to three operands; of another number it gives null
@@ -119,13 +138,7 @@ of_some f (a ∷ b ∷ c ∷ d ∷ all) = gives null
 abbrev pub applied : Function → List Datum → Answer Datum
 applied Function.Concat all = gives (of_one text (joined_texts all))
 applied Function.Coalesce all = gives (coalesce all)
+applied Function.Case all = gives (chosen all)
+applied Function.Match all = gives (chosen_of all)
+applied Function.IsAmong all = gives (is_among all)
 applied f all = of_some f all
-
--- LIKE of a null operand is unknown
-abbrev pub of_texts : (Text → Text → Truth) → Option Text → Option Text → Truth
-of_texts judge (Some a) (Some b) = judge a b
-of_texts judge _ _ = Truth.Unknown
-
--- LIKE of a text and a pattern (chapter 4.6.10)
-abbrev pub like : Option Text → Datum → Datum → Truth
-like escape a pattern = of_texts (λ t p. truth_of (is_like t p escape)) (text_in a) (text_in pattern)

@@ -1,6 +1,7 @@
 pub mod Aggregates
 pub mod Answers
 pub mod Calls
+pub mod Cases
 pub mod Data
 pub mod Finds
 pub mod Fronts

@@ -15,9 +15,9 @@ use crate::truths::{and3, or3};
 use jpql_tree::{Against, Comparison};
 use std::alloc::Global;
 
-/// Whether a comparison holds with any of rows.
+/// Whether a comparison holds with any of rows; with any of none it is false. It takes no memory.
 #[tactic(auto, using(crate::proofs::Logic::or3_then, crate::proofs::Logic::or3_no))]
-fn with_any<'a>(comparison: Comparison, value: &Seen<'a>, rows: &[Seen<'a>]) -> Truth
+pub fn with_any<'a>(comparison: Comparison, value: &Seen<'a>, rows: &[Seen<'a>]) -> Truth
     ensures { result ≡ truths.any3 (map (data_.compared comparison (seen value.now))
         (map seen rows.now)) }
 {
@@ -31,9 +31,9 @@ fn with_any<'a>(comparison: Comparison, value: &Seen<'a>, rows: &[Seen<'a>]) -> 
     truth
 }
 
-/// Whether a comparison holds with all of rows.
+/// Whether a comparison holds with all of rows; with all of none it is true. It takes no memory.
 #[tactic(auto, using(crate::proofs::Logic::and3_then, crate::proofs::Logic::and3_yes))]
-fn with_all<'a>(comparison: Comparison, value: &Seen<'a>, rows: &[Seen<'a>]) -> Truth
+pub fn with_all<'a>(comparison: Comparison, value: &Seen<'a>, rows: &[Seen<'a>]) -> Truth
     ensures { result ≡ truths.all3 (map (data_.compared comparison (seen value.now))
         (map seen rows.now)) }
 {

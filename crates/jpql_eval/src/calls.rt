@@ -1,11 +1,12 @@
-//! Functions (chapters 4.7.2 to 4.7.4), and LIKE.
+//! Functions (chapters 4.7.2 to 4.7.4), among them the tests inside a CASE, and LIKE.
 ghost use Rattle.std.specs.Prelude.{◌≡◌, map, IfOk};
 ghost use Rattle.jpql_eval.specs.Answers.{gives};
 ghost use Rattle.jpql_eval.specs.Calls as calls;
 ghost use Rattle.jpql_eval.specs.Finds.{Finds, same};
 ghost use Rattle.jpql_eval.specs.Seen.{seen};
 
-use crate::compare::compared;
+use crate::cases::{chosen_of, is_among, matched, truth_in, truth_value};
+use crate::compare::{between, compared};
 use crate::datum::Truth;
 use crate::failure::Failure;
 use crate::numbers::{absolute, modulo};
@@ -13,7 +14,7 @@ use crate::patterns::is_like;
 use crate::seen::Seen;
 use crate::texts::{length, locate, substring};
 use crate::trims::{lower, trimmed, upper};
-use crate::truths::truth_of;
+use crate::truths::{and3, not3, or3, truth_of};
 use jpa_value::Text;
 use jpql_tree::{Comparison, Function, Trimmed};
 use std::alloc::{AllocError, Global};
@@ -166,6 +167,30 @@ fn trim_of<'a>(
     }
 }
 
+/// The text that an operand is, copied.
+fn copied_text<'a>(alloc: Global, one: &Seen<'a>) -> Result<Option<Text>, AllocError>
+    ensures { IfOk result (λ text. text ≡ calls.text_in (seen one.now)) }
+{
+    match one.text() {
+        None => Ok(None),
+        Some(text) => Ok(Some(Text::of(alloc, text.as_str())?)),
+    }
+}
+
+/// LIKE, where what escapes is an operand: of none and of more than one character none escapes.
+fn like_escaped<'a>(
+    alloc: Global,
+    text: &Seen<'a>,
+    pattern: &Seen<'a>,
+    escape: &Seen<'a>,
+) -> Result<Truth, Failure>
+    ensures { Finds same result (gives (calls.like (calls.text_in (seen escape.now)) (seen text.now)
+        (seen pattern.now))) }
+{
+    let escape = copied_text(alloc, escape)?;
+    like(alloc, &escape, text, pattern)
+}
+
 fn of_operand<'a>(alloc: Global, function: Function, one: &Seen<'a>) -> Result<Seen<'a>, Failure>
     ensures { Finds seen result (calls.of_operand function (seen one.now)) }
 {
@@ -175,12 +200,22 @@ fn of_operand<'a>(alloc: Global, function: Function, one: &Seen<'a>) -> Result<S
         Function::Upper => Ok(upper_of(alloc, one)?),
         Function::Lower => Ok(lower_of(alloc, one)?),
         Function::Trim(sides) => Ok(trim_by(alloc, sides, one, " ")?),
+        Function::IsNull => Ok(truth_value(truth_of(one.is_nothing()))),
+        Function::Not => Ok(truth_value(not3(truth_in(one)))),
         Function::Concat
         | Function::Substring
         | Function::Locate
         | Function::Mod
         | Function::Coalesce
-        | Function::NullIf => Ok(Seen::Null),
+        | Function::NullIf
+        | Function::Case
+        | Function::Match
+        | Function::Test(_)
+        | Function::IsBetween
+        | Function::IsAmong
+        | Function::IsLike
+        | Function::And
+        | Function::Or => Ok(Seen::Null),
     }
 }
 
@@ -198,12 +233,22 @@ fn of_two<'a>(
         Function::Mod => Ok(modulo(one, two)),
         Function::NullIf => Ok(null_if(alloc, one, two)?),
         Function::Trim(sides) => Ok(trim_of(alloc, sides, one, two)?),
+        Function::Test(comparison) => Ok(truth_value(compared(comparison, one, two))),
+        Function::IsLike => Ok(truth_value(like(alloc, &None, one, two)?)),
+        Function::And => Ok(truth_value(and3(truth_in(one), truth_in(two)))),
+        Function::Or => Ok(truth_value(or3(truth_in(one), truth_in(two)))),
         Function::Length
         | Function::Concat
         | Function::Abs
         | Function::Coalesce
         | Function::Upper
-        | Function::Lower => Ok(Seen::Null),
+        | Function::Lower
+        | Function::Case
+        | Function::Match
+        | Function::IsBetween
+        | Function::IsAmong
+        | Function::IsNull
+        | Function::Not => Ok(Seen::Null),
     }
 }
 
@@ -220,6 +265,8 @@ fn of_three<'a>(
     match function {
         Function::Substring => Ok(substring_upto(alloc, one, two, three)?),
         Function::Locate => Ok(locate_from(alloc, one, two, three)?),
+        Function::IsBetween => Ok(truth_value(between(one, two, three))),
+        Function::IsLike => Ok(truth_value(like_escaped(alloc, one, two, three)?)),
         Function::Length
         | Function::Concat
         | Function::Abs
@@ -228,7 +275,15 @@ fn of_three<'a>(
         | Function::NullIf
         | Function::Upper
         | Function::Lower
-        | Function::Trim(_) => Ok(Seen::Null),
+        | Function::Trim(_)
+        | Function::Case
+        | Function::Match
+        | Function::Test(_)
+        | Function::IsAmong
+        | Function::IsNull
+        | Function::And
+        | Function::Or
+        | Function::Not => Ok(Seen::Null),
     }
 }
 
@@ -244,7 +299,8 @@ fn of_some<'a>(alloc: Global, function: Function, all: &[Seen<'a>]) -> Result<Se
     }
 }
 
-/// A function of its operands. Of a null operand it is null, but for COALESCE and NULLIF.
+/// A function of its operands. Of a null operand it is null, but for COALESCE, NULLIF, CASE and the
+/// tests inside one.
 ///
 /// `Overflow` where ABS is outside 64 bits; `Memory` where a growth was refused.
 pub fn applied<'a>(alloc: Global, function: Function, all: &[Seen<'a>]) -> Result<Seen<'a>, Failure>
@@ -253,6 +309,9 @@ pub fn applied<'a>(alloc: Global, function: Function, all: &[Seen<'a>]) -> Resul
     match function {
         Function::Concat => Ok(concat(alloc, all)?),
         Function::Coalesce => Ok(coalesce(alloc, all)?),
+        Function::Case => Ok(matched(alloc, &truth_value(Truth::Yes), all)?),
+        Function::Match => Ok(chosen_of(alloc, all)?),
+        Function::IsAmong => Ok(is_among(all)),
         Function::Length
         | Function::Substring
         | Function::Locate
@@ -261,7 +320,14 @@ pub fn applied<'a>(alloc: Global, function: Function, all: &[Seen<'a>]) -> Resul
         | Function::NullIf
         | Function::Upper
         | Function::Lower
-        | Function::Trim(_) => of_some(alloc, function, all),
+        | Function::Trim(_)
+        | Function::Test(_)
+        | Function::IsBetween
+        | Function::IsLike
+        | Function::IsNull
+        | Function::And
+        | Function::Or
+        | Function::Not => of_some(alloc, function, all),
     }
 }
 

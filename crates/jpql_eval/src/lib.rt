@@ -8,6 +8,7 @@
 mod against;
 mod aggregates;
 mod calls;
+mod cases;
 mod compare;
 mod datum;
 mod failure;
@@ -18,7 +19,7 @@ mod texts;
 mod trims;
 mod truths;
 
-pub use against::judged;
+pub use against::{judged, with_all, with_any};
 pub use aggregates::aggregated;
 pub use calls::{applied, like};
 pub use compare::{between, compared, is_same, is_true, order};

@@ -11,13 +11,13 @@ use Rattle.jpql_tree.specs.declared.Value.{Value}
 use Rattle.jpql_tree.specs.declared.Value.TheVariants as v
 use Rattle.jpql_tree.specs.Names.{Text}
 use Rattle.jpql_grammar.specs.Parts.{plain, taken_text, taken_parameter, unwritten_trimming, sided, unsided}
-use Rattle.jpql_grammar.specs.Grammar.{Value°, sum, no_sums, product, no_times, unsigned, Atom°, text, path, call, Call°, upper, lower, trim, write_value, value_tree}
+use Rattle.jpql_grammar.specs.ValueGrammar.{Value°, sum, no_sums, product, no_times, unsigned, Atom°, text, path, call, Call°, upper, lower, trim, write_value, value_tree}
+use Rattle.jpql_grammar.specs.Values.{variable_at, name_at, names_at, path_at, list_at, others_at, closed, sided_at, unsided_at, trimming_at, trim_at, call_at, atom_at, unary_at, times_at, product_at, sums_at, level_at, value_at}
 use Rattle.jpql_grammar.specs.Text.{keyword_of}
 use Rattle.jpql_grammar.specs.Lexing as lexing
 use Rattle.jpql_grammar.specs.Lexing.{run, quoted_at, digits_at, quotes_at, named_at, numbered_at, mark_at, piece_at, tokens_at}
 use Rattle.jpql_grammar.specs.Values as values
 use Rattle.jpql_tree.specs.Steps.{◌>>=◌}
-use Rattle.jpql_grammar.specs.Values.{variable_at, name_at, names_at, path_at, list_at, others_at, closed, sided_at, unsided_at, trimming_at, trim_at, call_at, atom_at, unary_at, times_at, product_at, sums_at, level_at, value_at}
 
 abbrev tokens : Language → Text → Option (List Token)
 tokens l said = tokens_at l (length said) [] said

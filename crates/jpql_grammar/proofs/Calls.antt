@@ -1,4 +1,4 @@
--- A call begins with a word that calls.
+-- A call, or CASE, begins with a word that calls.
 use Rattle.std.proofs.Common.{◌≡◌, Bool, true, false, List, ◌∷◌, refl, ap}
 use Rattle.jpql_grammar.specs.declared.token.Keyword.{Keyword}
 use Rattle.jpql_grammar.specs.declared.token.Keyword.TheVariants as k
@@ -6,9 +6,9 @@ use Rattle.jpql_grammar.specs.declared.token.Token.{Token}
 use Rattle.jpql_grammar.specs.declared.token.Token.TheVariants as t
 use Rattle.jpql_tree.specs.declared.Aggregate.TheVariants as g
 use Rattle.jpql_tree.specs.Names.{Text}
-use Rattle.jpql_grammar.specs.Grammar.{Call°, length_of, concat, substring_from, substring, locate, locate_from, abs, modulo, size, coalesce, null_if, upper, lower, trim, aggregate, aggregate_distinct, write_call}
-use Rattle.jpql_grammar.specs.Same.{same_keyword}
+use Rattle.jpql_grammar.specs.ValueGrammar.{Call°, length_of, concat, substring_from, substring, locate, locate_from, abs, modulo, size, coalesce, null_if, upper, lower, trim, aggregate, aggregate_distinct, case_when, case_of, write_call}
 use Rattle.jpql_grammar.specs.Values.{is_word}
+use Rattle.jpql_grammar.specs.Same.{same_keyword}
 use Rattle.jpql_grammar.proofs.Tools.{keyword_is}
 
 -- a word that calls
@@ -29,6 +29,7 @@ is_call k.Max = true
 is_call k.Upper = true
 is_call k.Lower = true
 is_call k.Trim = true
+is_call k.Case = true
 is_call _ = false
 
 -- the tokens begin with a word that calls
@@ -58,6 +59,8 @@ call_begins (aggregate_distinct g.Count w d a) rest = (k.Count, w, _, refl, refl
 call_begins (aggregate_distinct g.Sum w d a) rest = (k.Sum, w, _, refl, refl)
 call_begins (aggregate_distinct g.Min w d a) rest = (k.Min, w, _, refl, refl)
 call_begins (aggregate_distinct g.Max w d a) rest = (k.Max, w, _, refl, refl)
+call_begins (case_when w u d v a bs) rest = (k.Case, w, _, refl, refl)
+call_begins (case_of w x u b v a bs) rest = (k.Case, w, _, refl, refl)
 
 -- what is so of all tokens behind such a word is so of a call
 pub of_call : {A : Type 0} (f : List Token → A) (a : A) → ((j : Keyword) (w : Text) (ts : List Token) → is_call j ≡ true → f (t.Key j w ∷ ts) ≡ a)

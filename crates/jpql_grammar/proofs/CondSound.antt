@@ -1,5 +1,6 @@
 -- What is read as a condition or a nested SELECT is written by the grammar, with its tree.
-use Rattle.std.proofs.Common.{◌≡◌, ℕ, zero, suc, Bool, true, false, ◌&&◌, ◌||◌, List, [], ◌∷◌, ◌++◌, map, drop, length, subst, Option, Some, None, refl, ap, sym, ◌∙◌, append-nil, append_assoc}
+use Rattle.std.proofs.Common.{◌≡◌, ℕ, zero, suc, Bool, true, false, not, ◌&&◌, ◌||◌, List, [], ◌∷◌, ◌++◌, map, drop, length, subst, Option, Some, None, refl, ap, sym, ◌∙◌, append-nil, append_assoc}
+use Rattle.jpql_grammar.specs.declared.tested.Tested.{Tested}
 use Rattle.jpql_grammar.specs.declared.token.Keyword.{Keyword}
 use Rattle.jpql_grammar.specs.declared.token.Keyword.TheVariants as k
 use Rattle.jpql_grammar.specs.declared.token.Mark.TheVariants as m
@@ -21,12 +22,17 @@ use Rattle.jpql_tree.specs.declared.Source.{Source, roll-Source}
 use Rattle.jpql_tree.specs.declared.Join.{Join, roll-Join}
 use Rattle.jpql_tree.specs.Names.{Text}
 use Rattle.jpql_grammar.specs.Parts.{Name, name_token, name_text, aggregate_word, every, any, some, write_quantifier, quantifier_tree, turned}
-use Rattle.jpql_grammar.specs.Grammar.{Value°, write_value, write_others, value_tree, comparison_mark, Written, write_word, is_written, write_named, write_optional_name, optional_name, write_item, item_tree, Side, inner, left, write_side, is_left, entity, related, Cond°, cond, no_ors, or, conj, no_ands, and, maybe_not, inside, exists, quantified, among_rows, scalar_right, scalar_left, sub, scalar, Source°, source, Sources°, no_sources, sources, no_joins, joins, join, On°, no_on, on, Where°, no_where, filter, write_cond, write_ors, write_and, write_ands, write_not, write_test, write_sub, write_scalar, write_source, write_sources, write_joins, write_join, write_on, write_where, cond_tree, ors_tree, and_tree, ands_tree, not_tree, test_tree, sub_tree, scalar_tree, source_tree, sources_trees, joins_trees, join_tree, on_tree, where_tree}
-use Rattle.jpql_grammar.specs.Values.{Read, sees, after, is_word, after_word, optional_word, name_at, variable_at, list_at, closed, value_at}
-use Rattle.jpql_grammar.specs.Conditions.{has_test, opens_condition, begins_variable, named_at, optional_name_at, item_at, begins_related, related_at, origin_at, begins_join, side_at, clause_at, join_at, joins_at, source_at, comparison_at, negated_if, sees_comparison, quantifier_at, aggregate_at, operand_at, aggregated_at, opposed_at, begins_rows, selected, rows_follow, ranges_at, block_at, scalar_at, subquery_at, enclosed_at, exists_at, against_at, scalar_first_at, beside_at, among_rows_at, follows_at, valued_at, simple_at, test_at, not_at, ands_at, and_at, ors_at, cond_level_at, cond_at}
-use Rattle.jpql_grammar.proofs.Tools.{step, choice, same, sees_is, after_is, word_is, after_word_is, optional_word_is, name_sound, variable_sound}
-use Rattle.jpql_grammar.proofs.TestsSound.{both, comparison_sound, negated_is, tested_sound, typed_sound}
-use Rattle.jpql_grammar.proofs.ValuesSound.{Wrote, value_sound, list_sound, closed_sound, write_list, list_trees, write_closed, nothing, leaf}
+use Rattle.jpql_grammar.specs.Tests.{condition_of, comparison_mark, Written, write_word, is_written, negated_if}
+use Rattle.jpql_grammar.specs.ValueGrammar.{Value°, write_value, value_tree}
+use Rattle.jpql_grammar.specs.Nesting.{past_close}
+use Rattle.jpql_grammar.specs.Grammar.{write_others, write_named, write_optional_name, optional_name, write_item, item_tree, Side, inner, left, write_side, is_left, entity, related, Cond°, cond, no_ors, or, conj, no_ands, and, maybe_not, inside, tested, exists, quantified, among_rows, scalar_right, scalar_left, sub, scalar, Source°, source, Sources°, no_sources, sources, no_joins, joins, join, On°, no_on, on, Where°, no_where, filter, write_cond, write_ors, write_and, write_ands, write_not, write_test, write_sub, write_scalar, write_source, write_sources, write_joins, write_join, write_on, write_where, cond_tree, ors_tree, and_tree, ands_tree, not_tree, test_tree, sub_tree, scalar_tree, source_tree, sources_trees, joins_trees, join_tree, on_tree, where_tree}
+use Rattle.jpql_grammar.specs.Values.{goes_on_at, tested_at, Read, sees, after, is_word, after_word, optional_word, name_at, variable_at, list_at, closed, value_at, opens_condition, comparison_at, sees_comparison}
+use Rattle.jpql_grammar.specs.Conditions.{path_follows, value_tested_at, begins_variable, named_at, optional_name_at, item_at, begins_related, related_at, origin_at, begins_join, side_at, clause_at, join_at, joins_at, source_at, quantifier_at, aggregate_at, operand_at, aggregated_at, opposed_at, begins_rows, selected, rows_follow, ranges_at, block_at, scalar_at, subquery_at, enclosed_at, exists_at, against_at, scalar_first_at, beside_at, among_rows_at, follows_at, valued_at, simple_at, test_at, not_at, ands_at, and_at, ors_at, cond_level_at, cond_at}
+use Rattle.jpql_grammar.proofs.Tools.{step, choice, both, same, sees_is, after_is, word_is, after_word_is, optional_word_is, name_sound, variable_sound}
+use Rattle.jpql_grammar.proofs.TestsSound.{negated_is, path_tested_sound, typed_sound}
+use Rattle.jpql_grammar.proofs.TestedSound.{Asks, comparison_sound, tested_sound}
+use Rattle.jpql_grammar.proofs.PartsSound.{Wrote, list_sound, closed_sound, write_list, list_trees, write_closed, nothing, leaf}
+use Rattle.jpql_grammar.proofs.ValuesSound.{value_sound}
 
 -- ---- names, items, relations
 
@@ -422,12 +428,18 @@ module _ (n : ℕ) (below : Read Condition) (nested : (ts : List Token) (x : Con
       step (after_word k.In neg.1) _ _ h (λ more em hm. step (subquery_at n below more) _ _ hm (λ b eb hb.
       among_rows_glued d ts neg.1 more neg.0 b x (optional_word_is k.Not ts) (after_word_is k.In neg.1 more em) (subquery_sound more b eb) hb))
 
+  tested_glued : (d : Value°) (ts : List Token) (y : Tested × List Token) (x : Condition × List Token) → Asks d ts y
+      → Some (condition_of y.0, y.1) ≡ Some x → Wrote write_test test_tree (write_value d ts) x
+  tested_glued d ts y x (z, ez, tz) h = leaf write_test test_tree (tested z) (condition_of y.0) y.1 (write_value d ts) x h ez (rw tz)
+
   follows_sound : (d : Value°) (ts : List Token) (x : Condition × List Token) → follows_at n below (value_tree d) (begins_variable (write_value d ts)) ts ≡ Some x
       → Wrote write_test test_tree (write_value d ts) x
-  unfolding follows_at
+  unfolding follows_at value_tested_at
   follows_sound d ts x h = choice (rows_follow ts) _ _ _ h
       (λ b h1. choice (sees_comparison ts) _ _ _ h1 (λ b h2. beside_sound d ts x h2) (λ b h2. among_rows_sound d ts x h2))
-      (λ b h1. tested_sound n d ts x h1)
+      (λ b h1. choice (path_follows ts) _ _ _ h1
+      (λ b h2. path_tested_sound d ts x h2)
+      (λ b h2. step (tested_at (value_at n) (value_tree d) ts) _ _ h2 (λ y ey hy. tested_glued d ts y x (tested_sound (value_at n) (value_sound n) d ts y ey) hy)))
 
   valued_glued : (ts : List Token) (a : Value × List Token) (x : Condition × List Token) → Wrote write_value value_tree ts a
       → follows_at n below a.0 (begins_variable ts) a.1 ≡ Some x → Wrote write_test test_tree ts x
@@ -448,7 +460,7 @@ module _ (n : ℕ) (below : Read Condition) (nested : (ts : List Token) (x : Con
   test_sound ts x h = choice (begins_rows ts) _ _ _ h
       (λ b h1. scalar_first_sound ts x h1)
       (λ b h1. choice (opens_condition ts) _ _ _ h1
-      (λ b h2. both (sees m.Open ts) (has_test 0 false (drop 1 ts)) b (λ o u.
+      (λ b h2. both (sees m.Open ts) (not (goes_on_at (past_close 0 (drop 1 ts)))) b (λ o u.
       inside_glued ts x o (closed_sound write_cond cond_tree (drop 1 ts) (below (drop 1 ts)) (nested (drop 1 ts)) x h2)))
       (λ b h2. choice (is_word k.Exists ts) _ _ _ h2
       (λ b h3. let (w, ew) = word_is k.Exists ts b in subst (λ us. Wrote write_test test_tree us x) ew (exists_sound w (drop 1 ts) x h3))

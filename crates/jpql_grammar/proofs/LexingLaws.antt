@@ -10,9 +10,7 @@ use Rattle.jpql_grammar.specs.declared.token.Token.{Token}
 use Rattle.jpql_tree.specs.Names.{Text}
 use Rattle.jpql_grammar.specs.Text.{is_blank, begins_word, is_in_word, begins, digits_value, greatest_integer, doubled, mark_text, lengthens, Piece, blank, bare, digits, quoted, named, numbered, mark, write_piece, Spelled, piece_tokens, write_pieces, AllSpelled, tokens_of, IsText}
 use Rattle.jpql_grammar.specs.Lexing.{run, quoted_at, less_of, greater_of, mark_of, mark_length, first, word_at, digits_at, quotes_at, named_at, numbered_at, mark_at, piece_at, tokens_at}
-use Rattle.jpql_grammar.proofs.Tools.{step, choice, same}
-use Rattle.jpql_grammar.proofs.TestsSound.{both}
-use Rattle.jpql_grammar.proofs.Skips.{neither}
+use Rattle.jpql_grammar.proofs.Tools.{both, neither, step, choice, same}
 
 -- ---- runs
 

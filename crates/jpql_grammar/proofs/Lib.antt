@@ -1,8 +1,14 @@
 pub mod Skips
-pub mod Scan
 pub mod Tools
 pub mod Calls
+pub mod Behind
+pub mod PartsComplete
+pub mod TestedComplete
+pub mod WhensComplete
 pub mod ValuesComplete
+pub mod PartsSound
+pub mod TestedSound
+pub mod WhensSound
 pub mod ValuesSound
 pub mod TestsSound
 pub mod CondSound
@@ -13,7 +19,6 @@ pub mod StatementsComplete
 pub mod One
 pub mod LexingLaws
 pub mod NestingLaws
-pub mod ListsNest
 pub mod Queries
 pub mod Words
 mod Samples
@@ -21,3 +26,4 @@ mod CallSamples
 mod KeySamples
 mod ListSamples
 mod RowSamples
+mod CaseSamples

@@ -17,8 +17,8 @@ use Rattle.jpql_grammar.specs.Lexing as lexing
 use Rattle.jpql_grammar.specs.Lexing.{run, quoted_at, digits_at, quotes_at, named_at, numbered_at, mark_at, piece_at, tokens_at}
 use Rattle.jpql_grammar.specs.Lists.{value_name, spread_from, spread, stands_from, are_used}
 use Rattle.jpql_grammar.specs.Values as values
-use Rattle.jpql_grammar.specs.Values.{variable_at, name_at, names_at, path_at, list_at, others_at, closed, sided_at, unsided_at, trimming_at, trim_at, call_at, atom_at, unary_at, times_at, product_at, sums_at, level_at, value_at}
-use Rattle.jpql_grammar.specs.Conditions.{comparison_at, compared_at, among_at, worded_at, tested_at, follows_at, valued_at, simple_at, cond_at}
+use Rattle.jpql_grammar.specs.Values.{variable_at, name_at, names_at, path_at, list_at, others_at, closed, sided_at, unsided_at, trimming_at, trim_at, call_at, atom_at, unary_at, times_at, product_at, sums_at, level_at, value_at, comparison_at, compared_at, among_at, worded_at, tested_at}
+use Rattle.jpql_grammar.specs.Conditions.{value_tested_at, follows_at, valued_at, simple_at, cond_at}
 
 abbrev tokens : Language → Text → Option (List Token)
 tokens l said = tokens_at l (length said) [] said
@@ -49,42 +49,42 @@ first_name : value_name (codes "p") 1 ≡ codes "p,1"
 first_name = rw (decimal_digit 1 (omega arith)) refl
 
 bare_list : read two (codes "n IN :p") ≡ Some (is.In n (both (codes "p")), [])
-unfolding run named_at mark_at piece_at tokens_at keyword_of lexing.word_at values.word_at variable_at name_at names_at path_at list_at others_at closed atom_at unary_at times_at product_at sums_at level_at value_at among_at worded_at tested_at follows_at valued_at simple_at spread_from
+unfolding run named_at mark_at piece_at tokens_at keyword_of lexing.word_at values.word_at variable_at name_at names_at path_at list_at others_at closed atom_at unary_at times_at product_at sums_at level_at value_at among_at worded_at tested_at value_tested_at follows_at valued_at simple_at spread_from
 bare_list = refl
 
 list_in_parentheses : read two (codes "n NOT IN (:p)") ≡ Some (is.Not (is.In n (both (codes "p"))), [])
-unfolding run named_at mark_at piece_at tokens_at keyword_of lexing.word_at values.word_at variable_at name_at names_at path_at list_at others_at closed atom_at unary_at times_at product_at sums_at level_at value_at among_at worded_at tested_at follows_at valued_at simple_at spread_from
+unfolding run named_at mark_at piece_at tokens_at keyword_of lexing.word_at values.word_at variable_at name_at names_at path_at list_at others_at closed atom_at unary_at times_at product_at sums_at level_at value_at among_at worded_at tested_at value_tested_at follows_at valued_at simple_at spread_from
 list_in_parentheses = refl
 
 numbered_list : read (record { name = codes "1"; count = 2 } ∷ []) (codes "n IN ?1") ≡ Some (is.In n (both (codes "1")), [])
-unfolding run named_at numbered_at mark_at piece_at tokens_at keyword_of lexing.word_at values.word_at variable_at name_at names_at path_at list_at others_at closed atom_at unary_at times_at product_at sums_at level_at value_at among_at worded_at tested_at follows_at valued_at simple_at spread_from
+unfolding run named_at numbered_at mark_at piece_at tokens_at keyword_of lexing.word_at values.word_at variable_at name_at names_at path_at list_at others_at closed atom_at unary_at times_at product_at sums_at level_at value_at among_at worded_at tested_at value_tested_at follows_at valued_at simple_at spread_from
 numbered_list = refl
 
 -- no values: nothing is among them
 empty_list : read none (codes "n IN :p") ≡ Some (is.In n [], [])
-unfolding run named_at mark_at piece_at tokens_at keyword_of lexing.word_at values.word_at variable_at name_at names_at path_at list_at others_at closed atom_at unary_at times_at product_at sums_at level_at value_at among_at worded_at tested_at follows_at valued_at simple_at spread_from
+unfolding run named_at mark_at piece_at tokens_at keyword_of lexing.word_at values.word_at variable_at name_at names_at path_at list_at others_at closed atom_at unary_at times_at product_at sums_at level_at value_at among_at worded_at tested_at value_tested_at follows_at valued_at simple_at spread_from
 empty_list = refl
 
 empty_in_parentheses : read none (codes "n NOT IN (:p)") ≡ Some (is.Not (is.In n []), [])
-unfolding run named_at mark_at piece_at tokens_at keyword_of lexing.word_at values.word_at variable_at name_at names_at path_at list_at others_at closed atom_at unary_at times_at product_at sums_at level_at value_at among_at worded_at tested_at follows_at valued_at simple_at spread_from
+unfolding run named_at mark_at piece_at tokens_at keyword_of lexing.word_at values.word_at variable_at name_at names_at path_at list_at others_at closed atom_at unary_at times_at product_at sums_at level_at value_at among_at worded_at tested_at value_tested_at follows_at valued_at simple_at spread_from
 empty_in_parentheses = refl
 
 -- a parameter that is no list is a value, and stands in parentheses
 plain_in_parentheses : read [] (codes "n IN (:p)") ≡ Some (is.In n (v.Parameter (codes "p") ∷ []), [])
-unfolding run named_at mark_at piece_at tokens_at keyword_of lexing.word_at values.word_at variable_at name_at names_at path_at list_at others_at closed atom_at unary_at times_at product_at sums_at level_at value_at among_at worded_at tested_at follows_at valued_at simple_at spread_from
+unfolding run named_at mark_at piece_at tokens_at keyword_of lexing.word_at values.word_at variable_at name_at names_at path_at list_at others_at closed atom_at unary_at times_at product_at sums_at level_at value_at among_at worded_at tested_at value_tested_at follows_at valued_at simple_at spread_from
 plain_in_parentheses = refl
 
 plain_bare : read [] (codes "n IN :p") ≡ None
-unfolding run named_at mark_at piece_at tokens_at keyword_of lexing.word_at values.word_at variable_at name_at names_at path_at list_at others_at closed atom_at unary_at times_at product_at sums_at level_at value_at among_at worded_at tested_at follows_at valued_at simple_at spread_from
+unfolding run named_at mark_at piece_at tokens_at keyword_of lexing.word_at values.word_at variable_at name_at names_at path_at list_at others_at closed atom_at unary_at times_at product_at sums_at level_at value_at among_at worded_at tested_at value_tested_at follows_at valued_at simple_at spread_from
 plain_bare = refl
 
 -- beside other values, and at other places, a list doesn't stand for its values
 among_others : read two (codes "n IN (:p, :q)") ≡ Some (is.In n (v.Parameter (codes "p") ∷ v.Parameter (codes "q") ∷ []), [])
-unfolding run named_at mark_at piece_at tokens_at keyword_of lexing.word_at values.word_at variable_at name_at names_at path_at list_at others_at closed atom_at unary_at times_at product_at sums_at level_at value_at among_at worded_at tested_at follows_at valued_at simple_at spread_from
+unfolding run named_at mark_at piece_at tokens_at keyword_of lexing.word_at values.word_at variable_at name_at names_at path_at list_at others_at closed atom_at unary_at times_at product_at sums_at level_at value_at among_at worded_at tested_at value_tested_at follows_at valued_at simple_at spread_from
 among_others = refl
 
 compared : read two (codes "n = :p") ≡ Some (is.Compare c.Equal n (v.Parameter (codes "p")), [])
-unfolding run named_at mark_at piece_at tokens_at keyword_of lexing.word_at values.word_at variable_at name_at names_at path_at list_at others_at closed atom_at unary_at times_at product_at sums_at level_at value_at comparison_at compared_at tested_at follows_at valued_at simple_at spread_from
+unfolding run named_at mark_at piece_at tokens_at keyword_of lexing.word_at values.word_at variable_at name_at names_at path_at list_at others_at closed atom_at unary_at times_at product_at sums_at level_at value_at comparison_at compared_at tested_at value_tested_at follows_at valued_at simple_at spread_from
 compared = refl
 
 -- parentheses with nothing in them are no text, in both languages

@@ -1,5 +1,5 @@
 -- A text has at most one list of tokens, and at most one tree.
-use Rattle.std.proofs.Common.{◌≡◌, false, List, Option, Some, ap, sym, ◌∙◌, subst}
+use Rattle.std.proofs.Common.{◌≡◌, List, Option, Some, ap, sym, ◌∙◌, subst}
 use Rattle.jpql_tree.specs.declared.Language.{Language}
 use Rattle.jpql_grammar.specs.declared.lists.GivenList.{GivenList}
 use Rattle.jpql_grammar.specs.declared.token.Token.{Token}
@@ -8,14 +8,11 @@ use Rattle.jpql_tree.specs.Names.{Text}
 use Rattle.jpql_tree.specs.Steps.{◌>>=◌}
 use Rattle.jpql_grammar.specs.Grammar.{IsStatement}
 use Rattle.jpql_grammar.specs.Text.{IsText}
-use Rattle.jpql_grammar.specs.Statements.{whole_at}
-use Rattle.jpql_grammar.specs.Limits.{nests_over}
+use Rattle.jpql_grammar.specs.Statements.{statement_of}
 use Rattle.jpql_grammar.specs.Lists.{spread}
 use Rattle.jpql_grammar.specs.Queries.{IsQuery}
 use Rattle.jpql_grammar.proofs.Tools.{same}
 use Rattle.jpql_grammar.proofs.LexingLaws.{tokens_complete}
-use Rattle.jpql_grammar.proofs.NestingLaws.{text_nests}
-use Rattle.jpql_grammar.proofs.ListsNest.{spread_below}
 use Rattle.jpql_grammar.proofs.One.{one_tree, is_read}
 
 pub one_list : (l : Language) (text : Text) (a b : List Token) → IsText l text a → IsText l text b → a ≡ b
@@ -29,10 +26,9 @@ pub one_query : (l : Language) (lists : List GivenList) (text : Text) (x y : Que
 one_query l lists text x y (_, (a, s, ta, ea, sa)) (_, (b, u, tb, eb, sb)) =
     one_tree u x y (subst (λ ts. IsStatement ts x) (one_spread lists a b s u (one_list l text a b ta tb) ea eb) sa) sb
 
--- the tokens of a query within the limit are read as it
-pub query_read : (l : Language) (lists : List GivenList) (text : Text) (tokens : List Token) (x : Query) → nests_over 32 false 0 text ≡ false → IsText l text tokens → IsQuery l lists text x
-    → (spread lists tokens >>= whole_at 35) ≡ Some x
-query_read l lists text tokens x h t (_, (a, s, ta, ea, sa)) =
+-- the tokens of a query are read as it
+pub query_read : (l : Language) (lists : List GivenList) (text : Text) (tokens : List Token) (x : Query) → IsText l text tokens → IsQuery l lists text x
+    → (spread lists tokens >>= statement_of) ≡ Some x
+query_read l lists text tokens x t (_, (a, s, ta, ea, sa)) =
     let is = ap (spread lists) (one_list l text tokens a t ta) ∙ ea in
-    let deep = spread_below lists 32 tokens s (sym (text_nests l 32 text tokens t) ∙ h) is in
-    ap (λ (o : Option (List Token)). o >>= whole_at 35) is ∙ is_read s x deep sa
+    ap (λ (o : Option (List Token)). o >>= statement_of) is ∙ is_read s x sa

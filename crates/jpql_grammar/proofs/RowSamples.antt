@@ -19,13 +19,15 @@ use Rattle.jpql_tree.specs.declared.Query.TheVariants as q
 use Rattle.jpql_tree.specs.Names.{Text}
 use Rattle.jpql_tree.specs.Steps.{◌>>=◌}
 use Rattle.jpql_grammar.specs.Parts.{plain, every, any, some}
-use Rattle.jpql_grammar.specs.Grammar.{Value°, sum, no_sums, product, no_times, unsigned, path, entity, Test°, quantified, among_rows, scalar_right, scalar_left, Sub°, sub, Scalar°, scalar, Source°, source, no_sources, no_joins, no_where, write_test, test_tree}
+use Rattle.jpql_grammar.specs.ValueGrammar.{Value°, sum, no_sums, product, no_times, unsigned, path}
+use Rattle.jpql_grammar.specs.Nesting.{past_close}
+use Rattle.jpql_grammar.specs.Grammar.{entity, Test°, quantified, among_rows, scalar_right, scalar_left, Sub°, sub, Scalar°, scalar, Source°, source, no_sources, no_joins, no_where, write_test, test_tree}
+use Rattle.jpql_grammar.specs.Values.{variable_at, name_at, names_at, path_at, list_at, others_at, closed, atom_at, unary_at, times_at, product_at, sums_at, level_at, value_at, comparison_at, compared_at, tested_at}
+use Rattle.jpql_grammar.specs.Conditions.{value_tested_at, quantifier_at, aggregate_at, operand_at, aggregated_at, opposed_at, named_at, optional_name_at, item_at, origin_at, clause_at, joins_at, source_at, ranges_at, block_at, scalar_at, subquery_at, enclosed_at, against_at, scalar_first_at, beside_at, among_rows_at, follows_at, valued_at, simple_at, test_at, not_at, ands_at, and_at, ors_at, cond_level_at, cond_at}
 use Rattle.jpql_grammar.specs.Text.{keyword_of}
 use Rattle.jpql_grammar.specs.Lexing as lexing
 use Rattle.jpql_grammar.specs.Lexing.{run, mark_at, piece_at, tokens_at}
 use Rattle.jpql_grammar.specs.Values as values
-use Rattle.jpql_grammar.specs.Values.{variable_at, name_at, names_at, path_at, list_at, others_at, closed, atom_at, unary_at, times_at, product_at, sums_at, level_at, value_at}
-use Rattle.jpql_grammar.specs.Conditions.{has_test, comparison_at, compared_at, tested_at, quantifier_at, aggregate_at, operand_at, aggregated_at, opposed_at, named_at, optional_name_at, item_at, origin_at, clause_at, joins_at, source_at, ranges_at, block_at, scalar_at, subquery_at, enclosed_at, against_at, scalar_first_at, beside_at, among_rows_at, follows_at, valued_at, simple_at, test_at, not_at, ands_at, and_at, ors_at, cond_level_at, cond_at}
 use Rattle.jpql_grammar.specs.Statements.{by_at, select_at, statement_at, whole_at}
 use Rattle.jpql_grammar.specs.Queries.{speaks}
 
@@ -108,7 +110,7 @@ scalar_before = (refl, refl, refl)
 
 -- parentheses around it leave no node
 in_parentheses : read (codes "((SELECT MAX(b) FROM E b) < a)") ≡ Some (is.Rows (against.One g.Max false) c.Greater a rows, [])
-unfolding run mark_at piece_at tokens_at keyword_of lexing.word_at variable_at name_at names_at path_at list_at others_at closed values.word_at atom_at unary_at times_at product_at sums_at level_at value_at has_test comparison_at aggregate_at operand_at aggregated_at opposed_at named_at origin_at clause_at joins_at source_at ranges_at scalar_at enclosed_at scalar_first_at test_at not_at ands_at and_at ors_at cond_level_at cond_at
+unfolding run mark_at piece_at tokens_at keyword_of lexing.word_at variable_at name_at names_at path_at list_at others_at closed values.word_at atom_at unary_at times_at product_at sums_at level_at value_at past_close comparison_at aggregate_at operand_at aggregated_at opposed_at named_at origin_at clause_at joins_at source_at ranges_at scalar_at enclosed_at scalar_first_at test_at not_at ands_at and_at ors_at cond_level_at cond_at
 in_parentheses = refl
 
 -- one row's value beside a comparison is no aggregate, and is not read
@@ -139,5 +141,5 @@ exists_speak = (search (rules, condition.the_lemmas), search (rules, condition.t
 
 -- in the profile ALL is a name, and what stands behind it isn't read
 all_is_a_name : (tokens language.Profile (codes "SELECT a FROM E a WHERE a < ALL (SELECT b FROM E b)") >>= whole_at 4) ≡ None
-unfolding run mark_at piece_at tokens_at keyword_of lexing.word_at variable_at name_at names_at path_at list_at others_at closed values.word_at atom_at unary_at times_at product_at sums_at level_at value_at comparison_at compared_at tested_at named_at optional_name_at item_at origin_at clause_at joins_at source_at follows_at valued_at simple_at test_at not_at ands_at and_at ors_at cond_level_at cond_at by_at select_at statement_at whole_at
+unfolding run mark_at piece_at tokens_at keyword_of lexing.word_at variable_at name_at names_at path_at list_at others_at closed values.word_at atom_at unary_at times_at product_at sums_at level_at value_at comparison_at compared_at tested_at value_tested_at named_at optional_name_at item_at origin_at clause_at joins_at source_at follows_at valued_at simple_at test_at not_at ands_at and_at ors_at cond_level_at cond_at by_at select_at statement_at whole_at
 all_is_a_name = refl

@@ -1,5 +1,6 @@
--- What the grammar writes has parentheses that close one another: no deeper after it than before it, and no tokens fewer.
-use Rattle.std.proofs.Common.{◌≡◌, ℕ, zero, suc, ◌≤◌, Bool, true, false, ◌||◌, List, [], ◌∷◌, length, Option, Some, None, refl, arith, ℤ}
+-- What the grammar writes has parentheses that close one another, and is passed over where a parenthesis
+-- is sought that closes.
+use Rattle.std.proofs.Common.{◌≡◌, ◌∙◌, ℕ, zero, suc, ◌≤◌, false, List, [], ◌∷◌, length, Option, Some, None, refl, arith, ℤ}
 use Rattle.jpql_grammar.specs.declared.token.Keyword.{Keyword}
 use Rattle.jpql_grammar.specs.declared.token.Keyword.TheVariants as k
 use Rattle.jpql_grammar.specs.declared.token.Mark.{Mark}
@@ -9,10 +10,12 @@ use Rattle.jpql_grammar.specs.declared.token.Token.TheVariants as t
 use Rattle.jpql_tree.specs.declared.Comparison.{Comparison}
 use Rattle.jpql_tree.specs.declared.Comparison.TheVariants as c
 use Rattle.jpql_grammar.specs.Same.{same_mark}
-use Rattle.jpql_grammar.specs.Nesting.{too_deep}
+use Rattle.jpql_grammar.specs.Tests.{Written, write_word, comparison_mark, write_escape}
+use Rattle.jpql_grammar.specs.ValueGrammar.{Value°, sum, Sums°, no_sums, plus, minus, Product°, product, Times°, no_times, times, Unary°, unsigned, positive, negative, Atom°, integer, text, parameter, path, call, group, Call°, length_of, concat, substring_from, substring, locate, locate_from, abs, modulo, size, coalesce, null_if, upper, lower, trim, aggregate, aggregate_distinct, More°, no_more, more, write_value, write_sums, write_product, write_times, write_unary, write_atom, write_call, write_more, compare, between, among, among_none, like, null, case_when, case_of, Branches°, no_branches, branches, Matches°, no_matches, matches, When°, when, WhenOrs°, no_when_ors, when_or, WhenAnd°, when_conj, WhenAnds°, no_when_ands, when_and, WhenNot°, maybe_when_not, WhenTest°, when_inside, when_tested, Tested°, write_branches, write_matches, write_when, write_when_ors, write_when_and, write_when_ands, write_when_not, write_when_test, write_tested}
+use Rattle.jpql_grammar.specs.Nesting.{past_close}
+use Rattle.jpql_grammar.specs.Grammar.{Named, write_named, write_optional_name, Item°, write_item, write_others, Side, inner, left, write_side, Range, entity, related, write_range, Cond°, cond, Ors°, no_ors, or, And°, conj, Ands°, no_ands, and, Not°, maybe_not, Test°, inside, tested, empty, member, exists, quantified, among_rows, scalar_right, scalar_left, type_is, type_is_not, type_among, Sub°, sub, Scalar°, scalar, Source°, source, Sources°, no_sources, sources, Joins°, no_joins, joins, Join°, join, On°, no_on, on, Where°, no_where, filter, write_cond, write_ors, write_and, write_ands, write_not, write_test, write_sub, write_scalar, write_source, write_sources, write_joins, write_join, write_on, write_where, Direction, unwritten, ascending, descending, write_direction, Key°, write_key, Clause, no_clause, clause, write_clause, Having°, no_having, having, write_having, Set°, to_value, to_null, write_set, From°, from_entity, write_from}
 use Rattle.jpql_tree.specs.Names.{Text}
 use Rattle.jpql_grammar.specs.Parts.{Name, plain, word, name_token, Steps, write_names, write_path, Taken°, taken_text, taken_parameter, Trimming°, unwritten_trimming, sided, unsided, write_taken, write_trimming, Quantifier°, every, any, some, write_quantifier}
-use Rattle.jpql_grammar.specs.Grammar.{Value°, sum, Sums°, no_sums, plus, minus, Product°, product, Times°, no_times, times, Unary°, unsigned, positive, negative, Atom°, integer, text, parameter, path, call, group, Call°, length_of, concat, substring_from, substring, locate, locate_from, abs, modulo, size, coalesce, null_if, upper, lower, trim, aggregate, aggregate_distinct, More°, no_more, more, write_value, write_sums, write_product, write_times, write_unary, write_atom, write_call, write_more, Written, write_word, Named, write_named, write_optional_name, Item°, write_item, write_others, comparison_mark, write_escape, Side, inner, left, write_side, Range, entity, related, write_range, Cond°, cond, Ors°, no_ors, or, And°, conj, Ands°, no_ands, and, Not°, maybe_not, Test°, inside, compare, between, among, among_none, like, null, empty, member, exists, quantified, among_rows, scalar_right, scalar_left, type_is, type_is_not, type_among, Sub°, sub, Scalar°, scalar, Source°, source, Sources°, no_sources, sources, Joins°, no_joins, joins, Join°, join, On°, no_on, on, Where°, no_where, filter, write_cond, write_ors, write_and, write_ands, write_not, write_test, write_sub, write_scalar, write_source, write_sources, write_joins, write_join, write_on, write_where, Direction, unwritten, ascending, descending, write_direction, Key°, write_key, Clause, no_clause, clause, write_clause, Having°, no_having, having, write_having, Set°, to_value, to_null, write_set, From°, from_entity, write_from}
 
 abbrev pub opened : List Token → List Token
 opened rest = t.Mark m.Open ∷ rest
@@ -25,68 +28,82 @@ comma rest = t.Mark m.Comma ∷ rest
 
 -- from these tokens on to those after a part of them
 pub record Skips (ts rest : List Token) : Type 0 where
-  pub shallow : (most k : ℕ) → too_deep most k ts ≡ false → too_deep most k rest ≡ false
   pub long : length rest ≤ length ts
+  pub past : (d : ℕ) → past_close d ts ≡ past_close d rest
 
 pub stay : {ts : List Token} → Skips ts ts
-stay = record { shallow = λ most k e. e; long = omega arith }
+stay = record { long = omega arith; past = λ d. refl }
 
 pub chain : {ts mid rest : List Token} → Skips ts mid → Skips mid rest → Skips ts rest
-chain a b = record { shallow = λ most k e. b.shallow most k (a.shallow most k e); long = omega (arith, a.long, b.long) }
+chain a b = record { long = omega (arith, a.long, b.long); past = λ d. a.past d ∙ b.past d }
 
 -- over a token that is no parenthesis
-pub pass : {x : Token} {ts rest : List Token} → ((most k : ℕ) → too_deep most k (x ∷ ts) ≡ too_deep most k ts) → Skips ts rest → Skips (x ∷ ts) rest
-pass {ts} e a = record { shallow = λ most k h. a.shallow most k (rw (← e most k) h); long = omega (arith, a.long) }
-
-pub neither : {a b : Bool} → (a || b) ≡ false → (a ≡ false) × (b ≡ false)
-neither {a = true} e = absurd cc
-neither {a = false} e = (refl, e)
+pub pass : {x : Token} {ts rest : List Token} → ((d : ℕ) → past_close d (x ∷ ts) ≡ past_close d ts) → Skips ts rest → Skips (x ∷ ts) rest
+pass {ts} e a = record { long = omega (arith, a.long); past = λ d. e d ∙ a.past d }
 
 -- over a parenthesis and the one that closes it
 pub over : {ts mid rest : List Token} → Skips ts (close mid) → Skips mid rest → Skips (opened ts) rest
-unfolding too_deep
-over a b = record { shallow = λ most k h. b.shallow most k (a.shallow most (suc k) (neither h).1); long = omega (arith, a.long, b.long) }
+unfolding past_close
+over a b = record { long = omega (arith, a.long, b.long); past = λ d. a.past (suc d) ∙ b.past d }
 
-key_past : (j : Keyword) (w : Text) (ts : List Token) (most k : ℕ) → too_deep most k (t.Key j w ∷ ts) ≡ too_deep most k ts
-unfolding too_deep
-key_past j w ts most zero = refl
-key_past j w ts most (suc k) = refl
+key_past : (j : Keyword) (w : Text) (ts : List Token) (d : ℕ) → past_close d (t.Key j w ∷ ts) ≡ past_close d ts
+unfolding past_close
+key_past j w ts zero = refl
+key_past j w ts (suc d) = refl
 
 pub key : {j : Keyword} {w : Text} {ts rest : List Token} → Skips ts rest → Skips (t.Key j w ∷ ts) rest
 key {j} {w} {ts} a = pass (key_past j w ts) a
 
-bare_past : (w : Text) (ts : List Token) (most k : ℕ) → too_deep most k (t.Word w ∷ ts) ≡ too_deep most k ts
-unfolding too_deep
-bare_past w ts most zero = refl
-bare_past w ts most (suc k) = refl
+bare_past : (w : Text) (ts : List Token) (d : ℕ) → past_close d (t.Word w ∷ ts) ≡ past_close d ts
+unfolding past_close
+bare_past w ts zero = refl
+bare_past w ts (suc d) = refl
 
 pub bare : {w : Text} {ts rest : List Token} → Skips ts rest → Skips (t.Word w ∷ ts) rest
 bare {w} {ts} a = pass (bare_past w ts) a
 
-number_past : (n : ℤ) (ts : List Token) (most k : ℕ) → too_deep most k (t.Number n ∷ ts) ≡ too_deep most k ts
-unfolding too_deep
-number_past n ts most zero = refl
-number_past n ts most (suc k) = refl
+number_past : (n : ℤ) (ts : List Token) (d : ℕ) → past_close d (t.Number n ∷ ts) ≡ past_close d ts
+unfolding past_close
+number_past n ts zero = refl
+number_past n ts (suc d) = refl
 
-quoted_past : (w : Text) (ts : List Token) (most k : ℕ) → too_deep most k (t.Quoted w ∷ ts) ≡ too_deep most k ts
-unfolding too_deep
-quoted_past w ts most zero = refl
-quoted_past w ts most (suc k) = refl
+quoted_past : (w : Text) (ts : List Token) (d : ℕ) → past_close d (t.Quoted w ∷ ts) ≡ past_close d ts
+unfolding past_close
+quoted_past w ts zero = refl
+quoted_past w ts (suc d) = refl
 
-parameter_past : (w : Text) (ts : List Token) (most k : ℕ) → too_deep most k (t.Parameter w ∷ ts) ≡ too_deep most k ts
-unfolding too_deep
-parameter_past w ts most zero = refl
-parameter_past w ts most (suc k) = refl
+parameter_past : (w : Text) (ts : List Token) (d : ℕ) → past_close d (t.Parameter w ∷ ts) ≡ past_close d ts
+unfolding past_close
+parameter_past w ts zero = refl
+parameter_past w ts (suc d) = refl
 
-mark_past : (x : Mark) → same_mark m.Open x ≡ false → same_mark m.Close x ≡ false → (ts : List Token) (most k : ℕ) → too_deep most k (t.Mark x ∷ ts) ≡ too_deep most k ts
-unfolding too_deep
-mark_past m.Open e f ts most k = absurd cc
-mark_past m.Close e f ts most k = absurd cc
-mark_past x e f ts most zero = refl
-mark_past x e f ts most (suc k) = refl
+mark_past : (x : Mark) → same_mark m.Open x ≡ false → same_mark m.Close x ≡ false → (ts : List Token) (d : ℕ) → past_close d (t.Mark x ∷ ts) ≡ past_close d ts
+unfolding past_close
+mark_past m.Open e f ts d = absurd cc
+mark_past m.Close e f ts d = absurd cc
+mark_past x e f ts zero = refl
+mark_past x e f ts (suc d) = refl
 
 pub mark : {x : Mark} {ts rest : List Token} → same_mark m.Open x ≡ false → same_mark m.Close x ≡ false → Skips ts rest → Skips (t.Mark x ∷ ts) rest
 mark {x} {ts} e f a = pass (mark_past x e f ts) a
+
+-- ---- words
+
+pub word_skip : (j : Keyword) (w : Written) (rest : List Token) → Skips (write_word j w rest) rest
+word_skip j None rest = stay
+word_skip j (Some w) rest = key stay
+
+pub comparison_skip : (op : Comparison) (rest : List Token) → Skips (t.Mark (comparison_mark op) ∷ rest) rest
+comparison_skip c.Equal rest = mark refl refl stay
+comparison_skip c.Different rest = mark refl refl stay
+comparison_skip c.Less rest = mark refl refl stay
+comparison_skip c.AtMost rest = mark refl refl stay
+comparison_skip c.Greater rest = mark refl refl stay
+comparison_skip c.AtLeast rest = mark refl refl stay
+
+pub escape_skip : (e : Option (Text × Text)) (rest : List Token) → Skips (write_escape e rest) rest
+escape_skip None rest = stay
+escape_skip (Some e) rest = key (pass (quoted_past e.1 rest) stay)
 
 -- ---- names, paths and values
 
@@ -157,16 +174,64 @@ mutual
   call_skip (trim w x a) rest = key (over (chain (trimming_skip x (write_value a (close rest))) (value_skip a (close rest))) stay)
   call_skip (aggregate h w a) rest = key (over (value_skip a (close rest)) stay)
   call_skip (aggregate_distinct h w d a) rest = key (over (key (value_skip a (close rest))) stay)
+  call_skip (case_when w u d v a bs) rest =
+      key (key (chain (when_skip d (t.Key k.Then v ∷ write_value a (write_branches bs rest))) (key (chain (value_skip a (write_branches bs rest)) (branches_skip bs rest)))))
+  call_skip (case_of w x u b v a bs) rest =
+      key (chain (value_skip x (t.Key k.When u ∷ write_value b (t.Key k.Then v ∷ write_value a (write_matches bs rest))))
+      (key (chain (value_skip b (t.Key k.Then v ∷ write_value a (write_matches bs rest))) (key (chain (value_skip a (write_matches bs rest)) (matches_skip bs rest))))))
 
   pub more_skip : (x : More°) (rest : List Token) → Skips (write_more x rest) rest
   more_skip no_more rest = stay
   more_skip (more a all) rest = mark refl refl (chain (value_skip a (write_more all rest)) (more_skip all rest))
 
--- ---- words that may be left out, names, items
+  pub branches_skip : (x : Branches°) (rest : List Token) → Skips (write_branches x rest) rest
+  branches_skip (no_branches w a u) rest = key (chain (value_skip a (t.Key k.End u ∷ rest)) (key stay))
+  branches_skip (branches u d v a bs) rest =
+      key (chain (when_skip d (t.Key k.Then v ∷ write_value a (write_branches bs rest))) (key (chain (value_skip a (write_branches bs rest)) (branches_skip bs rest))))
 
-pub word_skip : (j : Keyword) (w : Written) (rest : List Token) → Skips (write_word j w rest) rest
-word_skip j None rest = stay
-word_skip j (Some w) rest = key stay
+  pub matches_skip : (x : Matches°) (rest : List Token) → Skips (write_matches x rest) rest
+  matches_skip (no_matches w a u) rest = key (chain (value_skip a (t.Key k.End u ∷ rest)) (key stay))
+  matches_skip (matches u b v a bs) rest =
+      key (chain (value_skip b (t.Key k.Then v ∷ write_value a (write_matches bs rest))) (key (chain (value_skip a (write_matches bs rest)) (matches_skip bs rest))))
+
+  pub when_skip : (x : When°) (rest : List Token) → Skips (write_when x rest) rest
+  when_skip (when a os) rest = chain (when_and_skip a (write_when_ors os rest)) (when_ors_skip os rest)
+
+  pub when_ors_skip : (x : WhenOrs°) (rest : List Token) → Skips (write_when_ors x rest) rest
+  when_ors_skip no_when_ors rest = stay
+  when_ors_skip (when_or w a os) rest = key (chain (when_and_skip a (write_when_ors os rest)) (when_ors_skip os rest))
+
+  pub when_and_skip : (x : WhenAnd°) (rest : List Token) → Skips (write_when_and x rest) rest
+  when_and_skip (when_conj n ns) rest = chain (when_not_skip n (write_when_ands ns rest)) (when_ands_skip ns rest)
+
+  pub when_ands_skip : (x : WhenAnds°) (rest : List Token) → Skips (write_when_ands x rest) rest
+  when_ands_skip no_when_ands rest = stay
+  when_ands_skip (when_and w n ns) rest = key (chain (when_not_skip n (write_when_ands ns rest)) (when_ands_skip ns rest))
+
+  pub when_not_skip : (x : WhenNot°) (rest : List Token) → Skips (write_when_not x rest) rest
+  when_not_skip (maybe_when_not n x) rest = chain (word_skip k.Not n (write_when_test x rest)) (when_test_skip x rest)
+
+  pub when_test_skip : (x : WhenTest°) (rest : List Token) → Skips (write_when_test x rest) rest
+  when_test_skip (when_inside x) rest = over (when_skip x (close rest)) stay
+  when_test_skip (when_tested x) rest = tested_skip x rest
+
+  pub tested_skip : (x : Tested°) (rest : List Token) → Skips (write_tested x rest) rest
+  tested_skip (compare op a b) rest = chain (value_skip a (t.Mark (comparison_mark op) ∷ write_value b rest)) (chain (comparison_skip op (write_value b rest)) (value_skip b rest))
+  tested_skip (between a n w b u d) rest =
+      chain (value_skip a (write_word k.Not n (t.Key k.Between w ∷ write_value b (t.Key k.And u ∷ write_value d rest))))
+      (chain (word_skip k.Not n (t.Key k.Between w ∷ write_value b (t.Key k.And u ∷ write_value d rest))) (key (chain (value_skip b (t.Key k.And u ∷ write_value d rest)) (key (value_skip d rest)))))
+  tested_skip (among a n w b all) rest =
+      chain (value_skip a (write_word k.Not n (t.Key k.In w ∷ opened (write_value b (write_more all (close rest))))))
+      (chain (word_skip k.Not n (t.Key k.In w ∷ opened (write_value b (write_more all (close rest))))) (key (over (chain (value_skip b (write_more all (close rest))) (more_skip all (close rest))) stay)))
+  tested_skip (among_none a n w) rest =
+      chain (value_skip a (write_word k.Not n (t.Key k.In w ∷ opened (close rest)))) (chain (word_skip k.Not n (t.Key k.In w ∷ opened (close rest))) (key (over stay stay)))
+  tested_skip (like a n w b e) rest =
+      chain (value_skip a (write_word k.Not n (t.Key k.Like w ∷ write_value b (write_escape e rest))))
+      (chain (word_skip k.Not n (t.Key k.Like w ∷ write_value b (write_escape e rest))) (key (chain (value_skip b (write_escape e rest)) (escape_skip e rest))))
+  tested_skip (null a w n u) rest =
+      chain (value_skip a (t.Key k.Is w ∷ write_word k.Not n (t.Key k.Null u ∷ rest))) (key (chain (word_skip k.Not n (t.Key k.Null u ∷ rest)) (key stay)))
+
+-- ---- names, items
 
 pub named_skip : (n : Named) (rest : List Token) → Skips (write_named n rest) rest
 named_skip n rest = chain (word_skip k.As n.as_word (t.Word n.name ∷ rest)) (bare stay)
@@ -183,22 +248,10 @@ pub others_skip : {A : Type 0} (write : A → List Token → List Token) → ((a
 others_skip write one [] rest = stay
 others_skip write one (a ∷ all) rest = mark refl refl (chain (one a (write_others write all rest)) (others_skip write one all rest))
 
-pub comparison_skip : (op : Comparison) (rest : List Token) → Skips (t.Mark (comparison_mark op) ∷ rest) rest
-comparison_skip c.Equal rest = mark refl refl stay
-comparison_skip c.Different rest = mark refl refl stay
-comparison_skip c.Less rest = mark refl refl stay
-comparison_skip c.AtMost rest = mark refl refl stay
-comparison_skip c.Greater rest = mark refl refl stay
-comparison_skip c.AtLeast rest = mark refl refl stay
-
 pub quantifier_skip : (x : Quantifier°) (rest : List Token) → Skips (write_quantifier x rest) rest
 quantifier_skip (every w) rest = key stay
 quantifier_skip (any w) rest = key stay
 quantifier_skip (some w) rest = key stay
-
-pub escape_skip : (e : Option (Text × Text)) (rest : List Token) → Skips (write_escape e rest) rest
-escape_skip None rest = stay
-escape_skip (Some e) rest = key (pass (quoted_past e.1 rest) stay)
 
 pub side_skip : (l : Side) (rest : List Token) → Skips (write_side l rest) rest
 side_skip (inner w) rest = word_skip k.Inner w rest
@@ -230,20 +283,7 @@ mutual
 
   pub test_skip : (x : Test°) (rest : List Token) → Skips (write_test x rest) rest
   test_skip (inside x) rest = over (cond_skip x (close rest)) stay
-  test_skip (compare op a b) rest = chain (value_skip a (t.Mark (comparison_mark op) ∷ write_value b rest)) (chain (comparison_skip op (write_value b rest)) (value_skip b rest))
-  test_skip (between a n w b u d) rest =
-      chain (value_skip a (write_word k.Not n (t.Key k.Between w ∷ write_value b (t.Key k.And u ∷ write_value d rest))))
-      (chain (word_skip k.Not n (t.Key k.Between w ∷ write_value b (t.Key k.And u ∷ write_value d rest))) (key (chain (value_skip b (t.Key k.And u ∷ write_value d rest)) (key (value_skip d rest)))))
-  test_skip (among a n w b all) rest =
-      chain (value_skip a (write_word k.Not n (t.Key k.In w ∷ opened (write_value b (write_more all (close rest))))))
-      (chain (word_skip k.Not n (t.Key k.In w ∷ opened (write_value b (write_more all (close rest))))) (key (over (chain (value_skip b (write_more all (close rest))) (more_skip all (close rest))) stay)))
-  test_skip (among_none a n w) rest =
-      chain (value_skip a (write_word k.Not n (t.Key k.In w ∷ opened (close rest)))) (chain (word_skip k.Not n (t.Key k.In w ∷ opened (close rest))) (key (over stay stay)))
-  test_skip (like a n w b e) rest =
-      chain (value_skip a (write_word k.Not n (t.Key k.Like w ∷ write_value b (write_escape e rest))))
-      (chain (word_skip k.Not n (t.Key k.Like w ∷ write_value b (write_escape e rest))) (key (chain (value_skip b (write_escape e rest)) (escape_skip e rest))))
-  test_skip (null a w n u) rest =
-      chain (value_skip a (t.Key k.Is w ∷ write_word k.Not n (t.Key k.Null u ∷ rest))) (key (chain (word_skip k.Not n (t.Key k.Null u ∷ rest)) (key stay)))
+  test_skip (tested x) rest = tested_skip x rest
   test_skip (empty p w n u) rest =
       chain (path_skip p (t.Key k.Is w ∷ write_word k.Not n (t.Key k.Empty u ∷ rest))) (key (chain (word_skip k.Not n (t.Key k.Empty u ∷ rest)) (key stay)))
   test_skip (member a n w of p) rest =

@@ -19,13 +19,16 @@ use Rattle.jpql_tree.specs.declared.Query.{Query}
 use Rattle.jpql_tree.specs.declared.Query.TheVariants as q
 use Rattle.jpql_tree.specs.Names.{Text}
 use Rattle.jpql_grammar.specs.Parts.{Name, name_token, name_text, write_path, path_tree, sorted_by}
-use Rattle.jpql_grammar.specs.Grammar.{Value°, write_value, value_tree, Written, write_word, is_written, write_named, write_optional_name, optional_name, write_item, item_tree, write_joins, joins_trees, Direction, unwritten, ascending, descending, write_direction, is_descending, Key°, write_key, key_tree, no_clause, clause, write_clause, clause_trees, Having°, no_having, having, write_having, having_tree, to_value, to_null, write_set, set_tree, from_entity, write_from, from_tree, select, update, delete, IsStatement}
+use Rattle.jpql_grammar.specs.Tests.{Written, write_word, is_written}
+use Rattle.jpql_grammar.specs.ValueGrammar.{Value°, write_value, value_tree}
+use Rattle.jpql_grammar.specs.Grammar.{write_named, write_optional_name, optional_name, write_item, item_tree, write_joins, joins_trees, Direction, unwritten, ascending, descending, write_direction, is_descending, Key°, write_key, key_tree, no_clause, clause, write_clause, clause_trees, Having°, no_having, having, write_having, having_tree, to_value, to_null, write_set, set_tree, from_entity, write_from, from_tree, select, update, delete, IsStatement}
 use Rattle.jpql_grammar.specs.Values.{Read, after, is_word, after_word, optional_word, name_at, path_at, list_at, value_at}
 use Rattle.jpql_grammar.specs.Conditions.{begins_variable, bare_path, named_at, optional_name_at, item_at, related_at, origin_at, clause_at, joins_at, source_at, cond_at}
 use Rattle.jpql_grammar.specs.Statements.{direction_at, key_at, by_at, select_at, new_value_at, assignment_at, update_at, delete_at, statement_at, where_ended, whole_at}
 use Rattle.jpql_grammar.proofs.Tools.{step, choice, same, after_is, word_is, after_word_is, optional_word_is, name_sound}
 use Rattle.jpql_grammar.proofs.TestsSound.{bare_is}
-use Rattle.jpql_grammar.proofs.ValuesSound.{Wrote, value_sound, path_sound, list_sound, write_list, list_trees, nothing, leaf}
+use Rattle.jpql_grammar.proofs.PartsSound.{Wrote, path_sound, list_sound, write_list, list_trees, nothing, leaf}
+use Rattle.jpql_grammar.proofs.ValuesSound.{value_sound}
 use Rattle.jpql_grammar.proofs.CondSound.{named_sound, optional_name_sound, item_sound, of_name, write_related, related_tree, related_sound, Clause°, write_clause°, clause_tree, where_of, where_of_is, clause_sound, joins_sound, cond_sound}
 
 -- ---- ORDER BY, GROUP BY, HAVING

@@ -1,10 +1,9 @@
 -- What is read as a test of a value or of TYPE is written by the grammar, with its tree.
-use Rattle.std.proofs.Common.{◌≡◌, ℕ, Bool, true, false, ◌&&◌, List, [], ◌∷◌, drop, subst, Option, Some, None, option_map, refl, ap, sym, ◌∙◌}
+use Rattle.std.proofs.Common.{◌≡◌, Bool, true, false, List, [], ◌∷◌, drop, subst, Option, Some, None, option_map, refl, sym, ◌∙◌}
 use Rattle.jpql_grammar.specs.declared.token.Keyword.TheVariants as k
 use Rattle.jpql_grammar.specs.declared.token.Mark.TheVariants as m
 use Rattle.jpql_grammar.specs.declared.token.Token.{Token}
 use Rattle.jpql_grammar.specs.declared.token.Token.TheVariants as t
-use Rattle.jpql_tree.specs.declared.Comparison.{Comparison}
 use Rattle.jpql_tree.specs.declared.Arithmetic.{Arithmetic}
 use Rattle.jpql_tree.specs.declared.Path.{Path}
 use Rattle.jpql_tree.specs.declared.Value.{Value}
@@ -13,35 +12,18 @@ use Rattle.jpql_tree.specs.declared.Condition.{Condition}
 use Rattle.jpql_tree.specs.declared.Condition.TheVariants as is
 use Rattle.jpql_tree.specs.Names.{Text}
 use Rattle.jpql_grammar.specs.Parts.{Name, name_token, name_text, Steps, write_path, path_tree}
-use Rattle.jpql_grammar.specs.Grammar.{Value°, sum, Sums°, no_sums, plus, minus, product, Times°, no_times, times, unsigned, positive, negative, integer, text, parameter, path, call, group, write_value, bare_steps, write_times, write_sums, value_tree, times_tree, sums_tree, Written, write_word, is_written, comparison_mark, negated, write_escape, escape_text, Test°, compare, between, among, among_none, like, null, empty, member, type_is, type_is_not, type_among, write_test, test_tree}
-use Rattle.jpql_grammar.specs.Values.{sees, after, is_word, after_word, optional_word, name_at, variable_at, path_at, list_at, closed, value_at}
-use Rattle.jpql_grammar.specs.Conditions.{comparison_at, sees_comparison, begins_variable, negated_if, bare_path, compared_at, is_at, between_at, among_at, escape_at, like_at, member_at, worded_at, tested_at, entities_at, type_is_at, entity_at, typed_at}
+use Rattle.jpql_grammar.specs.Tests.{Written, write_word, is_written, negated_if}
+use Rattle.jpql_grammar.specs.ValueGrammar.{Value°, sum, Sums°, no_sums, plus, minus, product, Times°, no_times, times, unsigned, positive, negative, integer, text, parameter, path, call, group, write_value, write_times, write_sums, value_tree, times_tree, sums_tree}
+use Rattle.jpql_grammar.specs.Grammar.{bare_steps, negated, write_others, empty, member, type_is, type_is_not, type_among, write_test, test_tree}
+use Rattle.jpql_grammar.specs.Values.{sees, after, is_word, after_word, optional_word, name_at, variable_at, path_at, list_at, closed}
+use Rattle.jpql_grammar.specs.Conditions.{begins_variable, bare_path, empty_at, member_at, path_tested_at, entities_at, type_is_at, entity_at, typed_at}
 use Rattle.jpql_grammar.proofs.Skips.{opened, close}
 use Rattle.jpql_grammar.proofs.Tools.{step, choice, same, sees_is, after_is, word_is, after_word_is, optional_word_is, name_sound, variable_sound}
 use Rattle.jpql_grammar.proofs.Calls.{of_call}
-use Rattle.jpql_grammar.proofs.ValuesSound.{Wrote, value_sound, path_sound, list_sound, closed_sound, write_list, list_trees, write_closed, leaf, more_of, more_of_written, more_of_treed}
+use Rattle.jpql_grammar.proofs.PartsSound.{Wrote, path_sound, list_sound, closed_sound, write_list, list_trees, write_closed, leaf}
+use Rattle.jpql_grammar.proofs.TestedSound.{not_before}
 
--- ---- tests of values
-
-pub comparison_sound : (ts : List Token) (x : Comparison × List Token) → comparison_at ts ≡ Some x → t.Mark (comparison_mark x.0) ∷ x.1 ≡ ts
-unfolding comparison_at
-comparison_sound [] x h = absurd cc
-comparison_sound (t.Word w ∷ ts) x h = absurd cc
-comparison_sound (t.Key w u ∷ ts) x h = absurd cc
-comparison_sound (t.Number n ∷ ts) x h = absurd cc
-comparison_sound (t.Quoted w ∷ ts) x h = absurd cc
-comparison_sound (t.Parameter w ∷ ts) x h = absurd cc
-comparison_sound (t.Mark m.Equal ∷ ts) x h = let e = same _ _ h in rw (← e)
-comparison_sound (t.Mark m.Different ∷ ts) x h = let e = same _ _ h in rw (← e)
-comparison_sound (t.Mark m.Less ∷ ts) x h = let e = same _ _ h in rw (← e)
-comparison_sound (t.Mark m.AtMost ∷ ts) x h = let e = same _ _ h in rw (← e)
-comparison_sound (t.Mark m.Greater ∷ ts) x h = let e = same _ _ h in rw (← e)
-comparison_sound (t.Mark m.AtLeast ∷ ts) x h = let e = same _ _ h in rw (← e)
-comparison_sound (t.Mark _ ∷ ts) x h = absurd cc
-
-pub both : {P : Type 0} (a b : Bool) → (a && b) ≡ true → (a ≡ true → b ≡ true → P) → P
-both true b h go = go refl h
-both false b h go = absurd cc
+-- ---- tests of paths
 
 -- the words of a NOT, as it is written or not
 pub negated_is : (n : Written) (b : Bool) (x : Condition) → is_written n ≡ b → negated n x ≡ negated_if b x
@@ -49,24 +31,6 @@ negated_is None true x e = absurd cc
 negated_is None false x e = refl
 negated_is (Some w) true x e = refl
 negated_is (Some w) false x e = absurd cc
-
--- a test whose tree is negated
-not_leaf : (n : Written) (d : Test°) (a : Condition) (rest ts : List Token) (x : Condition × List Token)
-    → Some (a, rest) ≡ Some x → write_test d rest ≡ ts → test_tree d ≡ negated n a → Wrote write_test test_tree ts (negated n x.0, x.1)
-not_leaf n d a rest ts x h w e =
-    let same_pair = same _ _ h in
-    (d, subst (λ (p : Condition × List Token). write_test d p.1 ≡ ts) same_pair w, e ∙ ap (λ (p : Condition × List Token). negated n p.0) same_pair)
-
-compared_glued : (d : Value°) (ts : List Token) (op : Comparison × List Token) (b : Value × List Token) (x : Condition × List Token)
-    → t.Mark (comparison_mark op.0) ∷ op.1 ≡ ts → Wrote write_value value_tree op.1 b
-    → Some (is.Compare op.0 (value_tree d) b.0, b.1) ≡ Some x → Wrote write_test test_tree (write_value d ts) x
-compared_glued d ts op b x eo (e, ee, te) h =
-    leaf write_test test_tree (compare op.0 d e) (is.Compare op.0 (value_tree d) b.0) b.1 (write_value d ts) x h (rw (ee, eo)) (rw te)
-
-compared_sound : (n : ℕ) (d : Value°) (ts : List Token) (x : Condition × List Token) → compared_at n (value_tree d) ts ≡ Some x → Wrote write_test test_tree (write_value d ts) x
-unfolding compared_at
-compared_sound n d ts x h = step (comparison_at ts) _ _ h (λ op eo ho. step (value_at n op.1) _ _ ho (λ b eb hb.
-    compared_glued d ts op b x (comparison_sound ts op eo) (value_sound n op.1 b eb) hb))
 
 -- a value that is written as a path is one
 arithmetic_sums : (ps : Sums°) (op : Arithmetic) (a b : Value) → bare_path true (sums_tree (v.Arithmetic op a b) ps) ≡ None
@@ -118,12 +82,6 @@ bare_sound : (d : Value°) (rest : List Token) (p : Path) → bare_path (begins_
     → (q : Steps) × ((rest : List Token) → write_path q rest ≡ write_value d rest) × (path_tree q ≡ p)
 bare_sound d rest p h = bare_written d p (sym (bare_is d rest) ∙ h)
 
-null_glued : (d : Value°) (w u : Text) (ts mid : List Token) (b : Bool) (x : Condition × List Token)
-    → (n : Written) × (write_word k.Not n (t.Key k.Null u ∷ mid) ≡ ts) × (is_written n ≡ b)
-    → Some (negated_if b (is.IsNull (value_tree d)), mid) ≡ Some x → Wrote write_test test_tree (write_value d (t.Key k.Is w ∷ ts)) x
-null_glued d w u ts mid b x (n, en, tn) h =
-    leaf write_test test_tree (null d w n u) (negated_if b (is.IsNull (value_tree d))) mid (write_value d (t.Key k.Is w ∷ ts)) x h (rw en) (negated_is n b _ tn)
-
 empty_glued : (d : Value°) (w u : Text) (ts mid : List Token) (b : Bool) (p : Path) (x : Condition × List Token)
     → (n : Written) × (write_word k.Not n (t.Key k.Empty u ∷ mid) ≡ ts) × (is_written n ≡ b)
     → (q : Steps) × ((rest : List Token) → write_path q rest ≡ write_value d rest) × (path_tree q ≡ p)
@@ -131,122 +89,34 @@ empty_glued : (d : Value°) (w u : Text) (ts mid : List Token) (b : Bool) (p : P
 empty_glued d w u ts mid b p x (n, en, tn) (q, eq, tq) h =
     leaf write_test test_tree (empty q w n u) (negated_if b (is.IsEmpty p)) mid (write_value d (t.Key k.Is w ∷ ts)) x h (rw en (eq (t.Key k.Is w ∷ ts))) (rw tq (negated_is n b _ tn))
 
--- a NOT that may be left out, before tokens that are these
-not_before : (ts mid rest : List Token) (b : Bool) → (n : Written) × (write_word k.Not n mid ≡ ts) × (is_written n ≡ b) → rest ≡ mid
-    → (n : Written) × (write_word k.Not n rest ≡ ts) × (is_written n ≡ b)
-not_before ts mid rest b (n, en, tn) e = (n, rw e en, tn)
-
-is_sound : (d : Value°) (w : Text) (ts : List Token) (x : Condition × List Token)
-    → is_at (value_tree d) (begins_variable (write_value d (t.Key k.Is w ∷ ts))) ts ≡ Some x → Wrote write_test test_tree (write_value d (t.Key k.Is w ∷ ts)) x
-unfolding is_at
-is_sound d w ts x h = let neg = optional_word k.Not ts in choice (is_word k.Null neg.1) _ _ _ h
-    (λ b h1. let (u, eu) = word_is k.Null neg.1 b in
-    null_glued d w u ts (drop 1 neg.1) neg.0 x (not_before ts neg.1 (t.Key k.Null u ∷ drop 1 neg.1) neg.0 (optional_word_is k.Not ts) eu) h1)
-    (λ b h1. step (after_word k.Empty neg.1) _ _ h1 (λ rest er hr. step (bare_path (begins_variable (write_value d (t.Key k.Is w ∷ ts))) (value_tree d)) _ _ hr (λ p ep hp.
+empty_sound : (d : Value°) (w : Text) (ts : List Token) (x : Condition × List Token)
+    → empty_at (value_tree d) (begins_variable (write_value d (t.Key k.Is w ∷ ts))) ts ≡ Some x → Wrote write_test test_tree (write_value d (t.Key k.Is w ∷ ts)) x
+unfolding empty_at
+empty_sound d w ts x h = let neg = optional_word k.Not ts in
+    step (after_word k.Empty neg.1) _ _ h (λ rest er hr. step (bare_path (begins_variable (write_value d (t.Key k.Is w ∷ ts))) (value_tree d)) _ _ hr (λ p ep hp.
     let (u, eu) = after_word_is k.Empty neg.1 rest er in
-    empty_glued d w u ts rest neg.0 p x (not_before ts neg.1 (t.Key k.Empty u ∷ rest) neg.0 (optional_word_is k.Not ts) eu) (bare_sound d (t.Key k.Is w ∷ ts) p ep) hp)))
+    empty_glued d w u ts rest neg.0 p x (not_before ts neg.1 (t.Key k.Empty u ∷ rest) neg.0 (optional_word_is k.Not ts) eu) (bare_sound d (t.Key k.Is w ∷ ts) p ep) hp))
 
-between_glued : (d : Value°) (n : Written) (w : Text) (ts : List Token) (b : Value × List Token) (more : List Token) (y : Value × List Token) (x : Condition × List Token)
-    → Wrote write_value value_tree ts b → (u : Text) × (t.Key k.And u ∷ more ≡ b.1) → Wrote write_value value_tree more y
-    → Some (is.Between (value_tree d) b.0 y.0, y.1) ≡ Some x
-    → Wrote write_test test_tree (write_value d (write_word k.Not n (t.Key k.Between w ∷ ts))) (negated n x.0, x.1)
-between_glued d n w ts b more y x (db, eb, tb) (u, eu) (dy, ey, ty) h =
-    not_leaf n (between d n w db u dy) (is.Between (value_tree d) b.0 y.0) y.1 _ x h (rw (ey, eu, eb)) (rw (tb, ty))
+member_glued : (d : Value°) (ts mid more rest : List Token) (b c : Bool) (p : Path × List Token) (x : Condition × List Token)
+    → (n : Written) × (write_word k.Not n mid ≡ ts) × (is_written n ≡ b) → (w : Text) × (t.Key k.Member w ∷ more ≡ mid)
+    → (of : Written) × (write_word k.Of of rest ≡ more) × (is_written of ≡ c) → Wrote write_path path_tree rest p
+    → Some (negated_if b (is.Member (value_tree d) p.0), p.1) ≡ Some x → Wrote write_test test_tree (write_value d ts) x
+member_glued d ts mid more rest b c p x (n, en, tn) (w, ew) (of, eo, to) (q, eq, tq) h =
+    leaf write_test test_tree (member d n w of q) (negated_if b (is.Member (value_tree d) p.0)) p.1 (write_value d ts) x h (rw (eq, eo, ew, en)) (rw tq (negated_is n b _ tn))
 
-between_sound : (n : ℕ) (d : Value°) (neg : Written) (w : Text) (ts : List Token) (x : Condition × List Token) → between_at n (value_tree d) ts ≡ Some x
-    → Wrote write_test test_tree (write_value d (write_word k.Not neg (t.Key k.Between w ∷ ts))) (negated neg x.0, x.1)
-unfolding between_at
-between_sound n d neg w ts x h = step (value_at n ts) _ _ h (λ b eb hb. step (after_word k.And b.1) _ _ hb (λ more em hm. step (value_at n more) _ _ hm (λ y ey hy.
-    between_glued d neg w ts b more y x (value_sound n ts b eb) (after_word_is k.And b.1 more em) (value_sound n more y ey) hy)))
-
-among_glued : (d : Value°) (n : Written) (w : Text) (ts more : List Token) (all : List Value × List Token) (x : Condition × List Token)
-    → t.Mark m.Open ∷ more ≡ ts → Wrote (write_closed (write_list write_value)) (list_trees value_tree) more all
-    → Some (is.In (value_tree d) all.0, all.1) ≡ Some x
-    → Wrote write_test test_tree (write_value d (write_word k.Not n (t.Key k.In w ∷ ts))) (negated n x.0, x.1)
-among_glued d n w ts more all x o ((b, bs), eb, tb) h =
-    not_leaf n (among d n w b (more_of bs)) (is.In (value_tree d) all.0) all.1 _ x h (rw (more_of_written bs (close all.1), eb, o)) (rw (more_of_treed bs) (rw tb))
-
-none_glued : (d : Value°) (n : Written) (w : Text) (ts more : List Token) (x : Condition × List Token)
-    → t.Mark m.Open ∷ more ≡ ts → t.Mark m.Close ∷ drop 1 more ≡ more → Some (is.In (value_tree d) [], drop 1 more) ≡ Some x
-    → Wrote write_test test_tree (write_value d (write_word k.Not n (t.Key k.In w ∷ ts))) (negated n x.0, x.1)
-none_glued d n w ts more x o c h = not_leaf n (among_none d n w) (is.In (value_tree d) []) (drop 1 more) _ x h (rw (c, o)) refl
-
-among_sound : (n : ℕ) (d : Value°) (neg : Written) (w : Text) (ts : List Token) (x : Condition × List Token) → among_at n (value_tree d) ts ≡ Some x
-    → Wrote write_test test_tree (write_value d (write_word k.Not neg (t.Key k.In w ∷ ts))) (negated neg x.0, x.1)
-unfolding among_at
-among_sound n d neg w ts x h = step (after m.Open ts) _ _ h (λ more em hm. choice (sees m.Close more) _ _ _ hm
-    (λ b hb. none_glued d neg w ts more x (after_is m.Open ts more em) (sees_is m.Close more b) hb)
-    (λ b hb. step (closed (list_at (value_at n) more)) _ _ hb (λ all ea ha.
-    among_glued d neg w ts more all x (after_is m.Open ts more em)
-    (closed_sound (write_list write_value) (list_trees value_tree) more (list_at (value_at n) more) (list_sound (value_at n) write_value value_tree (value_sound n) more) all ea) ha)))
-
-escape_sound : (ts : List Token) (x : Option Text × List Token) → escape_at ts ≡ Some x → Wrote write_escape escape_text ts x
-unfolding escape_at
-escape_sound [] x h = leaf write_escape escape_text None None [] [] x h refl refl
-escape_sound (t.Key k.Escape w ∷ t.Quoted q ∷ ts) x h = leaf write_escape escape_text (Some (w, q)) (Some q) ts _ x h refl refl
-escape_sound (t.Key k.Escape w ∷ []) x h = absurd cc
-escape_sound (t.Key k.Escape w ∷ _ ∷ ts) x h = absurd cc
-escape_sound (y ∷ ts) x h = leaf write_escape escape_text None None (y ∷ ts) (y ∷ ts) x h refl refl
-
-like_glued : (d : Value°) (n : Written) (w : Text) (ts : List Token) (b : Value × List Token) (e : Option Text × List Token) (x : Condition × List Token)
-    → Wrote write_value value_tree ts b → Wrote write_escape escape_text b.1 e
-    → Some (is.Like (value_tree d) b.0 e.0, e.1) ≡ Some x
-    → Wrote write_test test_tree (write_value d (write_word k.Not n (t.Key k.Like w ∷ ts))) (negated n x.0, x.1)
-like_glued d n w ts b e x (db, eb, tb) (de, ee, te) h =
-    not_leaf n (like d n w db de) (is.Like (value_tree d) b.0 e.0) e.1 _ x h (rw (ee, eb)) (rw (tb, te))
-
-like_sound : (n : ℕ) (d : Value°) (neg : Written) (w : Text) (ts : List Token) (x : Condition × List Token) → like_at n (value_tree d) ts ≡ Some x
-    → Wrote write_test test_tree (write_value d (write_word k.Not neg (t.Key k.Like w ∷ ts))) (negated neg x.0, x.1)
-unfolding like_at
-like_sound n d neg w ts x h = step (value_at n ts) _ _ h (λ b eb hb. step (escape_at b.1) _ _ hb (λ e ee he.
-    like_glued d neg w ts b e x (value_sound n ts b eb) (escape_sound b.1 e ee) he))
-
-member_glued : (d : Value°) (n : Written) (w : Text) (ts mid : List Token) (b : Bool) (p : Path × List Token) (x : Condition × List Token)
-    → (of : Written) × (write_word k.Of of mid ≡ ts) × (is_written of ≡ b) → Wrote write_path path_tree mid p
-    → Some (is.Member (value_tree d) p.0, p.1) ≡ Some x
-    → Wrote write_test test_tree (write_value d (write_word k.Not n (t.Key k.Member w ∷ ts))) (negated n x.0, x.1)
-member_glued d n w ts mid b p x (of, eo, to) (q, eq, tq) h =
-    not_leaf n (member d n w of q) (is.Member (value_tree d) p.0) p.1 _ x h (rw (eq, eo)) (rw tq)
-
-member_sound : (d : Value°) (neg : Written) (w : Text) (ts : List Token) (x : Condition × List Token) → member_at (value_tree d) ts ≡ Some x
-    → Wrote write_test test_tree (write_value d (write_word k.Not neg (t.Key k.Member w ∷ ts))) (negated neg x.0, x.1)
+member_sound : (d : Value°) (ts : List Token) (x : Condition × List Token) → member_at (value_tree d) ts ≡ Some x → Wrote write_test test_tree (write_value d ts) x
 unfolding member_at
-member_sound d neg w ts x h = let of = optional_word k.Of ts in step (path_at of.1) _ _ h (λ p ep hp.
-    member_glued d neg w ts of.1 of.0 p x (optional_word_is k.Of ts) (path_sound of.1 p ep) hp)
+member_sound d ts x h = let neg = optional_word k.Not ts in
+    step (after_word k.Member neg.1) _ _ h (λ more em hm. let of = optional_word k.Of more in step (path_at of.1) _ _ hm (λ p ep hp.
+    member_glued d ts neg.1 more of.1 neg.0 of.0 p x (optional_word_is k.Not ts) (after_word_is k.Member neg.1 more em) (optional_word_is k.Of more) (path_sound of.1 p ep) hp))
 
--- the tokens of the test, where its own begin by a word
-abbrev Worded : Value° → Written → List Token → Condition × List Token → Type 0
-Worded d neg ts x = Wrote write_test test_tree (write_value d (write_word k.Not neg ts)) (negated neg x.0, x.1)
-
-worded_sound : (n : ℕ) (d : Value°) (neg : Written) (ts : List Token) (x : Condition × List Token) → worded_at n (value_tree d) ts ≡ Some x → Worded d neg ts x
-unfolding worded_at
-worded_sound n d neg ts x h = choice (is_word k.Between ts) _ _ _ h
-    (λ b h1. let (w, ew) = word_is k.Between ts b in subst (λ us. Worded d neg us x) ew (between_sound n d neg w (drop 1 ts) x h1))
-    (λ b h1. choice (is_word k.In ts) _ _ _ h1
-    (λ b h2. let (w, ew) = word_is k.In ts b in subst (λ us. Worded d neg us x) ew (among_sound n d neg w (drop 1 ts) x h2))
-    (λ b h2. choice (is_word k.Like ts) _ _ _ h2
-    (λ b h3. let (w, ew) = word_is k.Like ts b in subst (λ us. Worded d neg us x) ew (like_sound n d neg w (drop 1 ts) x h3))
-    (λ b h3. choice (is_word k.Member ts) _ _ _ h3
-    (λ b h4. let (w, ew) = word_is k.Member ts b in subst (λ us. Worded d neg us x) ew (member_sound d neg w (drop 1 ts) x h4))
-    (λ b h4. absurd cc))))
-
-negated_glued : (d : Value°) (ts mid : List Token) (b : Bool) (y x : Condition × List Token)
-    → (n : Written) × (write_word k.Not n mid ≡ ts) × (is_written n ≡ b) → ((n : Written) → Worded d n mid y)
-    → Some (negated_if b y.0, y.1) ≡ Some x → Wrote write_test test_tree (write_value d ts) x
-negated_glued d ts mid b y x (n, en, tn) tested h =
-    let (z, ez, tz) = tested n in
-    leaf write_test test_tree z (negated_if b y.0) y.1 (write_value d ts) x h (ez ∙ ap (λ us. write_value d us) en) (tz ∙ negated_is n b y.0 tn)
-
-pub tested_sound : (n : ℕ) (d : Value°) (ts : List Token) (x : Condition × List Token) → tested_at n (value_tree d) (begins_variable (write_value d ts)) ts ≡ Some x
+pub path_tested_sound : (d : Value°) (ts : List Token) (x : Condition × List Token) → path_tested_at (value_tree d) (begins_variable (write_value d ts)) ts ≡ Some x
     → Wrote write_test test_tree (write_value d ts) x
-unfolding tested_at
-tested_sound n d ts x h = choice (sees_comparison ts) _ _ _ h
-    (λ b h1. compared_sound n d ts x h1)
-    (λ b h1. choice (is_word k.Is ts) _ _ _ h1
-    (λ b h2. let (w, ew) = word_is k.Is ts b in
-    subst (λ us. Wrote write_test test_tree (write_value d us) x) ew (is_sound d w (drop 1 ts) x (rw ew h2)))
-    (λ b h2. let neg = optional_word k.Not ts in step (worded_at n (value_tree d) neg.1) _ _ h2 (λ y ey hy.
-    negated_glued d ts neg.1 neg.0 y x (optional_word_is k.Not ts) (λ w. worded_sound n d w neg.1 y ey) hy)))
+unfolding path_tested_at
+path_tested_sound d ts x h = choice (is_word k.Is ts) _ _ _ h
+    (λ b h1. let (w, ew) = word_is k.Is ts b in
+    subst (λ us. Wrote write_test test_tree (write_value d us) x) ew (empty_sound d w (drop 1 ts) x (rw ew h1)))
+    (λ b h1. member_sound d ts x h1)
 
 -- ---- TYPE
 

@@ -1,5 +1,5 @@
 -- What a step that answered tells.
-use Rattle.std.proofs.Common.{◌≡◌, Bool, true, false, cond, ◌⊎◌, inl, inr, List, [], ◌∷◌, drop, Option, Some, None, refl, sym, ◌∙◌, rules}
+use Rattle.std.proofs.Common.{◌≡◌, Bool, true, false, ◌&&◌, ◌||◌, cond, ◌⊎◌, inl, inr, List, [], ◌∷◌, drop, Option, Some, None, refl, sym, ◌∙◌, rules}
 use denote.Enum.Bare.{same_true, true_same}
 use Rattle.std.specs.Option.{option_and_then}
 use Rattle.jpql_grammar.specs.contracts.token.Mark as mark
@@ -9,10 +9,10 @@ use Rattle.jpql_grammar.specs.Same.{same_mark, same_keyword}
 use Rattle.jpql_grammar.specs.declared.token.Mark.{Mark}
 use Rattle.jpql_grammar.specs.declared.token.Token.{Token}
 use Rattle.jpql_grammar.specs.declared.token.Token.TheVariants as t
+use Rattle.jpql_grammar.specs.Tests.{Written, write_word, is_written}
 use Rattle.jpql_grammar.specs.Values.{sees, after, is_word, after_word, optional_word, name_at, variable_at}
 use Rattle.jpql_tree.specs.Names.{Text}
 use Rattle.jpql_grammar.specs.Parts.{Name, plain, word, name_token, name_text}
-use Rattle.jpql_grammar.specs.Grammar.{Written, write_word, is_written}
 
 pub tested : (b : Bool) → (b ≡ true) ⊎ (b ≡ false)
 tested true = inl refl
@@ -27,6 +27,14 @@ step None f y h go = absurd cc
 pub choice : {A P : Type 0} (b : Bool) (x y z : A) → cond b x y ≡ z → (b ≡ true → x ≡ z → P) → (b ≡ false → y ≡ z → P) → P
 choice true x y z h chosen passed = chosen refl h
 choice false x y z h chosen passed = passed refl h
+
+pub both : {P : Type 0} (a b : Bool) → (a && b) ≡ true → (a ≡ true → b ≡ true → P) → P
+both true b h go = go refl h
+both false b h go = absurd cc
+
+pub neither : {a b : Bool} → (a || b) ≡ false → (a ≡ false) × (b ≡ false)
+neither {a = true} e = absurd cc
+neither {a = false} e = (refl, e)
 
 pub same : {A : Type 0} (x y : A) → Some x ≡ Some y → x ≡ y
 same x y e = cc

@@ -1,11 +1,12 @@
--- What is read is written by the grammar, with its tree.
-use Rattle.std.proofs.Common.{◌≡◌, ℕ, zero, suc, Bool, true, false, ◌&&◌, ◌||◌, ◌≤◌, arith, List, [], ◌∷◌, ◌++◌, map, drop, length, subst, Option, Some, None, is_some, refl, ap, sym, ◌∙◌, append-nil, append_assoc, nat_eq}
+-- What is read as a value is written by the grammar, with its tree.
+use Rattle.std.proofs.Common.{◌≡◌, ℕ, zero, suc, Bool, true, false, ◌&&◌, ◌||◌, ◌≤◌, arith, List, [], ◌∷◌, drop, length, subst, Option, Some, None, is_some, refl, ap, ◌∙◌, nat_eq}
+use Rattle.std.proofs.lemmas.Bool.{eqb-true, leb-true}
+use Rattle.jpql_grammar.specs.declared.token.Callee.TheVariants as calls
 use Rattle.jpql_grammar.specs.declared.token.Keyword.{Keyword}
 use Rattle.jpql_grammar.specs.declared.token.Keyword.TheVariants as k
 use Rattle.jpql_grammar.specs.declared.token.Mark.TheVariants as m
 use Rattle.jpql_grammar.specs.declared.token.Token.{Token}
 use Rattle.jpql_grammar.specs.declared.token.Token.TheVariants as t
-use Rattle.jpql_tree.specs.declared.Path.{Path}
 use Rattle.jpql_tree.specs.declared.Value.{Value}
 use Rattle.jpql_tree.specs.declared.Value.TheVariants as v
 use Rattle.jpql_tree.specs.declared.Arithmetic.TheVariants as o
@@ -16,64 +17,16 @@ use Rattle.jpql_tree.specs.declared.Trimmed.{Trimmed}
 use Rattle.jpql_tree.specs.declared.Trimmed.TheVariants as side
 use Rattle.jpql_tree.specs.declared.Aggregate.{Aggregate}
 use Rattle.jpql_tree.specs.declared.Aggregate.TheVariants as g
-use Rattle.jpql_grammar.specs.declared.token.Callee.TheVariants as calls
-use Rattle.std.proofs.lemmas.Bool.{eqb-true, leb-true}
 use Rattle.jpql_tree.specs.Names.{Text}
-use Rattle.jpql_grammar.specs.Parts.{aggregate_word, Taken°, taken_text, taken_parameter, unwritten_trimming, sided, unsided, side_word, write_taken, write_trimming, optional_taken, trimming_tree, trimmed_value, Name, name_text, name_token, write_names, write_path, path_tree}
-use Rattle.jpql_grammar.specs.Grammar.{Value°, sum, no_sums, plus, minus, product, no_times, times, unsigned, positive, negative, integer, text, parameter, path, call, group, Call°, length_of, concat, substring_from, substring, locate, locate_from, abs, modulo, size, coalesce, null_if, upper, lower, trim, aggregate, aggregate_distinct, More°, no_more, more, write_value, write_sums, write_product, write_times, write_unary, write_atom, write_call, write_more, write_others, Written, write_word, is_written, value_tree, sums_tree, product_tree, times_tree, unary_tree, atom_tree, call_tree, more_trees}
-use Rattle.jpql_grammar.specs.Same.{same_mark}
 use Rattle.jpql_tree.specs.Calls.{takes}
-use Rattle.jpql_grammar.specs.Values.{callee_of, is_word, after_word, taken_at, sided_at, unsided_at, trimming_at, trim_at, optional_word, Read, sees, after, name_at, variable_at, names_at, path_at, others_at, list_at, closed, call_at, word_at, atom_at, unary_at, times_at, product_at, sums_at, level_at, value_at}
-use Rattle.jpql_grammar.proofs.Tools.{mark_is, step, choice, same, sees_is, after_is, word_is, after_word_is, optional_word_is, name_sound, variable_sound}
-
--- the tokens are those of the derivation and those after it, and this is its tree
-abbrev pub Wrote : {D A : Type 0} → (D → List Token → List Token) → (D → A) → List Token → A × List Token → Type 0
-Wrote {D = D} write tree ts x = (d : D) × (write d x.1 ≡ ts) × (tree d ≡ x.0)
-
--- what follows a case that writes nothing
-pub nothing : {D A : Type 0} (write : D → List Token → List Token) (tree : D → A) (d : D) (a : A) (ts : List Token) (x : A × List Token)
-    → Some (a, ts) ≡ Some x → write d ts ≡ ts → tree d ≡ a → Wrote write tree ts x
-nothing write tree d a ts x h w e = let same_pair = same _ _ h in (d, subst (λ (p : _ × List Token). write d p.1 ≡ ts) same_pair w, e ∙ ap (λ p. p.0) same_pair)
-
--- one case around another: its tokens in front, and its node around the tree
-pub around : {D E A B : Type 0} (write : D → List Token → List Token) (tree : D → A) (write' : E → List Token → List Token) (tree' : E → B) (wrap : D → E) (node : A → B)
-    (ts inner : List Token) (a : A) (mid rest : List Token) (x : B × List Token)
-    → Wrote write tree inner (a, mid) → Some (node a, rest) ≡ Some x
-    → ((d : D) → write d mid ≡ inner → write' (wrap d) rest ≡ ts) → ((d : D) → tree' (wrap d) ≡ node (tree d))
-    → Wrote write' tree' ts x
-around write tree write' tree' wrap node ts inner a mid rest x (d, e, t) h w n =
-    let same_pair = same _ _ h in
-    (wrap d, subst (λ (p : _ × List Token). write' (wrap d) p.1 ≡ ts) same_pair (w d e), n d ∙ (ap node t ∙ ap (λ p. p.0) same_pair))
-
-names_glued : (found : List Text) (ts : List Token) (w : Text) (mid : List Token) (x : List Text × List Token) → sees m.Dot ts ≡ true
-    → (n : Name) × (name_token n ∷ mid ≡ drop 1 ts) × (name_text n ≡ w)
-    → (ns : List Name) × (write_names ns x.1 ≡ mid) × ((found ++ w ∷ []) ++ map name_text ns ≡ x.0)
-    → (ns : List Name) × (write_names ns x.1 ≡ ts) × (found ++ map name_text ns ≡ x.0)
-names_glued found ts w mid x b (n, en, tn) (ns, es, tns) =
-    (n ∷ ns, rw (es, en) (sees_is m.Dot ts b), rw tn (sym (append_assoc found (w ∷ []) (map name_text ns)) ∙ tns))
-
-pub names_sound : (n : ℕ) (found : List Text) (ts : List Token) (x : List Text × List Token) → names_at n found ts ≡ Some x
-    → (ns : List Name) × (write_names ns x.1 ≡ ts) × (found ++ map name_text ns ≡ x.0)
-unfolding names_at
-names_sound zero found ts x h = let e = same _ _ h in ([], ap (λ p. p.1) (sym e), append-nil found ∙ ap (λ p. p.0) e)
-names_sound (suc n) found ts x h = choice (sees m.Dot ts) _ _ _ h
-    (λ b h1. step (name_at (drop 1 ts)) _ _ h1 (λ r er hr.
-    names_glued found ts r.0 r.1 x b (name_sound (drop 1 ts) r er) (names_sound n (found ++ r.0 ∷ []) r.1 x hr)))
-    (λ b h1. let e = same _ _ h1 in ([], ap (λ p. p.1) (sym e), append-nil found ∙ ap (λ p. p.0) e))
-
-path_glued : (ts : List Token) (a : Text × List Token) (r : List Text × List Token) (x : Path × List Token)
-    → t.Word a.0 ∷ a.1 ≡ ts → (ns : List Name) × (write_names ns r.1 ≡ a.1) × ([] ++ map name_text ns ≡ r.0)
-    → Some (record { variable = a.0; names = r.0 }, r.1) ≡ Some x → Wrote write_path path_tree ts x
-path_glued ts a r x e (ns, en, tn) h = let same_pair = same _ _ h in (
-  record { variable = a.0; names = ns },
-  subst (λ (p : Path × List Token). write_path (record { variable = a.0; names = ns }) p.1 ≡ ts) same_pair (rw en e),
-  rw tn (ap (λ p. p.0) same_pair),
-)
-
-pub path_sound : (ts : List Token) (x : Path × List Token) → path_at ts ≡ Some x → Wrote write_path path_tree ts x
-unfolding path_at
-path_sound ts x h = step (variable_at ts) _ _ h (λ a ea ha. step (names_at (length a.1) [] a.1) _ _ ha (λ r er hr.
-    path_glued ts a r x (variable_sound ts a ea) (names_sound (length a.1) [] a.1 r er) hr))
+use Rattle.jpql_grammar.specs.Same.{same_mark, same_keyword}
+use Rattle.jpql_grammar.specs.Parts.{aggregate_word, Taken°, taken_text, taken_parameter, unwritten_trimming, sided, unsided, side_word, write_taken, write_trimming, optional_taken, trimming_tree, trimmed_value, write_path, path_tree}
+use Rattle.jpql_grammar.specs.Tests.{Written, write_word, is_written}
+use Rattle.jpql_grammar.specs.ValueGrammar.{Value°, sum, no_sums, plus, minus, product, no_times, times, unsigned, positive, negative, integer, text, parameter, path, call, group, Call°, length_of, concat, substring_from, substring, locate, locate_from, abs, modulo, size, coalesce, null_if, upper, lower, trim, aggregate, aggregate_distinct, More°, write_value, write_sums, write_product, write_times, write_unary, write_atom, write_call, write_more, write_when, value_tree, sums_tree, product_tree, times_tree, unary_tree, atom_tree, call_tree, more_trees, when_tree}
+use Rattle.jpql_grammar.specs.Values.{Read, callee_of, is_word, after_word, taken_at, sided_at, unsided_at, trimming_at, trim_at, optional_word, sees, after, path_at, list_at, closed, call_at, word_at, atom_at, unary_at, times_at, product_at, sums_at, level_at, value_at, when_at}
+use Rattle.jpql_grammar.proofs.Tools.{mark_is, keyword_is, step, choice, same, sees_is, after_is, word_is, after_word_is, optional_word_is}
+use Rattle.jpql_grammar.proofs.PartsSound.{Wrote, nothing, around, leaf, path_sound, write_list, list_trees, list_sound, write_closed, closed_sound, more_of, more_of_written, more_of_treed}
+use Rattle.jpql_grammar.proofs.WhensSound.{case_sound, when_level_sound}
 
 times_glued : (before a : Value) (ts mid : List Token) (x : Value × List Token) → sees m.Star ts ≡ true
     → Wrote write_unary unary_tree (drop 1 ts) (a, mid) → Wrote write_times (times_tree (v.Arithmetic o.Times before a)) mid x → Wrote write_times (times_tree before) ts x
@@ -95,63 +48,7 @@ value_glued : (a : Value) (ts mid : List Token) (x : Value × List Token) → Wr
     → Wrote write_value value_tree ts x
 value_glued a ts mid x (u, eu, tu) (us, es, tus) = (sum u us, rw es eu, rw tu tus)
 
--- one, and others after commas
-abbrev pub write_list : {D : Type 0} → (D → List Token → List Token) → D × List D → List Token → List Token
-write_list write p rest = write p.0 (write_others write p.1 rest)
-
-abbrev pub list_trees : {D A : Type 0} → (D → A) → D × List D → List A
-list_trees tree p = tree p.0 ∷ map tree p.1
-
-module _ {A D : Type 0} (one : Read A) (write : D → List Token → List Token) (tree : D → A)
-    (sound : (ts : List Token) (x : A × List Token) → one ts ≡ Some x → Wrote write tree ts x) where
-  others_glued : (found : List A) (a : A) (ts mid : List Token) (x : List A × List Token) → sees m.Comma ts ≡ true
-      → Wrote write tree (drop 1 ts) (a, mid) → Wrote (write_others write) (λ ds. (found ++ a ∷ []) ++ map tree ds) mid x → Wrote (write_others write) (λ ds. found ++ map tree ds) ts x
-  others_glued found a ts mid x b (u, eu, tu) (us, es, tus) =
-      (u ∷ us, rw (es, eu) (sees_is m.Comma ts b), rw tu (sym (append_assoc found (a ∷ []) (map tree us)) ∙ tus))
-
-  others_sound : (n : ℕ) (found : List A) (ts : List Token) (x : List A × List Token) → others_at one n found ts ≡ Some x
-      → Wrote (write_others write) (λ ds. found ++ map tree ds) ts x
-  unfolding others_at
-  others_sound zero found ts x h = nothing (write_others write) (λ ds. found ++ map tree ds) [] found ts x h refl (append-nil found)
-  others_sound (suc n) found ts x h = choice (sees m.Comma ts) _ _ _ h
-      (λ b h1. step (one (drop 1 ts)) _ _ h1 (λ a ea ha. others_glued found a.0 ts a.1 x b (sound (drop 1 ts) a ea) (others_sound n (found ++ a.0 ∷ []) a.1 x ha)))
-      (λ b h1. nothing (write_others write) (λ ds. found ++ map tree ds) [] found ts x h1 refl (append-nil found))
-
-  list_glued : (a : A) (ts mid : List Token) (x : List A × List Token)
-      → Wrote write tree ts (a, mid) → Wrote (write_others write) (λ ds. (a ∷ []) ++ map tree ds) mid x → Wrote (write_list write) (list_trees tree) ts x
-  list_glued a ts mid x (u, eu, tu) (us, es, tus) = ((u, us), rw es eu, rw tu tus)
-
-  pub list_sound : (ts : List Token) (x : List A × List Token) → list_at one ts ≡ Some x → Wrote (write_list write) (list_trees tree) ts x
-  unfolding list_at
-  list_sound ts x h = step (one ts) _ _ h (λ a ea ha. list_glued a.0 ts a.1 x (sound ts a ea) (others_sound (length a.1) (a.0 ∷ []) a.1 x ha))
-
-abbrev pub write_closed : {D : Type 0} → (D → List Token → List Token) → D → List Token → List Token
-write_closed write d rest = write d (t.Mark m.Close ∷ rest)
-
-closed_glued : {D A : Type 0} (write : D → List Token → List Token) (tree : D → A) (ts : List Token) (a : A × List Token) (rest : List Token) (x : A × List Token)
-    → Wrote write tree ts a → t.Mark m.Close ∷ rest ≡ a.1 → Some (a.0, rest) ≡ Some x → Wrote (write_closed write) tree ts x
-closed_glued write tree ts a rest x (d, e, t) c h = let same_pair = same _ _ h in
-    (d, subst (λ (p : _ × List Token). write_closed write d p.1 ≡ ts) same_pair (rw c e), t ∙ ap (λ p. p.0) same_pair)
-
 -- ---- calls, by how many arguments they take
-
-pub more_of : List Value° → More°
-more_of [] = no_more
-more_of (d ∷ ds) = more d (more_of ds)
-
-pub more_of_written : (ds : List Value°) (rest : List Token) → write_more (more_of ds) rest ≡ write_others write_value ds rest
-unfolding more_of
-more_of_written [] rest = refl
-more_of_written (d ∷ ds) rest = ap (λ ts. t.Mark m.Comma ∷ write_value d ts) (more_of_written ds rest)
-
-pub more_of_treed : (ds : List Value°) → more_trees (more_of ds) ≡ map value_tree ds
-unfolding more_of
-more_of_treed [] = refl
-more_of_treed (d ∷ ds) = ap (λ vs. value_tree d ∷ vs) (more_of_treed ds)
-
-pub leaf : {D A : Type 0} (write : D → List Token → List Token) (tree : D → A) (d : D) (a : A) (rest ts : List Token) (x : A × List Token)
-    → Some (a, rest) ≡ Some x → write d rest ≡ ts → tree d ≡ a → Wrote write tree ts x
-leaf write tree d a rest ts x h w e = let same_pair = same _ _ h in (d, subst (λ (p : _ × List Token). write d p.1 ≡ ts) same_pair w, e ∙ ap (λ p. p.0) same_pair)
 
 module _ (h : Function) (word : Token) where
   abbrev Called : List Token → Value × List Token → Type 0
@@ -258,12 +155,6 @@ pub either : {P : Type 0} (a b : Bool) → (a || b) ≡ true → (a ≡ true →
 either true b e first second = first refl
 either false b e first second = second e
 
-pub closed_sound : {D A : Type 0} (write : D → List Token → List Token) (tree : D → A) (ts : List Token) (read : Option (A × List Token))
-    → ((a : A × List Token) → read ≡ Some a → Wrote write tree ts a) → (x : A × List Token) → closed read ≡ Some x → Wrote (write_closed write) tree ts x
-unfolding closed
-closed_sound write tree ts read sound x h = step read _ _ h (λ a ea ha. step (after m.Close a.1) _ _ ha (λ rest er hr.
-    closed_glued write tree ts a rest x (sound a ea) (after_is m.Close a.1 rest er) hr))
-
 module _ (inner : Read Value) (nested : (ts : List Token) (x : Value × List Token) → inner ts ≡ Some x → Wrote write_value value_tree ts x) where
   function_sound : (h : Function) (word : Token) (ts : List Token) (x : Value × List Token) → call_at inner (calls.Function h) ts ≡ Some x
       → ((all : List Value × List Token) → Wrote (write_closed (write_list write_value)) (list_trees value_tree) ts all → takes h (length all.0) ≡ true → Answered h word all x → Called h word ts x)
@@ -321,7 +212,16 @@ module _ (inner : Read Value) (nested : (ts : List Token) (x : Value × List Tok
   call_sound k.Max w ts x e = aggregate_sound g.Max w ts x e
   call_sound key w ts x e = absurd (no_call inner ts x e)
 
-  atom_sound : (ts : List Token) (x : Value × List Token) → atom_at inner ts ≡ Some x → Wrote write_atom atom_tree ts x
+-- and `when` what stands behind WHEN
+module _ (inner : Read Value) (nested : (ts : List Token) (x : Value × List Token) → inner ts ≡ Some x → Wrote write_value value_tree ts x)
+    (when : Read Value) (deeper : (ts : List Token) (x : Value × List Token) → when ts ≡ Some x → Wrote write_when when_tree ts x) where
+  key_sound : (j : Keyword) (w : Text) (ts : List Token) (x : Value × List Token) → word_at inner when (t.Key j w) ts ≡ Some x → Wrote write_atom atom_tree (t.Key j w ∷ ts) x
+  unfolding word_at
+  key_sound j w ts x h = choice (same_keyword k.Case j) _ _ _ h
+      (λ b h1. subst (λ j. Wrote write_atom atom_tree (t.Key j w ∷ ts) x) (keyword_is k.Case j b) (case_sound inner nested when deeper w ts x h1))
+      (λ b h1. step (after m.Open ts) _ _ h1 (λ rest er hr. rw (← after_is m.Open ts rest er) (call_sound inner nested j w rest x hr)))
+
+  atom_sound : (ts : List Token) (x : Value × List Token) → atom_at inner when ts ≡ Some x → Wrote write_atom atom_tree ts x
   unfolding atom_at word_at
   atom_sound [] x h = absurd cc
   atom_sound (t.Number n ∷ ts) x h = leaf write_atom atom_tree (integer n) _ _ _ x h refl refl
@@ -329,51 +229,57 @@ module _ (inner : Read Value) (nested : (ts : List Token) (x : Value × List Tok
   atom_sound (t.Parameter w ∷ ts) x h = leaf write_atom atom_tree (parameter w) _ _ _ x h refl refl
   atom_sound (t.Word w ∷ ts) x h = step (path_at (t.Word w ∷ ts)) _ _ h (λ p ep hp.
       around write_path path_tree write_atom atom_tree path v.Path (t.Word w ∷ ts) (t.Word w ∷ ts) p.0 p.1 p.1 x (path_sound (t.Word w ∷ ts) p ep) hp (λ d e. e) (λ d. refl))
-  atom_sound (t.Key key w ∷ ts) x h = step (after m.Open ts) _ _ h (λ rest er hr. rw (← after_is m.Open ts rest er) (call_sound key w rest x hr))
+  atom_sound (t.Key j w ∷ ts) x h = key_sound j w ts x h
   atom_sound (t.Mark y ∷ ts) x h = choice (same_mark m.Open y) _ _ _ h
       (λ b h1. let d = closed_sound write_value value_tree ts (inner ts) (nested ts) x h1 in (group d.0, rw (d.1, mark_is m.Open y b), d.2))
       (λ b h1. absurd cc)
 
-  unary_sound : (ts : List Token) (x : Value × List Token) → unary_at inner ts ≡ Some x → Wrote write_unary unary_tree ts x
+  unary_sound : (ts : List Token) (x : Value × List Token) → unary_at inner when ts ≡ Some x → Wrote write_unary unary_tree ts x
   unfolding unary_at
   unary_sound ts x h = choice (sees m.Plus ts) _ _ _ h
-      (λ b h1. step (atom_at inner (drop 1 ts)) _ _ h1 (λ a ea ha.
+      (λ b h1. step (atom_at inner when (drop 1 ts)) _ _ h1 (λ a ea ha.
       around write_atom atom_tree write_unary unary_tree positive (v.Signed s.Plus) ts (drop 1 ts) a.0 a.1 a.1 x (atom_sound (drop 1 ts) a ea) ha (λ d e. rw e (sees_is m.Plus ts b)) (λ d. refl)))
       (λ b h1. choice (sees m.Minus ts) _ _ _ h1
-      (λ c h2. step (atom_at inner (drop 1 ts)) _ _ h2 (λ a ea ha.
+      (λ c h2. step (atom_at inner when (drop 1 ts)) _ _ h2 (λ a ea ha.
       around write_atom atom_tree write_unary unary_tree negative (v.Signed s.Minus) ts (drop 1 ts) a.0 a.1 a.1 x (atom_sound (drop 1 ts) a ea) ha (λ d e. rw e (sees_is m.Minus ts c)) (λ d. refl)))
       (λ c h2. let d = atom_sound ts x h2 in (unsigned d.0, d.1, d.2)))
 
-  times_sound : (n : ℕ) (before : Value) (ts : List Token) (x : Value × List Token) → times_at inner n before ts ≡ Some x
+  times_sound : (n : ℕ) (before : Value) (ts : List Token) (x : Value × List Token) → times_at inner when n before ts ≡ Some x
       → Wrote write_times (times_tree before) ts x
   unfolding times_at
   times_sound zero before ts x h = nothing write_times (times_tree before) no_times before ts x h refl refl
   times_sound (suc n) before ts x h = choice (sees m.Star ts) _ _ _ h
-      (λ b h1. step (unary_at inner (drop 1 ts)) _ _ h1 (λ a ea ha.
+      (λ b h1. step (unary_at inner when (drop 1 ts)) _ _ h1 (λ a ea ha.
       times_glued before a.0 ts a.1 x b (unary_sound (drop 1 ts) a ea) (times_sound n _ a.1 x ha)))
       (λ b h1. nothing write_times (times_tree before) no_times before ts x h1 refl refl)
 
-  product_sound : (ts : List Token) (x : Value × List Token) → product_at inner ts ≡ Some x → Wrote write_product product_tree ts x
+  product_sound : (ts : List Token) (x : Value × List Token) → product_at inner when ts ≡ Some x → Wrote write_product product_tree ts x
   unfolding product_at
-  product_sound ts x h = step (unary_at inner ts) _ _ h (λ a ea ha. product_glued a.0 ts a.1 x (unary_sound ts a ea) (times_sound (length a.1) a.0 a.1 x ha))
+  product_sound ts x h = step (unary_at inner when ts) _ _ h (λ a ea ha. product_glued a.0 ts a.1 x (unary_sound ts a ea) (times_sound (length a.1) a.0 a.1 x ha))
 
-  sums_sound : (n : ℕ) (before : Value) (ts : List Token) (x : Value × List Token) → sums_at inner n before ts ≡ Some x
+  sums_sound : (n : ℕ) (before : Value) (ts : List Token) (x : Value × List Token) → sums_at inner when n before ts ≡ Some x
       → Wrote write_sums (sums_tree before) ts x
   unfolding sums_at
   sums_sound zero before ts x h = nothing write_sums (sums_tree before) no_sums before ts x h refl refl
   sums_sound (suc n) before ts x h = choice (sees m.Plus ts) _ _ _ h
-      (λ b h1. step (product_at inner (drop 1 ts)) _ _ h1 (λ a ea ha.
+      (λ b h1. step (product_at inner when (drop 1 ts)) _ _ h1 (λ a ea ha.
       plus_glued before a.0 ts a.1 x b (product_sound (drop 1 ts) a ea) (sums_sound n _ a.1 x ha)))
       (λ b h1. choice (sees m.Minus ts) _ _ _ h1
-      (λ c h2. step (product_at inner (drop 1 ts)) _ _ h2 (λ a ea ha.
+      (λ c h2. step (product_at inner when (drop 1 ts)) _ _ h2 (λ a ea ha.
       minus_glued before a.0 ts a.1 x c (product_sound (drop 1 ts) a ea) (sums_sound n _ a.1 x ha)))
       (λ c h2. nothing write_sums (sums_tree before) no_sums before ts x h2 refl refl))
 
-  level_sound : (ts : List Token) (x : Value × List Token) → level_at inner ts ≡ Some x → Wrote write_value value_tree ts x
+  level_sound : (ts : List Token) (x : Value × List Token) → level_at inner when ts ≡ Some x → Wrote write_value value_tree ts x
   unfolding level_at
-  level_sound ts x h = step (product_at inner ts) _ _ h (λ a ea ha. value_glued a.0 ts a.1 x (product_sound ts a ea) (sums_sound (length a.1) a.0 a.1 x ha))
+  level_sound ts x h = step (product_at inner when ts) _ _ h (λ a ea ha. value_glued a.0 ts a.1 x (product_sound ts a ea) (sums_sound (length a.1) a.0 a.1 x ha))
 
-pub value_sound : (n : ℕ) (ts : List Token) (x : Value × List Token) → value_at n ts ≡ Some x → Wrote write_value value_tree ts x
-unfolding value_at
-value_sound zero ts x h = absurd cc
-value_sound (suc n) ts x h = level_sound (value_at n) (value_sound n) ts x h
+mutual
+  unfolding value_at
+
+  pub value_sound : (n : ℕ) (ts : List Token) (x : Value × List Token) → value_at n ts ≡ Some x → Wrote write_value value_tree ts x
+  value_sound zero ts x h = absurd cc
+  value_sound (suc n) ts x h = level_sound (value_at n) (value_sound n) (when_at n) (when_sound n) ts x h
+
+  when_sound : (n : ℕ) (ts : List Token) (x : Value × List Token) → when_at n ts ≡ Some x → Wrote write_when when_tree ts x
+  when_sound zero ts x h = absurd cc
+  when_sound (suc n) ts x h = when_level_sound (value_at n) (value_sound n) (when_at n) (when_sound n) ts x h

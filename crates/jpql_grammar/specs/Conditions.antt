@@ -4,7 +4,6 @@ use Rattle.std.specs.Prelude.{ℕ, zero, suc, Bool, true, false, ◌&&◌, ◌||
 use Rattle.std.specs.Prelude.{Some, None, if◌then◌else◌}
 use Rattle.jpql_grammar.specs.declared.token.Keyword.{Keyword}
 use Rattle.jpql_grammar.specs.declared.token.Keyword.TheVariants as k
-use Rattle.jpql_grammar.specs.declared.token.Mark.{Mark}
 use Rattle.jpql_grammar.specs.declared.token.Mark.TheVariants as m
 use Rattle.jpql_grammar.specs.declared.token.Token.{Token}
 use Rattle.jpql_grammar.specs.declared.token.Token.TheVariants as t
@@ -28,81 +27,12 @@ use Rattle.jpql_tree.specs.declared.Join.{Join, roll-Join}
 use Rattle.jpql_tree.specs.Names.{Text}
 use Rattle.jpql_tree.specs.Steps.{◌>>=◌}
 use Rattle.jpql_grammar.specs.Parts.{turned}
-use Rattle.jpql_grammar.specs.Values.{Read, is_mark, sees, after, is_word, after_word, optional_word, name_at}
-use Rattle.jpql_grammar.specs.Values.{variable_at, path_at, list_at, closed, value_at}
+use Rattle.jpql_grammar.specs.Tests.{negated_if, condition_of}
+use Rattle.jpql_grammar.specs.Values.{Read, sees, after, is_word, after_word, optional_word, name_at}
+use Rattle.jpql_grammar.specs.Values.{variable_at, path_at, list_at, closed, comparison_at, sees_comparison}
+use Rattle.jpql_grammar.specs.Values.{tested_at, opens_condition, value_at}
 
--- ---- "(" before a condition or a value
-
--- words that stand in tests alone, but for names after a dot; SELECT begins the rows of one
-abbrev pub is_test_word : Keyword → Bool
-is_test_word k.Is = true
-is_test_word k.In = true
-is_test_word k.Between = true
-is_test_word k.Like = true
-is_test_word k.Member = true
-is_test_word k.Exists = true
-is_test_word k.Select = true
-is_test_word k.Type = true
-is_test_word _ = false
-
--- the comparison that a mark is, if it is one (chapter 4.6.7)
-abbrev pub comparison_of : Mark → Option Comparison
-comparison_of m.Equal = Some c.Equal
-comparison_of m.Different = Some c.Different
-comparison_of m.Less = Some c.Less
-comparison_of m.AtMost = Some c.AtMost
-comparison_of m.Greater = Some c.Greater
-comparison_of m.AtLeast = Some c.AtLeast
-comparison_of _ = None
-
--- whether a mark is a comparison
-abbrev pub is_comparison : Mark → Bool
-is_comparison m.Equal = true
-is_comparison m.Different = true
-is_comparison m.Less = true
-is_comparison m.AtMost = true
-is_comparison m.Greater = true
-is_comparison m.AtLeast = true
-is_comparison _ = false
-
--- a token that stands in tests alone, after a dot or not
-abbrev pub tells : Bool → Token → Bool
-tells dotted (t.Mark x) = is_comparison x
-tells true (t.Key k w) = false
-tells false (t.Key k w) = is_test_word k
-tells dotted (t.Word w) = false
-tells dotted (t.Number n) = false
-tells dotted (t.Quoted w) = false
-tells dotted (t.Parameter w) = false
-
--- Whether a test stands before the parenthesis that is open is closed. The number counts those
--- opened inside it.
-unfoldable pub has_test : ℕ → Bool → List Token → Bool
-has_test depth dotted [] = false
-has_test zero dotted (x ∷ rest) =
-    if tells dotted x then true else if is_mark m.Close x then false
-    else if is_mark m.Open x then has_test 1 false rest else has_test 0 (is_mark m.Dot x) rest
-has_test (suc d) dotted (x ∷ rest) =
-    if tells dotted x then true else if is_mark m.Close x then has_test d false rest
-    else if is_mark m.Open x then has_test (suc (suc d)) false rest else has_test (suc d) (is_mark m.Dot x) rest
-
--- "(" opens a condition where a test stands inside, else a value
-abbrev pub opens_condition : List Token → Bool
-opens_condition ts = sees m.Open ts && has_test 0 false (drop 1 ts)
-
--- ---- tests of values
-
--- a comparison
-unfoldable pub comparison_at : Read Comparison
-comparison_at [] = None
-comparison_at (t.Mark x ∷ rest) = comparison_of x >>= λ op. Some (op, rest)
-comparison_at (_ ∷ rest) = None
-
--- whether a comparison comes next
-abbrev pub sees_comparison : List Token → Bool
-sees_comparison [] = false
-sees_comparison (t.Mark x ∷ rest) = is_comparison x
-sees_comparison (_ ∷ rest) = false
+-- ---- tests of paths
 
 -- whether a variable comes next
 abbrev pub begins_variable : List Token → Bool
@@ -110,75 +40,38 @@ begins_variable [] = false
 begins_variable (t.Word w ∷ rest) = true
 begins_variable (_ ∷ rest) = false
 
--- a NOT inside a test
-abbrev pub negated_if : Bool → Condition → Condition
-negated_if true test = is.Not test
-negated_if false test = test
-
 -- a value that is a path, where it is written as one
 abbrev pub bare_path : Bool → Value → Option Path
 bare_path true (v.Path p) = Some p
 bare_path true _ = None
 bare_path false _ = None
 
--- [ESCAPE text]
-unfoldable pub escape_at : Read (Option Text)
-escape_at [] = Some (None, [])
-escape_at (x ∷ ts) = if is_word k.Escape (x ∷ ts) then quoted ts else Some (None, x ∷ ts)
-  where
-    quoted : Read (Option Text)
-    quoted (t.Quoted w ∷ rest) = Some (Some w, rest)
-    quoted _ = None
+-- whether a test of a path follows a value: IS [NOT] EMPTY, or [NOT] MEMBER
+abbrev pub path_follows : List Token → Bool
+path_follows ts =
+    if is_word k.Is ts then is_word k.Empty (optional_word k.Not (drop 1 ts)).1
+    else is_word k.Member (optional_word k.Not ts).1
 
 -- `a` is the value that the test begins with
 module _ (a : Value) where
-  -- after IS, where the value is written as a path or not
-  unfoldable pub is_at : Bool → Read Condition
-  is_at bare ts =
-      let no = optional_word k.Not ts in
-      if is_word k.Null no.1 then Some (negated_if no.0 (is.IsNull a), drop 1 no.1)
-      else after_word k.Empty no.1 >>= λ rest. bare_path bare a >>= λ p. Some (negated_if no.0 (is.IsEmpty p), rest)
+  -- [NOT] EMPTY, after IS, where the value is written as a path or not (chapter 4.6.12)
+  unfoldable pub empty_at : Bool → Read Condition
+  empty_at bare ts = let no = optional_word k.Not ts in
+      after_word k.Empty no.1 >>= λ rest. bare_path bare a >>= λ p. Some (negated_if no.0 (is.IsEmpty p), rest)
 
-  -- [OF] path, after MEMBER (chapter 4.6.13)
+  -- [NOT] MEMBER [OF] path (chapter 4.6.13)
   unfoldable pub member_at : Read Condition
-  member_at ts = path_at (optional_word k.Of ts).1 >>= λ p. Some (is.Member a p.0, p.1)
+  member_at ts = let no = optional_word k.Not ts in
+      after_word k.Member no.1 >>= λ more. path_at (optional_word k.Of more).1
+      >>= λ p. Some (negated_if no.0 (is.Member a p.0), p.1)
 
--- `n` is how deep values may nest, and `a` the value that the test begins with
-module _ (n : ℕ) (a : Value) where
-  -- op value (chapter 4.6.7)
-  unfoldable pub compared_at : Read Condition
-  compared_at ts = comparison_at ts >>= λ op. value_at n op.1 >>= λ b. Some (is.Compare op.0 a b.0, b.1)
+  -- a test of a path
+  unfoldable pub path_tested_at : Bool → Read Condition
+  path_tested_at bare ts = if is_word k.Is ts then empty_at bare (drop 1 ts) else member_at ts
 
-  -- value AND value, after BETWEEN (chapter 4.6.8)
-  unfoldable pub between_at : Read Condition
-  between_at ts = value_at n ts >>= λ b. after_word k.And b.1 >>= λ more. value_at n more
-      >>= λ d. Some (is.Between a b.0 d.0, d.1)
-
-  -- "(" [value {"," value}] ")", after IN (chapter 4.6.9)
-  unfoldable pub among_at : Read Condition
-  among_at ts = after m.Open ts >>= λ more.
-      if sees m.Close more then Some (is.In a [], drop 1 more)
-      else (closed (list_at (value_at n) more) >>= λ all. Some (is.In a all.0, all.1))
-
-  -- value [ESCAPE text], after LIKE (chapter 4.6.10)
-  unfoldable pub like_at : Read Condition
-  like_at ts = value_at n ts >>= λ b. escape_at b.1 >>= λ e. Some (is.Like a b.0 e.0, e.1)
-
-  -- a test that begins with BETWEEN, IN, LIKE or MEMBER
-  unfoldable pub worded_at : Read Condition
-  worded_at ts =
-      if is_word k.Between ts then between_at (drop 1 ts)
-      else if is_word k.In ts then among_at (drop 1 ts)
-      else if is_word k.Like ts then like_at (drop 1 ts)
-      else if is_word k.Member ts then member_at a (drop 1 ts)
-      else None
-
-  -- what follows the value
-  unfoldable pub tested_at : Bool → Read Condition
-  tested_at bare ts =
-      if sees_comparison ts then compared_at ts
-      else if is_word k.Is ts then is_at a bare (drop 1 ts)
-      else (let no = optional_word k.Not ts in worded_at no.1 >>= λ x. Some (negated_if no.0 x.0, x.1))
+-- a test of values behind its first value, where values nest so deep (chapters 4.6.7 to 4.6.11)
+unfoldable pub value_tested_at : ℕ → Value → Read Condition
+value_tested_at n a ts = tested_at (value_at n) a ts >>= λ x. Some (condition_of x.0, x.1)
 
 -- ---- TYPE, after the word
 
@@ -384,11 +277,12 @@ module _ (n : ℕ) (inner : Read Condition) where
       after_word k.In no.1 >>= λ more. subquery_at more >>= λ b.
       Some (negated_if no.0 (is.Rows against.Any c.Equal a b.0), b.1)
 
-  -- what follows a value: rows, or a test of it
+  -- what follows a value: rows, a test of a path, or a test of values
   unfoldable pub follows_at : Value → Bool → Read Condition
   follows_at a bare ts =
       if rows_follow ts then (if sees_comparison ts then beside_at a ts else among_rows_at a ts)
-      else tested_at n a bare ts
+      else if path_follows ts then path_tested_at a bare ts
+      else value_tested_at n a ts
 
   -- a value, and the test of it
   unfoldable pub valued_at : Read Condition

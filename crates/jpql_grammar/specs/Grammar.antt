@@ -1,23 +1,17 @@
--- The grammar. A derivation says which case of which line was taken. Its `write` is the tokens that
--- it stands for, in front of those that follow. Its `tree` is the statement. Parentheses leave no
--- node.
-use Rattle.std.specs.Prelude.{◌≡◌, Bool, true, false, List, [], ◌∷◌, map, ℤ, Option, Some, None, option_map}
+-- The grammar of conditions and statements. A derivation says which case of which line was taken. Its
+-- `write` is the tokens that it stands for, in front of those that follow. Its `tree` is the statement.
+-- Parentheses leave no node.
+use Rattle.std.specs.Prelude.{◌≡◌, Bool, true, false, List, [], ◌∷◌, map, Option, Some, None, option_map}
 use Rattle.jpql_grammar.specs.declared.token.Keyword.{Keyword}
 use Rattle.jpql_grammar.specs.declared.token.Keyword.TheVariants as k
-use Rattle.jpql_grammar.specs.declared.token.Mark.{Mark}
 use Rattle.jpql_grammar.specs.declared.token.Mark.TheVariants as m
 use Rattle.jpql_grammar.specs.declared.token.Token.{Token}
 use Rattle.jpql_grammar.specs.declared.token.Token.TheVariants as t
-use Rattle.jpql_tree.specs.declared.Function.TheVariants as f
 use Rattle.jpql_tree.specs.declared.Aggregate.{Aggregate}
 use Rattle.jpql_tree.specs.declared.Against.{Against}
 use Rattle.jpql_tree.specs.declared.Against.TheVariants as against
-use Rattle.jpql_tree.specs.declared.Sign.TheVariants as s
-use Rattle.jpql_tree.specs.declared.Arithmetic.TheVariants as o
 use Rattle.jpql_tree.specs.declared.Comparison.{Comparison}
 use Rattle.jpql_tree.specs.declared.Comparison.TheVariants as c
-use Rattle.jpql_tree.specs.declared.Value.{Value}
-use Rattle.jpql_tree.specs.declared.Value.TheVariants as v
 use Rattle.jpql_tree.specs.declared.Item.{Item}
 use Rattle.jpql_tree.specs.declared.Origin.{Origin}
 use Rattle.jpql_tree.specs.declared.Origin.TheVariants as from
@@ -31,231 +25,13 @@ use Rattle.jpql_tree.specs.declared.Assignment.{Assignment}
 use Rattle.jpql_tree.specs.declared.Query.{Query}
 use Rattle.jpql_tree.specs.declared.Query.TheVariants as q
 use Rattle.jpql_tree.specs.Names.{Text}
-use Rattle.jpql_grammar.specs.Parts.{Name, name_token, name_text, Steps}
-use Rattle.jpql_grammar.specs.Parts.{write_path, path_tree, aggregate_word, Trimming°}
-use Rattle.jpql_grammar.specs.Parts.{Quantifier°, write_quantifier, quantifier_tree, turned}
-use Rattle.jpql_grammar.specs.Parts.{write_trimming, trimming_tree, trimmed_value, sorted_by}
+use Rattle.jpql_grammar.specs.Parts.{Name, name_token, name_text, Steps, write_path, path_tree, aggregate_word}
+use Rattle.jpql_grammar.specs.Parts.{Quantifier°, write_quantifier, quantifier_tree, turned, sorted_by}
+use Rattle.jpql_grammar.specs.Tests.{Written, write_word, is_written, comparison_mark, condition_of}
+use Rattle.jpql_grammar.specs.ValueGrammar.{Value°, sum, no_sums, product, no_times, unsigned, path, write_value}
+use Rattle.jpql_grammar.specs.ValueGrammar.{value_tree, Tested°, write_tested, tested_tree}
 
--- Each keyword comes with how it is written.
-mutual
-  -- value = product {("+" | "-") product}
-  pub data Value° : Type 0 where
-    sum : Product° → Sums° → Value°
-
-  -- {("+" | "-") product}
-  pub data Sums° : Type 0 where
-    no_sums : Sums°
-    plus : Product° → Sums° → Sums°
-    minus : Product° → Sums° → Sums°
-
-  -- product = unary {"*" unary}
-  pub data Product° : Type 0 where
-    product : Unary° → Times° → Product°
-
-  -- {"*" unary}
-  pub data Times° : Type 0 where
-    no_times : Times°
-    times : Unary° → Times° → Times°
-
-  -- unary = ["+" | "-"] atom
-  pub data Unary° : Type 0 where
-    unsigned : Atom° → Unary°
-    positive : Atom° → Unary°
-    negative : Atom° → Unary°
-
-  -- atom = integer | text | parameter | path | call | "(" value ")"
-  pub data Atom° : Type 0 where
-    integer : ℤ → Atom°
-    text : Text → Atom°
-    parameter : Text → Atom°
-    path : Steps → Atom°
-    call : Call° → Atom°
-    group : Value° → Atom°
-
-  -- a call of a function or an aggregate (chapters 4.7.2, 4.7.4 and 4.9.5)
-  pub data Call° : Type 0 where
-    -- LENGTH(v)
-    length_of : Text → Value° → Call°
-    -- CONCAT(v, v {, v})
-    concat : Text → Value° → Value° → More° → Call°
-    -- SUBSTRING(v, v [, v])
-    substring_from : Text → Value° → Value° → Call°
-    substring : Text → Value° → Value° → Value° → Call°
-    -- LOCATE(v, v [, v])
-    locate : Text → Value° → Value° → Call°
-    locate_from : Text → Value° → Value° → Value° → Call°
-    -- ABS(v)
-    abs : Text → Value° → Call°
-    -- MOD(v, v)
-    modulo : Text → Value° → Value° → Call°
-    -- SIZE(path)
-    size : Text → Steps → Call°
-    -- COALESCE(v, v {, v})
-    coalesce : Text → Value° → Value° → More° → Call°
-    -- NULLIF(v, v)
-    null_if : Text → Value° → Value° → Call°
-    -- UPPER(v)
-    upper : Text → Value° → Call°
-    -- LOWER(v)
-    lower : Text → Value° → Call°
-    -- TRIM(v), TRIM((LEADING | TRAILING | BOTH) [t] FROM v), TRIM(t FROM v)
-    trim : Text → Trimming° → Value° → Call°
-    -- COUNT([DISTINCT] v) and so on
-    aggregate : Aggregate → Text → Value° → Call°
-    aggregate_distinct : Aggregate → Text → Text → Value° → Call°
-
-  -- {, v}
-  pub data More° : Type 0 where
-    no_more : More°
-    more : Value° → More° → More°
-
-abbrev mutual
-  -- the tokens of a value
-  pub write_value : Value° → List Token → List Token
-  write_value (sum p ps) rest = write_product p (write_sums ps rest)
-
-  -- the tokens of what is added and subtracted
-  pub write_sums : Sums° → List Token → List Token
-  write_sums no_sums rest = rest
-  write_sums (plus p ps) rest = t.Mark m.Plus ∷ write_product p (write_sums ps rest)
-  write_sums (minus p ps) rest = t.Mark m.Minus ∷ write_product p (write_sums ps rest)
-
-  -- the tokens of a product
-  pub write_product : Product° → List Token → List Token
-  write_product (product u us) rest = write_unary u (write_times us rest)
-
-  -- the tokens of the factors behind the first
-  pub write_times : Times° → List Token → List Token
-  write_times no_times rest = rest
-  write_times (times u us) rest = t.Mark m.Star ∷ write_unary u (write_times us rest)
-
-  -- the tokens of an atom with its sign
-  pub write_unary : Unary° → List Token → List Token
-  write_unary (unsigned a) rest = write_atom a rest
-  write_unary (positive a) rest = t.Mark m.Plus ∷ write_atom a rest
-  write_unary (negative a) rest = t.Mark m.Minus ∷ write_atom a rest
-
-  -- the tokens of an atom
-  pub write_atom : Atom° → List Token → List Token
-  write_atom (integer n) rest = t.Number n ∷ rest
-  write_atom (text w) rest = t.Quoted w ∷ rest
-  write_atom (parameter w) rest = t.Parameter w ∷ rest
-  write_atom (path p) rest = write_path p rest
-  write_atom (call c) rest = write_call c rest
-  write_atom (group a) rest = t.Mark m.Open ∷ write_value a (t.Mark m.Close ∷ rest)
-
-  -- the tokens of a call
-  pub write_call : Call° → List Token → List Token
-  write_call (length_of w a) rest = t.Key k.Length w ∷ t.Mark m.Open ∷ write_value a (t.Mark m.Close ∷ rest)
-  write_call (concat w a b all) rest =
-      t.Key k.Concat w ∷ t.Mark m.Open
-      ∷ write_value a (t.Mark m.Comma ∷ write_value b (write_more all (t.Mark m.Close ∷ rest)))
-  write_call (substring_from w a b) rest =
-      t.Key k.Substring w ∷ t.Mark m.Open ∷ write_value a (t.Mark m.Comma ∷ write_value b (t.Mark m.Close ∷ rest))
-  write_call (substring w a b d) rest =
-      t.Key k.Substring w ∷ t.Mark m.Open
-      ∷ write_value a (t.Mark m.Comma ∷ write_value b (t.Mark m.Comma ∷ write_value d (t.Mark m.Close ∷ rest)))
-  write_call (locate w a b) rest =
-      t.Key k.Locate w ∷ t.Mark m.Open ∷ write_value a (t.Mark m.Comma ∷ write_value b (t.Mark m.Close ∷ rest))
-  write_call (locate_from w a b d) rest =
-      t.Key k.Locate w ∷ t.Mark m.Open
-      ∷ write_value a (t.Mark m.Comma ∷ write_value b (t.Mark m.Comma ∷ write_value d (t.Mark m.Close ∷ rest)))
-  write_call (abs w a) rest = t.Key k.Abs w ∷ t.Mark m.Open ∷ write_value a (t.Mark m.Close ∷ rest)
-  write_call (modulo w a b) rest =
-      t.Key k.Mod w ∷ t.Mark m.Open ∷ write_value a (t.Mark m.Comma ∷ write_value b (t.Mark m.Close ∷ rest))
-  write_call (size w p) rest = t.Key k.Size w ∷ t.Mark m.Open ∷ write_path p (t.Mark m.Close ∷ rest)
-  write_call (coalesce w a b all) rest =
-      t.Key k.Coalesce w ∷ t.Mark m.Open
-      ∷ write_value a (t.Mark m.Comma ∷ write_value b (write_more all (t.Mark m.Close ∷ rest)))
-  write_call (null_if w a b) rest =
-      t.Key k.NullIf w ∷ t.Mark m.Open ∷ write_value a (t.Mark m.Comma ∷ write_value b (t.Mark m.Close ∷ rest))
-  write_call (upper w a) rest = t.Key k.Upper w ∷ t.Mark m.Open ∷ write_value a (t.Mark m.Close ∷ rest)
-  write_call (lower w a) rest = t.Key k.Lower w ∷ t.Mark m.Open ∷ write_value a (t.Mark m.Close ∷ rest)
-  write_call (trim w x a) rest =
-      t.Key k.Trim w ∷ t.Mark m.Open ∷ write_trimming x (write_value a (t.Mark m.Close ∷ rest))
-  write_call (aggregate f w a) rest = t.Key (aggregate_word f) w ∷ t.Mark m.Open ∷ write_value a (t.Mark m.Close ∷ rest)
-  write_call (aggregate_distinct f w d a) rest =
-      t.Key (aggregate_word f) w ∷ t.Mark m.Open ∷ t.Key k.Distinct d ∷ write_value a (t.Mark m.Close ∷ rest)
-
-  -- the tokens of the arguments that are left
-  pub write_more : More° → List Token → List Token
-  write_more no_more rest = rest
-  write_more (more a all) rest = t.Mark m.Comma ∷ write_value a (write_more all rest)
-
-abbrev mutual
-  -- the tree of a value; sums go from the left
-  pub value_tree : Value° → Value
-  value_tree (sum p ps) = sums_tree (product_tree p) ps
-
-  -- what stands before, and the sums after it, from the left
-  pub sums_tree : Value → Sums° → Value
-  sums_tree left no_sums = left
-  sums_tree left (plus p ps) = sums_tree (v.Arithmetic o.Plus left (product_tree p)) ps
-  sums_tree left (minus p ps) = sums_tree (v.Arithmetic o.Minus left (product_tree p)) ps
-
-  -- the tree of a product; factors go from the left
-  pub product_tree : Product° → Value
-  product_tree (product u us) = times_tree (unary_tree u) us
-
-  -- what stands before, and the factors after it, from the left
-  pub times_tree : Value → Times° → Value
-  times_tree left no_times = left
-  times_tree left (times u us) = times_tree (v.Arithmetic o.Times left (unary_tree u)) us
-
-  -- the tree of an atom with its sign
-  pub unary_tree : Unary° → Value
-  unary_tree (unsigned a) = atom_tree a
-  unary_tree (positive a) = v.Signed s.Plus (atom_tree a)
-  unary_tree (negative a) = v.Signed s.Minus (atom_tree a)
-
-  -- the tree of an atom; parentheses leave no node
-  pub atom_tree : Atom° → Value
-  atom_tree (integer n) = v.Integer n
-  atom_tree (text w) = v.Text w
-  atom_tree (parameter w) = v.Parameter w
-  atom_tree (path p) = v.Path (path_tree p)
-  atom_tree (call c) = call_tree c
-  atom_tree (group a) = value_tree a
-
-  -- the tree of a call
-  pub call_tree : Call° → Value
-  call_tree (length_of w a) = v.Call f.Length (value_tree a ∷ [])
-  call_tree (concat w a b all) = v.Call f.Concat (value_tree a ∷ value_tree b ∷ more_trees all)
-  call_tree (substring_from w a b) = v.Call f.Substring (value_tree a ∷ value_tree b ∷ [])
-  call_tree (substring w a b d) = v.Call f.Substring (value_tree a ∷ value_tree b ∷ value_tree d ∷ [])
-  call_tree (locate w a b) = v.Call f.Locate (value_tree a ∷ value_tree b ∷ [])
-  call_tree (locate_from w a b d) = v.Call f.Locate (value_tree a ∷ value_tree b ∷ value_tree d ∷ [])
-  call_tree (abs w a) = v.Call f.Abs (value_tree a ∷ [])
-  call_tree (modulo w a b) = v.Call f.Mod (value_tree a ∷ value_tree b ∷ [])
-  call_tree (size w p) = v.Size (path_tree p)
-  call_tree (coalesce w a b all) = v.Call f.Coalesce (value_tree a ∷ value_tree b ∷ more_trees all)
-  call_tree (null_if w a b) = v.Call f.NullIf (value_tree a ∷ value_tree b ∷ [])
-  call_tree (upper w a) = v.Call f.Upper (value_tree a ∷ [])
-  call_tree (lower w a) = v.Call f.Lower (value_tree a ∷ [])
-  call_tree (trim w x a) = trimmed_value (trimming_tree x) (value_tree a)
-  call_tree (aggregate h w a) = v.Aggregate h false (value_tree a)
-  call_tree (aggregate_distinct h w d a) = v.Aggregate h true (value_tree a)
-
-  -- the trees of the arguments that are left
-  pub more_trees : More° → List Value
-  more_trees no_more = []
-  more_trees (more a all) = value_tree a ∷ more_trees all
-
--- ---- words that may be left out, and lists
-
--- a word that may be left out, with how it is written where it isn't
-abbrev pub Written : Type 0
-Written = Option Text
-
--- a word that may be left out
-abbrev pub write_word : Keyword → Written → List Token → List Token
-write_word k None rest = rest
-write_word k (Some w) rest = t.Key k w ∷ rest
-
--- whether the word is written
-abbrev pub is_written : Written → Bool
-is_written None = false
-is_written (Some w) = true
+-- ---- names and lists
 
 -- [AS] name
 pub record Named : Type 0 where
@@ -294,29 +70,10 @@ abbrev pub write_others : {A : Type 0} → (A → List Token → List Token) →
 write_others write [] rest = rest
 write_others write (a ∷ others) rest = t.Mark m.Comma ∷ write a (write_others write others rest)
 
--- op = "=" | "<>" | "<" | "<=" | ">" | ">="
-abbrev pub comparison_mark : Comparison → Mark
-comparison_mark c.Equal = m.Equal
-comparison_mark c.Different = m.Different
-comparison_mark c.Less = m.Less
-comparison_mark c.AtMost = m.AtMost
-comparison_mark c.Greater = m.Greater
-comparison_mark c.AtLeast = m.AtLeast
-
 -- a NOT inside a test is a NOT of it
 abbrev pub negated : Written → Condition → Condition
 negated None test = test
 negated (Some w) test = is.Not test
-
--- ESCAPE text, with how the word is written
-abbrev pub write_escape : Option (Text × Text) → List Token → List Token
-write_escape None rest = rest
-write_escape (Some e) rest = t.Key k.Escape e.0 ∷ t.Quoted e.1 ∷ rest
-
--- the text behind ESCAPE, where it is written
-abbrev pub escape_text : Option (Text × Text) → Option Text
-escape_text None = None
-escape_text (Some e) = Some e.1
 
 -- INNER, LEFT [OUTER], or nothing
 pub data Side : Type 0 where
@@ -380,18 +137,8 @@ mutual
   pub data Test° : Type 0 where
     -- "(" cond ")"
     inside : Cond° → Test°
-    -- value op value
-    compare : Comparison → Value° → Value° → Test°
-    -- value [NOT] BETWEEN value AND value
-    between : Value° → Written → Text → Value° → Text → Value° → Test°
-    -- value [NOT] IN "(" value {"," value} ")"
-    among : Value° → Written → Text → Value° → More° → Test°
-    -- value [NOT] IN "(" ")", which no text writes: a list without a value stands for it
-    among_none : Value° → Written → Text → Test°
-    -- value [NOT] LIKE value [ESCAPE text]
-    like : Value° → Written → Text → Value° → Option (Text × Text) → Test°
-    -- value IS [NOT] NULL
-    null : Value° → Text → Written → Text → Test°
+    -- a test of values
+    tested : Tested° → Test°
     -- path IS [NOT] EMPTY
     empty : Steps → Text → Written → Text → Test°
     -- value [NOT] MEMBER [OF] path
@@ -474,17 +221,7 @@ abbrev mutual
   -- the tokens of a test
   pub write_test : Test° → List Token → List Token
   write_test (inside x) rest = t.Mark m.Open ∷ write_cond x (t.Mark m.Close ∷ rest)
-  write_test (compare op a b) rest = write_value a (t.Mark (comparison_mark op) ∷ write_value b rest)
-  write_test (between a n w b u d) rest =
-      write_value a (write_word k.Not n (t.Key k.Between w ∷ write_value b (t.Key k.And u ∷ write_value d rest)))
-  write_test (among a n w b all) rest =
-      write_value a (write_word k.Not n
-      (t.Key k.In w ∷ t.Mark m.Open ∷ write_value b (write_more all (t.Mark m.Close ∷ rest))))
-  write_test (among_none a n w) rest =
-      write_value a (write_word k.Not n (t.Key k.In w ∷ t.Mark m.Open ∷ t.Mark m.Close ∷ rest))
-  write_test (like a n w b e) rest =
-      write_value a (write_word k.Not n (t.Key k.Like w ∷ write_value b (write_escape e rest)))
-  write_test (null a w n u) rest = write_value a (t.Key k.Is w ∷ write_word k.Not n (t.Key k.Null u ∷ rest))
+  write_test (tested x) rest = write_tested x rest
   write_test (empty p w n u) rest = write_path p (t.Key k.Is w ∷ write_word k.Not n (t.Key k.Empty u ∷ rest))
   write_test (member a n w of p) rest =
       write_value a (write_word k.Not n (t.Key k.Member w ∷ write_word k.Of of (write_path p rest)))
@@ -574,12 +311,7 @@ abbrev mutual
   -- the tree of a test
   pub test_tree : Test° → Condition
   test_tree (inside x) = cond_tree x
-  test_tree (compare op a b) = is.Compare op (value_tree a) (value_tree b)
-  test_tree (between a n w b u d) = negated n (is.Between (value_tree a) (value_tree b) (value_tree d))
-  test_tree (among a n w b all) = negated n (is.In (value_tree a) (value_tree b ∷ more_trees all))
-  test_tree (among_none a n w) = negated n (is.In (value_tree a) [])
-  test_tree (like a n w b e) = negated n (is.Like (value_tree a) (value_tree b) (escape_text e))
-  test_tree (null a w n u) = negated n (is.IsNull (value_tree a))
+  test_tree (tested x) = condition_of (tested_tree x)
   test_tree (empty p w n u) = negated n (is.IsEmpty (path_tree p))
   test_tree (member a n w of p) = negated n (is.Member (value_tree a) (path_tree p))
   test_tree (exists w b) = is.Exists (sub_tree b)

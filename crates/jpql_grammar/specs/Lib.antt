@@ -1,5 +1,7 @@
 pub mod Same
 pub mod Parts
+pub mod Tests
+pub mod ValueGrammar
 pub mod Grammar
 pub mod Nesting
 pub mod Values

@@ -1,5 +1,5 @@
 -- How statements are read from tokens.
-use Rattle.std.specs.Prelude.{ℕ, Bool, false, List, [], ◌∷◌, drop, Option, Some, None, if◌then◌else◌}
+use Rattle.std.specs.Prelude.{ℕ, suc, length, Bool, false, List, [], ◌∷◌, drop, Option, Some, None, if◌then◌else◌}
 use Rattle.jpql_grammar.specs.declared.token.Keyword.{Keyword}
 use Rattle.jpql_grammar.specs.declared.token.Keyword.TheVariants as k
 use Rattle.jpql_grammar.specs.declared.token.Mark.TheVariants as m
@@ -95,3 +95,7 @@ module _ (n : ℕ) where
   -- the statement that all the tokens are
   unfoldable pub whole_at : List Token → Option Query
   whole_at ts = statement_at ts >>= λ x. where_ended x.0 x.1
+
+-- the statement that all these tokens are; no part of it nests deeper than there are tokens
+abbrev pub statement_of : List Token → Option Query
+statement_of ts = whole_at (suc (length ts)) ts

@@ -18,13 +18,16 @@ use Rattle.jpql_types.specs.Scope.{when}
 use Rattle.jpql_types.specs.Sorts as sorts
 use Rattle.jpql_eval.specs.declared.datum.Datum.{Datum}
 use Rattle.jpql_eval.specs.Answers.{Answer, gives, overflows, ◌>>=◌}
-use Rattle.jpql_eval.specs.Data.{null, is_nothing, compared}
-use Rattle.jpql_eval.specs.Truths.{is_yes}
+use Rattle.jpql_eval.specs.declared.datum.Truth.{Truth}
+use Rattle.jpql_eval.specs.Data.{null, is_nothing, among, between, compared}
+use Rattle.jpql_eval.specs.Truths.{and3, is_yes, not3, or3, truth_of}
 use Rattle.jpql_eval.specs.Numbers.{number, integer, arithmetic, signed, absolute, modulo, calculate}
 use Rattle.jpql_eval.specs.Calls as calls
+use Rattle.jpql_eval.specs.Cases as cases
 use Rattle.jpql_eval.specs.Trims.{blank}
 use Rattle.jpql_kept.specs.Fits.{is_of_sort}
 use Rattle.jpql_kept.proofs.Sorts.{null_of, basic_each}
+use Rattle.jpql_kept.proofs.Cases.{chosen_is, compared_integer, integer_then, matched_is, truth_of_sort}
 
 -- a datum that is given is of the sort
 abbrev pub gives_of : Sort → Answer Datum → Bool
@@ -150,6 +153,16 @@ null_if_of s a b h = by_test (is_yes (compared Comparison.Equal a b))
     by_test true = null_of s
     by_test false = h
 
+-- ---- all functions of one to three operands
+
+some_of : (s : Sort) (f : Function) → ((a : Datum) → gives_of s (calls.of_operand f a) ≡ true) → ((a b : Datum) → gives_of s (calls.of_two f a b) ≡ true)
+    → ((a b c : Datum) → gives_of s (calls.of_three f a b c) ≡ true) → (ds : List Datum) → gives_of s (calls.of_some f ds) ≡ true
+some_of s f one two three [] = null_of s
+some_of s f one two three (a ∷ []) = one a
+some_of s f one two three (a ∷ b ∷ []) = two a b
+some_of s f one two three (a ∷ b ∷ c ∷ []) = three a b c
+some_of s f one two three (a ∷ b ∷ c ∷ d ∷ ds) = null_of s
+
 nulls_of : (s : Sort) (ds : List Datum) → list_all (is_of_sort s) ds ≡ true → gives_of s (calls.applied Function.NullIf ds) ≡ true
 nulls_of s [] h = null_of s
 nulls_of s (a ∷ []) h = null_of s
@@ -157,63 +170,9 @@ nulls_of s (a ∷ b ∷ []) h = null_if_of s a b (and_parts (is_of_sort s a) _ h
 nulls_of s (a ∷ b ∷ c ∷ []) h = null_of s
 nulls_of s (a ∷ b ∷ c ∷ d ∷ ds) h = null_of s
 
--- ---- all functions
-
-lengths_of : (ds : List Datum) → gives_of sorts.integer (calls.applied Function.Length ds) ≡ true
-lengths_of [] = refl
-lengths_of (a ∷ []) = length_of a
-lengths_of (a ∷ b ∷ []) = refl
-lengths_of (a ∷ b ∷ c ∷ []) = refl
-lengths_of (a ∷ b ∷ c ∷ d ∷ ds) = refl
-
-substrings_of : (ds : List Datum) → gives_of sorts.text (calls.applied Function.Substring ds) ≡ true
-substrings_of [] = refl
-substrings_of (a ∷ []) = refl
-substrings_of (a ∷ b ∷ []) = substring_of a b
-substrings_of (a ∷ b ∷ c ∷ []) = substring_upto a b c
-substrings_of (a ∷ b ∷ c ∷ d ∷ ds) = refl
-
-uppers_of : (ds : List Datum) → gives_of sorts.text (calls.applied Function.Upper ds) ≡ true
-uppers_of [] = refl
-uppers_of (a ∷ []) = upper_of a
-uppers_of (a ∷ b ∷ []) = refl
-uppers_of (a ∷ b ∷ c ∷ []) = refl
-uppers_of (a ∷ b ∷ c ∷ d ∷ ds) = refl
-
-lowers_of : (ds : List Datum) → gives_of sorts.text (calls.applied Function.Lower ds) ≡ true
-lowers_of [] = refl
-lowers_of (a ∷ []) = lower_of a
-lowers_of (a ∷ b ∷ []) = refl
-lowers_of (a ∷ b ∷ c ∷ []) = refl
-lowers_of (a ∷ b ∷ c ∷ d ∷ ds) = refl
-
-trims_of : (sides : Trimmed) (ds : List Datum) → gives_of sorts.text (calls.applied (Function.Trim sides) ds) ≡ true
-trims_of sides [] = refl
-trims_of sides (a ∷ []) = trim_of sides a (calls.text blank)
-trims_of sides (a ∷ b ∷ []) = trim_of sides a b
-trims_of sides (a ∷ b ∷ c ∷ []) = refl
-trims_of sides (a ∷ b ∷ c ∷ d ∷ ds) = refl
-
-locates_of : (ds : List Datum) → gives_of sorts.integer (calls.applied Function.Locate ds) ≡ true
-locates_of [] = refl
-locates_of (a ∷ []) = refl
-locates_of (a ∷ b ∷ []) = locate_from a b (number (pos 1))
-locates_of (a ∷ b ∷ c ∷ []) = locate_from a b c
-locates_of (a ∷ b ∷ c ∷ d ∷ ds) = refl
-
-absolutes_of : (ds : List Datum) → gives_of sorts.integer (calls.applied Function.Abs ds) ≡ true
-absolutes_of [] = refl
-absolutes_of (a ∷ []) = absolute_of a
-absolutes_of (a ∷ b ∷ []) = refl
-absolutes_of (a ∷ b ∷ c ∷ []) = refl
-absolutes_of (a ∷ b ∷ c ∷ d ∷ ds) = refl
-
-modulos_of : (ds : List Datum) → gives_of sorts.integer (calls.applied Function.Mod ds) ≡ true
-modulos_of [] = refl
-modulos_of (a ∷ []) = refl
-modulos_of (a ∷ b ∷ []) = modulo_of a b
-modulos_of (a ∷ b ∷ c ∷ []) = refl
-modulos_of (a ∷ b ∷ c ∷ d ∷ ds) = refl
+among_of : (ds : List Datum) → is_of_sort sorts.integer (cases.is_among ds) ≡ true
+among_of [] = refl
+among_of (x ∷ ds) = truth_of_sort (among x ds)
 
 when_is : (b : Bool) (s r : Sort) → when b s ≡ Some r → s ≡ r
 when_is true s r e = value_in s r e
@@ -223,18 +182,49 @@ when_is false s r e = absurd (some_none r (sym e))
 whenever : (b : Bool) (s r : Sort) (a : Answer Datum) → when b s ≡ Some r → gives_of s a ≡ true → gives_of r a ≡ true
 whenever b s r a e h = subst (λ t. gives_of t a ≡ true) (when_is b s r e) h
 
+-- a test is of the sort of integers
+tested : (s r : Sort) (f : Function) (ds : List Datum) → s ≡ r → gives_of s (calls.of_some f ds) ≡ true → gives_of r (calls.of_some f ds) ≡ true
+tested s r f ds e h = subst (λ t. gives_of t (calls.of_some f ds) ≡ true) e h
+
 given_by : (f : Function) (ss : List Sort) (ds : List Datum) (r : Sort) → sorts.given_sort f ss ≡ Some r → each_fits is_of_sort ss ds ≡ true → gives_of r (calls.applied f ds) ≡ true
-given_by Function.Length ss ds r e h = whenever _ sorts.integer r (calls.applied Function.Length ds) e (lengths_of ds)
+given_by Function.Length ss ds r e h = whenever _ sorts.integer r (calls.applied Function.Length ds) e (some_of sorts.integer Function.Length length_of (λ a b. refl) (λ a b c. refl) ds)
 given_by Function.Concat ss ds r e h = whenever _ sorts.text r (calls.applied Function.Concat ds) e (one_of sorts.text calls.text (calls.joined_texts ds) (λ t. refl))
-given_by Function.Substring ss ds r e h = whenever _ sorts.text r (calls.applied Function.Substring ds) e (substrings_of ds)
-given_by Function.Locate ss ds r e h = whenever _ sorts.integer r (calls.applied Function.Locate ds) e (locates_of ds)
-given_by Function.Abs ss ds r e h = whenever _ sorts.integer r (calls.applied Function.Abs ds) e (absolutes_of ds)
-given_by Function.Mod ss ds r e h = whenever _ sorts.integer r (calls.applied Function.Mod ds) e (modulos_of ds)
+given_by Function.Substring ss ds r e h = whenever _ sorts.text r (calls.applied Function.Substring ds) e (some_of sorts.text Function.Substring (λ a. refl) substring_of substring_upto ds)
+given_by Function.Locate ss ds r e h = whenever _ sorts.integer r (calls.applied Function.Locate ds) e (some_of sorts.integer Function.Locate (λ a. refl) (λ a b. locate_from a b (number (pos 1))) locate_from ds)
+given_by Function.Abs ss ds r e h = whenever _ sorts.integer r (calls.applied Function.Abs ds) e (some_of sorts.integer Function.Abs absolute_of (λ a b. refl) (λ a b c. refl) ds)
+given_by Function.Mod ss ds r e h = whenever _ sorts.integer r (calls.applied Function.Mod ds) e (some_of sorts.integer Function.Mod (λ a. refl) modulo_of (λ a b c. refl) ds)
 given_by Function.Coalesce ss ds r e h = coalesce_of r ds (basic_each r ss ds e h)
 given_by Function.NullIf ss ds r e h = nulls_of r ds (basic_each r ss ds e h)
-given_by Function.Upper ss ds r e h = whenever _ sorts.text r (calls.applied Function.Upper ds) e (uppers_of ds)
-given_by Function.Lower ss ds r e h = whenever _ sorts.text r (calls.applied Function.Lower ds) e (lowers_of ds)
-given_by (Function.Trim sides) ss ds r e h = whenever _ sorts.text r (calls.applied (Function.Trim sides) ds) e (trims_of sides ds)
+given_by Function.Upper ss ds r e h = whenever _ sorts.text r (calls.applied Function.Upper ds) e (some_of sorts.text Function.Upper upper_of (λ a b. refl) (λ a b c. refl) ds)
+given_by Function.Lower ss ds r e h = whenever _ sorts.text r (calls.applied Function.Lower ds) e (some_of sorts.text Function.Lower lower_of (λ a b. refl) (λ a b c. refl) ds)
+given_by (Function.Trim sides) ss ds r e h =
+    whenever _ sorts.text r (calls.applied (Function.Trim sides) ds) e
+    (some_of sorts.text (Function.Trim sides) (λ a. trim_of sides a (calls.text blank)) (trim_of sides) (λ a b c. refl) ds)
+given_by Function.Case ss ds r e h = matched_is r (cases.truth_datum Truth.Yes) ss ds e h
+given_by Function.Match ss ds r e h = chosen_is r ss ds e h
+given_by (Function.Test op) ss ds r e h =
+    tested sorts.integer r (Function.Test op) ds (compared_integer op ss r e)
+    (some_of sorts.integer (Function.Test op) (λ a. refl) (λ a b. truth_of_sort (compared op a b)) (λ a b c. refl) ds)
+given_by Function.IsBetween ss ds r e h =
+    tested sorts.integer r Function.IsBetween ds (integer_then (sorts.joined_basic ss) r e)
+    (some_of sorts.integer Function.IsBetween (λ a. refl) (λ a b. refl) (λ a low high. truth_of_sort (between a low high)) ds)
+given_by Function.IsAmong ss ds r e h =
+    subst (λ t. is_of_sort t (cases.is_among ds) ≡ true) (integer_then (sorts.joined ss) r e) (among_of ds)
+given_by Function.IsLike ss ds r e h =
+    whenever _ sorts.integer r (calls.applied Function.IsLike ds) e
+    (some_of sorts.integer Function.IsLike (λ a. refl) (λ a b. truth_of_sort (calls.like None a b)) (λ a b c. truth_of_sort (calls.like (calls.text_in c) a b)) ds)
+given_by Function.IsNull ss ds r e h =
+    tested sorts.integer r Function.IsNull ds (value_in sorts.integer r e)
+    (some_of sorts.integer Function.IsNull (λ a. truth_of_sort (truth_of (is_nothing a))) (λ a b. refl) (λ a b c. refl) ds)
+given_by Function.And ss ds r e h =
+    whenever _ sorts.integer r (calls.applied Function.And ds) e
+    (some_of sorts.integer Function.And (λ a. refl) (λ a b. truth_of_sort (and3 (cases.truth_in a) (cases.truth_in b))) (λ a b c. refl) ds)
+given_by Function.Or ss ds r e h =
+    whenever _ sorts.integer r (calls.applied Function.Or ds) e
+    (some_of sorts.integer Function.Or (λ a. refl) (λ a b. truth_of_sort (or3 (cases.truth_in a) (cases.truth_in b))) (λ a b c. refl) ds)
+given_by Function.Not ss ds r e h =
+    whenever _ sorts.integer r (calls.applied Function.Not ds) e
+    (some_of sorts.integer Function.Not (λ a. truth_of_sort (not3 (cases.truth_in a))) (λ a b. refl) (λ a b c. refl) ds)
 
 -- where a function takes so many
 pub call_of : (f : Function) (ss : List Sort) (ds : List Datum) (r : Sort) → sorts.call_sort f ss ≡ Some r → each_fits is_of_sort ss ds ≡ true → gives_of r (calls.applied f ds) ≡ true

@@ -21,6 +21,7 @@ use Rattle.jpa_stored.specs.declared.stored.Stored.{Stored}
 use Rattle.jpa_stored.specs.Sets.{StoredSet, put_all, without, is_shaped, no_required_null, all_lead, no_shared_target, IsSound}
 use Rattle.jpa_stored.proofs.Puts.{rises}
 use Rattle.jpa_rows.specs.Cells.{CanBeHeld, all_representable, names_representable, holds_representable, passes, key_given_by}
+use Rattle.jpql_tree.specs.declared.Language.{Language}
 use Rattle.jpql_tree.specs.declared.Query.{Query}
 use Rattle.jpql_tree.specs.declared.Assignment.{Assignment}
 use Rattle.jpql_tree.specs.declared.Value.{Value}
@@ -91,19 +92,20 @@ is_update (Typed.Delete class is_named where_) = false
 
 module _ (m : PersistenceUnit) (sorts : List (Text × Sort)) where
   record IsJudged (q : Query) (t : Typed) : Type 0 where
-    typed : is_typed m sorts q ≡ true
+    language : Language
+    typed : is_typed m sorts language q ≡ true
     given : are_given sorts q ≡ true
     tree : typed_statement m sorts q ≡ t
 
-  judged_by : (q : Query) (t : Typed) (a b : Bool) → is_typed m sorts q ≡ a → are_given sorts q ≡ b
+  judged_by : (l : Language) (q : Query) (t : Typed) (a b : Bool) → is_typed m sorts l q ≡ a → are_given sorts q ≡ b
       → (if not a then Err (Cause.IllegalArgument Argument.Typing) else if not b then Err (Cause.IllegalArgument Argument.Parameter) else Ok (typed_statement m sorts q)) ≡ Ok t
       → IsJudged q t
-  judged_by q t false b ae be e = absurd (not_ok _ t e)
-  judged_by q t true false ae be e = absurd (not_ok _ t e)
-  judged_by q t true true ae be e = record { typed = ae; given = be; tree = same_ok (typed_statement m sorts q) t e }
+  judged_by l q t false b ae be e = absurd (not_ok _ t e)
+  judged_by l q t true false ae be e = absurd (not_ok _ t e)
+  judged_by l q t true true ae be e = record { language = l; typed = ae; given = be; tree = same_ok (typed_statement m sorts q) t e }
 
-  judged : (q : Query) (t : Typed) → checked m q sorts ≡ Ok t → IsJudged q t
-  judged q t e = judged_by q t (is_typed m sorts q) (are_given sorts q) refl refl e
+  judged : (l : Language) (q : Query) (t : Typed) → checked l m q sorts ≡ Ok t → IsJudged q t
+  judged l q t e = judged_by l q t (is_typed m sorts l q) (are_given sorts q) refl refl e
 
   module _ (class : ℕ) (all : List TypedAssignment) (where_ : Option TypedCondition) where
     setting_by : (entity x : Text) (assignments : List Assignment) (filter : Option Condition) → are_given sorts (Query.Update entity x assignments filter) ≡ true
@@ -127,7 +129,7 @@ module _ (m : PersistenceUnit) (sorts : List (Text × Sort)) where
     setting : (q : Query) → IsJudged q (Typed.Update class all where_) → IsSetting m sorts class all
     setting (Query.Select q) h = absurd (false≢true (ap is_update h.tree))
     setting (Query.Update entity x assignments filter) h =
-        setting_by entity x assignments filter h.given h.tree (class_of m entity) refl (and_parts (has_distinct_names (Query.Update entity x assignments filter)) _ h.typed).1
+        setting_by entity x assignments filter h.given h.tree (class_of m entity) refl (and_parts (has_distinct_names h.language (Query.Update entity x assignments filter)) _ h.typed).1
     setting (Query.Delete entity x filter) h = absurd (false≢true (ap is_update h.tree))
 
 -- ---- entries of a set that a store can hold
@@ -281,7 +283,7 @@ pub update_keeps : (world : World) (s : StoredSet) (numbers : List ℕ) (q : Que
     → all_representable after ≡ true → IsSound world.model after → CanBeHeld world after numbers
 update_keeps world s numbers q sorts ds class all where_ ready after n is representable sound =
     let m = world.model in
-    let setting_is = setting m sorts class all where_ q (judged m sorts q (Typed.Update class all where_) ready.checked) in
+    let setting_is = setting m sorts class all where_ q (judged m sorts ready.language q (Typed.Update class all where_) ready.checked) in
     held_by world numbers s after ready.held
     (updated_held world s numbers sorts ds class all (base_of world numbers s ready.inherited ready.held) ready.given setting_is ready.convertible (held_of world numbers s ready.held) where_ after n is)
     representable sound

@@ -1,5 +1,6 @@
 pub mod Items
 pub mod Sorts
+pub mod Cases
 pub mod Calls
 pub mod Standing
 pub mod Given

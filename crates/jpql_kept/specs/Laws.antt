@@ -4,6 +4,7 @@ use Rattle.std.specs.Prelude.{◌≡◌, ℕ, Bool, true, List, Option, Ok}
 use Rattle.jpa_behaviour.specs.Behaviour.{World, AnswersConvertible}
 use Rattle.jpa_stored.specs.Sets.{StoredSet, IsSound}
 use Rattle.jpa_rows.specs.Cells.{CanBeHeld, all_representable}
+use Rattle.jpql_tree.specs.declared.Language.{Language}
 use Rattle.jpql_tree.specs.declared.Query.{Query}
 use Rattle.jpql_tree.specs.Names.{Text}
 use Rattle.jpql_types.specs.declared.sort.Sort.{Sort}
@@ -15,7 +16,7 @@ use Rattle.jpql_eval.specs.declared.datum.Datum.{Datum}
 use Rattle.jpql_plan.specs.Bulk.{updated, deleted}
 use Rattle.jpql_kept.specs.Fits.{are_of, throws_in, AreInherited}
 
--- A statement that was checked for parameters of these sorts, with data of these sorts. A store can
+-- A statement of a language that was checked for parameters of these sorts, with data of these sorts. A store can
 -- hold the set. The unit's classes inherit, and what a converter answers can stand in a column.
 pub record IsReady (world : World) (s : StoredSet) (numbers : List ℕ) (q : Query) (sorts : List (Text × Sort))
     (data_ : List Datum) (typed : Typed) : Type 0 where
@@ -23,7 +24,8 @@ pub record IsReady (world : World) (s : StoredSet) (numbers : List ℕ) (q : Que
   pub inherited : AreInherited world.model
   pub held : CanBeHeld world s numbers
   pub given : are_of world.model sorts data_ ≡ true
-  pub checked : checked world.model q sorts ≡ Ok typed
+  pub language : Language
+  pub checked : checked language world.model q sorts ≡ Ok typed
 
 -- UPDATE and DELETE over a set. That values are the program's the types of the code say: a number
 -- that it computes has 64 bits, a text that it makes is UTF-8.

@@ -6,4 +6,7 @@ pub mod Ordered
 pub mod Once
 pub mod Grouped
 pub mod Fronts
+pub mod Alone
+pub mod AloneValues
+pub mod AloneBlocks
 mod Examples

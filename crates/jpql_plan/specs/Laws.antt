@@ -1,6 +1,6 @@
 -- Laws of what queries mean, in a reader's words.
-use Rattle.std.specs.Prelude.{◌≡◌, ℕ, Bool, true, false, not, ◌||◌, List, [], ◌∷◌, ◌++◌, map, Option, Some, None}
-use Rattle.std.specs.Prelude.{if◌then◌else◌}
+use Rattle.std.specs.Prelude.{◌≡◌, ℕ, Bool, true, false, not, ◌||◌, List, [], ◌∷◌, ◌++◌, map, length, Option, Some}
+use Rattle.std.specs.Prelude.{None, if◌then◌else◌}
 use Rattle.std.specs.List.{AllByRecursion, filter, list_any}
 use Rattle.std.specs.List.Sorted.{IsSortedBy, IsStableBy}
 use Rattle.jpa_model.specs.declared.unit.PersistenceUnit.{PersistenceUnit}
@@ -26,6 +26,7 @@ use Rattle.jpql_eval.specs.Judged.{judged}
 use Rattle.jpql_plan.specs.Paths.{Entry, Tuple, object_at, with_object, objects, related_objects}
 use Rattle.jpql_plan.specs.Meaning.{Case, alone, is_any, in_turn, kept, tuples_where, value, value_drops, condition}
 use Rattle.jpql_plan.specs.Meaning.{source, join, rows, exists, truth}
+use Rattle.jpql_plan.specs.Alone.{is_alone_block}
 use Rattle.jpql_plan.specs.Selection.{Row, put_tuples, precedes, in_order}
 
 -- the objects of a class, without joins
@@ -85,6 +86,12 @@ pub record FromLaws (m : PersistenceUnit) (s : StoredSet) (ps : List Datum) : Ty
       ≡ gives left
       → ((e : Tuple) → value m s ps item (alone e) ≡ gives (gives_item e))
       → exists m s ps (block_of item sources filtered) t ≡ gives (is_any left)
+
+-- Nested blocks that name no variable around them (chapter 4.6.16): their rows are the same for all
+-- tuples of so many variables, or Overflow for all.
+pub record AloneLaws (m : PersistenceUnit) (s : StoredSet) (ps : List Datum) : Type 0 where
+  pub rows_alone : (n : ℕ) (b : TypedBlock) (p q : Tuple) → is_alone_block n b ≡ true → length p ≡ n → length q ≡ n
+      → rows m s ps b p ≡ rows m s ps b q
 
 -- WHERE, ON and HAVING (chapters 4.5, 4.4.5 and 4.8): what is true is kept.
 pub record WhereLaws (test : Tuple → Answer Truth) (drops : Tuple → Bool) (ts : List Tuple) : Type 0 where

@@ -1,3 +1,4 @@
+pub mod Alone
 pub mod Bulk
 pub mod Laws
 pub mod Meaning

@@ -8,7 +8,7 @@ ghost use Rattle.jpql_eval.specs.declared.datum.Truth.{Truth};
 ghost use Rattle.jpql_eval.specs.Answers.{Answer};
 ghost use Rattle.jpql_plan.specs.Paths.{Tuple};
 ghost use Rattle.jpql_plan.specs.Selection.{Row};
-ghost use Rattle.jpql_plan.specs.Laws.{FromLaws, WhereLaws, GroupLaws, OrderLaws, FrontLaws};
+ghost use Rattle.jpql_plan.specs.Laws.{FromLaws, AloneLaws, WhereLaws, GroupLaws, OrderLaws, FrontLaws};
 ghost use Rattle.jpql_plan.specs.Laws.{DistinctLaws};
 
 /// The laws of FROM and nested blocks (chapters 4.4, 4.6.14 and 4.6.16); it does nothing. A range is
@@ -17,6 +17,12 @@ ghost use Rattle.jpql_plan.specs.Laws.{DistinctLaws};
 /// each tuple that is left, and EXISTS is whether it has a tuple.
 pub fn from_laws()
     ensures { (m : PersistenceUnit) (s : StoredSet) (ps : List Datum) → FromLaws m s ps }
+{}
+
+/// The law of nested blocks that name no variable around them (chapter 4.6.16); it does nothing. For
+/// all tuples of so many variables their rows are the same.
+pub fn alone_laws()
+    ensures { (m : PersistenceUnit) (s : StoredSet) (ps : List Datum) → AloneLaws m s ps }
 {}
 
 /// The laws of WHERE (chapter 4.5); it does nothing. Where nothing overflows, WHERE is the filter

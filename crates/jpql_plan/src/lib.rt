@@ -8,4 +8,6 @@
 
 mod laws;
 
-pub use laws::{distinct_laws, from_laws, front_laws, group_laws, order_laws, where_laws};
+pub use laws::{
+    alone_laws, distinct_laws, from_laws, front_laws, group_laws, order_laws, where_laws,
+};

@@ -73,6 +73,9 @@ calm_some f h (a ∷ b ∷ c ∷ d ∷ all) = refl
 calm_call : (f : Function) → is_calm_function f ≡ true → (all : List Datum) → is_given (applied f all) ≡ true
 calm_call Function.Concat h all = refl
 calm_call Function.Coalesce h all = refl
+calm_call Function.Case h all = refl
+calm_call Function.Match h all = refl
+calm_call Function.IsAmong h all = refl
 calm_call f h all = calm_some f h all
 
 -- an integer that is one of 64 bits with either sign

@@ -1,6 +1,7 @@
 -- What a shape says of calls is what the grammar and the types say.
 use Rattle.std.proofs.Common.{◌≡◌, ◌∙◌, refl, ap, sym, ℕ, zero, suc, nat_eq, nat_le, length, Bool, true, false, ◌&&◌, ◌||◌, List, [], ◌∷◌, map, Option, Some, None, if◌then◌else◌}
 use Rattle.std.specs.List.{list_all}
+use Rattle.std.specs.Prelude.{IfSome}
 use Rattle.std.proofs.Math.Dec.{leb-zero, leb-suc-zero, leb-suc-suc, eqb-zero-suc, eqb-suc-zero, eqb-suc-suc}
 use Rattle.jpql_tree.specs.declared.Function.{Function}
 use Rattle.jpql_tree.specs.declared.Function.TheVariants as f
@@ -9,7 +10,7 @@ use Rattle.jpql_types.specs.declared.sort.Sort.{Sort}
 use Rattle.jpql_types.specs.Scope.{when}
 use Rattle.jpql_types.specs.Sorts.{call_sort, fit, given_sort, goes_with}
 use Rattle.jpql_types.specs.Sorts as sorts
-use Rattle.jpql_shapes.specs.Shapes.{ArgumentKind, any, are_of, call_by, given_by, integer, is_within, shape, sort_of, takes_by, text}
+use Rattle.jpql_shapes.specs.Shapes.{ArgumentKind, Shape, any, are_of, call_by, given_by, integer, is_within, shape, sort_of, takes_by, text}
 
 -- ---- how many
 
@@ -33,7 +34,7 @@ and_true : (a : Bool) → a ≡ a && true
 and_true true = refl
 and_true false = refl
 
-pub counted : (f : Function) (n : ℕ) → takes f n ≡ takes_by (shape f) n
+pub counted : (f : Function) (n : ℕ) → IfSome (shape f) (λ h. takes f n ≡ takes_by h n)
 counted f.Length n = one_count 1 n
 counted f.Concat n = and_true (nat_le 2 n)
 counted f.Substring n = two_counts 2 n
@@ -45,6 +46,16 @@ counted f.NullIf n = one_count 2 n
 counted f.Upper n = one_count 1 n
 counted f.Lower n = one_count 1 n
 counted (f.Trim sides) n = two_counts 1 n
+counted f.Case n = tt
+counted f.Match n = tt
+counted (f.Test op) n = tt
+counted f.IsBetween n = tt
+counted f.IsAmong n = tt
+counted f.IsLike n = tt
+counted f.IsNull n = tt
+counted f.And n = tt
+counted f.Or n = tt
+counted f.Not n = tt
 
 -- ---- of which sorts
 
@@ -76,24 +87,39 @@ bounded : (kinds : List ArgumentKind) (least : ℕ) (given : Sort) (all : List S
     → when (fit (map sort_of kinds) all) given ≡ when (are_of kinds all) given
 bounded kinds least given all taken = ap (λ b. when b given) (fit_of kinds all (and_right (nat_le least (length all)) (nat_le (length all) (length kinds)) taken))
 
-given_same : (f : Function) (all : List Sort) → takes_by (shape f) (length all) ≡ true → given_sort f all ≡ given_by (shape f).arguments (shape f).result all
-given_same f.Length all taken = bounded (text ∷ []) 1 sorts.integer all taken
-given_same f.Concat all taken = ap (λ b. when b sorts.text) (all_texts all)
-given_same f.Substring all taken = bounded (text ∷ integer ∷ integer ∷ []) 2 sorts.text all taken
-given_same f.Locate all taken = bounded (text ∷ text ∷ integer ∷ []) 2 sorts.integer all taken
-given_same f.Abs all taken = bounded (integer ∷ []) 1 sorts.integer all taken
-given_same f.Mod all taken = bounded (integer ∷ integer ∷ []) 2 sorts.integer all taken
-given_same f.Coalesce all taken = refl
-given_same f.NullIf all taken = refl
-given_same f.Upper all taken = bounded (text ∷ []) 1 sorts.text all taken
-given_same f.Lower all taken = bounded (text ∷ []) 1 sorts.text all taken
-given_same (f.Trim sides) all taken = bounded (text ∷ text ∷ []) 1 sorts.text all taken
+given_same : (f : Function) (all : List Sort) → IfSome (shape f) (λ h. takes_by h (length all) ≡ true → given_sort f all ≡ given_by h.arguments h.result all)
+given_same f.Length all = λ taken. bounded (text ∷ []) 1 sorts.integer all taken
+given_same f.Concat all = λ taken. ap (λ b. when b sorts.text) (all_texts all)
+given_same f.Substring all = λ taken. bounded (text ∷ integer ∷ integer ∷ []) 2 sorts.text all taken
+given_same f.Locate all = λ taken. bounded (text ∷ text ∷ integer ∷ []) 2 sorts.integer all taken
+given_same f.Abs all = λ taken. bounded (integer ∷ []) 1 sorts.integer all taken
+given_same f.Mod all = λ taken. bounded (integer ∷ integer ∷ []) 2 sorts.integer all taken
+given_same f.Coalesce all = λ taken. refl
+given_same f.NullIf all = λ taken. refl
+given_same f.Upper all = λ taken. bounded (text ∷ []) 1 sorts.text all taken
+given_same f.Lower all = λ taken. bounded (text ∷ []) 1 sorts.text all taken
+given_same (f.Trim sides) all = λ taken. bounded (text ∷ text ∷ []) 1 sorts.text all taken
+given_same f.Case all = tt
+given_same f.Match all = tt
+given_same (f.Test op) all = tt
+given_same f.IsBetween all = tt
+given_same f.IsAmong all = tt
+given_same f.IsLike all = tt
+given_same f.IsNull all = tt
+given_same f.And all = tt
+given_same f.Or all = tt
+given_same f.Not all = tt
 
 where_taken : (taken : Bool) (a b : Option Sort) → (taken ≡ true → a ≡ b) → (if taken then a else None) ≡ (if taken then b else None)
 where_taken true a b same = same refl
 where_taken false a b same = refl
 
-pub typed : (f : Function) (all : List Sort) → call_sort f all ≡ call_by (shape f) all
-typed f all =
-    ap (λ (taken : Bool). if taken then given_sort f all else None) (counted f (length all))
-    ∙ where_taken (takes_by (shape f) (length all)) (given_sort f all) (given_by (shape f).arguments (shape f).result all) (given_same f all)
+shaped : (o : Option Shape) (f : Function) (all : List Sort) → IfSome o (λ h. takes f (length all) ≡ takes_by h (length all))
+    → IfSome o (λ h. takes_by h (length all) ≡ true → given_sort f all ≡ given_by h.arguments h.result all) → IfSome o (λ h. call_sort f all ≡ call_by h all)
+shaped None f all counts same = tt
+shaped (Some h) f all counts same =
+    ap (λ (taken : Bool). if taken then given_sort f all else None) counts
+    ∙ where_taken (takes_by h (length all)) (given_sort f all) (given_by h.arguments h.result all) same
+
+pub typed : (f : Function) (all : List Sort) → IfSome (shape f) (λ h. call_sort f all ≡ call_by h all)
+typed f all = shaped (shape f) f all (counted f (length all)) (given_same f all)

@@ -50,10 +50,15 @@ shape_data name h =
     (member (codes "most") (most_data h.most)
     (member (codes "result") (string (kind_name h.result)) no_members)))))
 
+-- a function that has a shape, told
+abbrev pub shape_told : Text → Option Shape → List Data
+shape_told name (Some h) = shape_data name h ∷ []
+shape_told name None = []
+
 -- the function that a word calls, told; TRIM is one of whatever sides
 abbrev pub function_told : Text → Callee → List Data
-function_told name (calls.Function function) = shape_data name (shape function) ∷ []
-function_told name calls.Trim = shape_data name (shape (f.Trim side.Both)) ∷ []
+function_told name (calls.Function function) = shape_told name (shape function)
+function_told name calls.Trim = shape_told name (shape (f.Trim side.Both))
 function_told name _ = []
 
 -- the aggregate that a word calls, told (chapter 4.9.5)

@@ -33,19 +33,20 @@ of_one_fewer least kinds result = record (of_all kinds result) { least = least }
 abbrev pub of_more : List ArgumentKind → ArgumentKind → Shape
 of_more kinds result = record (of_all kinds result) { most = None }
 
--- the shape of a function
-abbrev pub shape : Function → Shape
-shape f.Length = of_all (text ∷ []) integer
-shape f.Concat = of_more (text ∷ text ∷ []) text
-shape f.Substring = of_one_fewer 2 (text ∷ integer ∷ integer ∷ []) text
-shape f.Locate = of_one_fewer 2 (text ∷ text ∷ integer ∷ []) integer
-shape f.Abs = of_all (integer ∷ []) integer
-shape f.Mod = of_all (integer ∷ integer ∷ []) integer
-shape f.Coalesce = of_more (any ∷ any ∷ []) any
-shape f.NullIf = of_all (any ∷ any ∷ []) any
-shape f.Upper = of_all (text ∷ []) text
-shape f.Lower = of_all (text ∷ []) text
-shape (f.Trim sides) = of_one_fewer 1 (text ∷ text ∷ []) text
+-- the shape of a function that is called by its name; CASE and the tests inside one aren't
+abbrev pub shape : Function → Option Shape
+shape f.Length = Some (of_all (text ∷ []) integer)
+shape f.Concat = Some (of_more (text ∷ text ∷ []) text)
+shape f.Substring = Some (of_one_fewer 2 (text ∷ integer ∷ integer ∷ []) text)
+shape f.Locate = Some (of_one_fewer 2 (text ∷ text ∷ integer ∷ []) integer)
+shape f.Abs = Some (of_all (integer ∷ []) integer)
+shape f.Mod = Some (of_all (integer ∷ integer ∷ []) integer)
+shape f.Coalesce = Some (of_more (any ∷ any ∷ []) any)
+shape f.NullIf = Some (of_all (any ∷ any ∷ []) any)
+shape f.Upper = Some (of_all (text ∷ []) text)
+shape f.Lower = Some (of_all (text ∷ []) text)
+shape (f.Trim sides) = Some (of_one_fewer 1 (text ∷ text ∷ []) text)
+shape _ = None
 
 -- ---- what a shape says of calls
 

@@ -1,5 +1,5 @@
 -- What reading a whole text answers, in words of the grammar.
-use Rattle.std.proofs.Common.{◌≡◌, ℕ, ◌≤◌, ◌<◌, ◌⊎◌, inl, inr, min, Bool, true, false, List, length, Option, Some, None, cond, Result, Ok, Err, IfOk, IfErr, subst, ap, sym, ◌∙◌, refl, arith}
+use Rattle.std.proofs.Common.{◌≡◌, ℕ, ◌≤◌, ◌<◌, ◌⊎◌, inl, inr, min, Bool, true, false, ◌&&◌, List, length, Option, Some, None, cond, Result, Ok, Err, IfOk, IfErr, subst, ap, sym, ◌∙◌, refl, arith}
 use Rattle.std.proofs.lemmas.Bool.{leb-true, leb-false}
 use Rattle.jpa_value.specs.declared.refusal.Argument.TheVariants as argument
 use Rattle.jpa_value.specs.declared.refusal.Cause.{Cause}
@@ -12,19 +12,19 @@ use Rattle.jpql_tree.specs.Names.{Text}
 use Rattle.jpql_tree.specs.Steps.{◌>>=◌}
 use Rattle.jpql_grammar.specs.Grammar.{IsStatement}
 use Rattle.jpql_grammar.specs.Text.{IsText}
-use Rattle.jpql_grammar.specs.Statements.{whole_at}
+use Rattle.jpql_grammar.specs.Statements.{statement_of}
 use Rattle.jpql_grammar.specs.Limits.{nests_over}
 use Rattle.jpql_tree.specs.Variables.{declared_variables}
 use Rattle.jpql_grammar.specs.Lists.{spread, are_used}
 use Rattle.jpql_grammar.specs.Queries.{IsQuery, speaks}
-use Rattle.jpql_grammar.proofs.Tools.{same, step, choice}
+use Rattle.jpql_grammar.proofs.Tools.{both, same, step, choice}
 use Rattle.jpql_grammar.proofs.One.{read_is}
 use Rattle.jpql_grammar.proofs.Queries.{one_list, query_read}
 use Rattle.jpql_lexer.specs.declared.error.ReadError.{ReadError}
 use Rattle.jpql_lexer.specs.declared.error.ReadError.TheVariants.{Memory, Syntax}
 use Rattle.jpql_lexer.specs.Gives.{Gives, Fails}
-use Rattle.jpql_text.specs.Answers.{IsWithin, IsAnswered, UsesLists, cause_of, spoken, statement_in}
-use Rattle.jpql_text.specs.Together.{most_values_together, values_together, become_few}
+use Rattle.jpql_text.specs.Answers.{AreFew, AreTooMany, IsWithin, IsAnswered, UsesLists, cause_of, spoken, statement_in}
+use Rattle.jpql_text.specs.Together.{most_values_together, values_together, become_few, most_cases, cases_in, has_few_cases, are_few}
 
 abbrev pub itself : Query → Query
 itself q = q
@@ -52,36 +52,49 @@ said l q found h = choice (speaks l q) (Some q) None (Some found) h (λ says e. 
 -- a text is the query that its tokens are as a statement
 pub stated_is : (l : Language) (lists : List GivenList) (text : Text) (tokens : List Token) (found : Query) → IsText l text tokens → statement_in l lists tokens ≡ Some found → IsQuery l lists text found
 stated_is l lists text tokens found t h =
-    step (spread lists tokens >>= whole_at 35) (spoken l) found h (λ q eq hq. let (says, same_query) = said l q found hq in
-    step (spread lists tokens) (whole_at 35) q eq (λ stand stands reads.
+    step (spread lists tokens >>= statement_of) (spoken l) found h (λ q eq hq. let (says, same_query) = said l q found hq in
+    step (spread lists tokens) statement_of q eq (λ stand stands reads.
     subst (λ f. IsQuery l lists text f) same_query (says, (tokens, stand, t, stands, read_is stand q reads))))
 
--- and a query that nests not too deep is the statement of its tokens
-pub is_stated : (l : Language) (lists : List GivenList) (text : Text) (tokens : List Token) (q : Query) → nests_over 32 false 0 text ≡ false → IsText l text tokens → IsQuery l lists text q
+-- and a query is the statement of its tokens
+pub is_stated : (l : Language) (lists : List GivenList) (text : Text) (tokens : List Token) (q : Query) → IsText l text tokens → IsQuery l lists text q
     → statement_in l lists tokens ≡ Some q
-is_stated l lists text tokens q shallow t r =
-    ap (λ o. o >>= spoken l) (query_read l lists text tokens q shallow t r) ∙ ap (λ says. cond says (Some q) None) r.0
+is_stated l lists text tokens q t r =
+    ap (λ o. o >>= spoken l) (query_read l lists text tokens q t r) ∙ ap (λ says. cond says (Some q) None) r.0
 
 -- ---- what is answered
 
 -- a text that isn't too long, nests not too deep, and has these tokens
 module _ (l : Language) (lists : List GivenList) (text : Text) (written : List Token) (short : length text ≤ 16384) (shallow : nests_over 32 false 0 text ≡ false) (is : IsText l text written) where
-  -- its lists become too many values
-  pub too_many_values : become_few lists written ≡ false → IsAnswered l lists text (Err cause.Limit)
-  too_many_values many = record {
-    read = tt;
-    refused = inr (inr (inl (written, is, over)));
-    only = λ q r. absurd (omega (arith, over, r.1.2 written is));
-  }
+  -- its lists become too many values, or it has too many words CASE
+  pub too_many : are_few lists written ≡ false → IsAnswered l lists text (Err cause.Limit)
+  too_many many = by_lists (become_few lists written) refl
     where
-      over : most_values_together < values_together lists written
-      over = leb-false (values_together lists written) most_values_together many
+      answered : AreTooMany lists written → (AreFew lists written → ⊥) → IsAnswered l lists text (Err cause.Limit)
+      answered over never = record {
+        read = tt;
+        refused = inr (inr (inl (written, is, over)));
+        only = λ q r. absurd (never (r.1.2 written is));
+      }
 
-  within : become_few lists written ≡ true → IsWithin l lists text
-  within few = (short, shallow, λ tokens t. subst (λ ts. values_together lists ts ≤ most_values_together) (one_list l text written tokens is t) (leb-true (values_together lists written) most_values_together few))
+      by_lists : (b : Bool) → become_few lists written ≡ b → IsAnswered l lists text (Err cause.Limit)
+      by_lists false e =
+          let over : most_values_together < values_together lists written = leb-false (values_together lists written) most_values_together e in
+          answered (inl over) (λ few. omega (arith, over, few.0))
+      by_lists true e =
+          let over : most_cases < cases_in written = leb-false (cases_in written) most_cases (sym (ap (λ b. b && has_few_cases written) e) ∙ many) in
+          answered (inr over) (λ few. omega (arith, over, few.1))
+
+  within : are_few lists written ≡ true → IsWithin l lists text
+  within few = (
+    short,
+    shallow,
+    λ tokens t. subst (AreFew lists) (one_list l text written tokens is t) (both (become_few lists written) (has_few_cases written) few
+        (λ lists_few cases_few. (leb-true (values_together lists written) most_values_together lists_few, leb-true (cases_in written) most_cases cases_few))),
+  )
 
   -- it is not read as a statement
-  pub unread : become_few lists written ≡ true → (e : ReadError) → Fails e (statement_in l lists written) → IsAnswered l lists text (Err (cause_of e))
+  pub unread : are_few lists written ≡ true → (e : ReadError) → Fails e (statement_in l lists written) → IsAnswered l lists text (Err (cause_of e))
   unread few Memory h = record { read = tt; refused = tt; only = λ q r. inr refl }
   unread few Syntax h = record {
     read = tt;
@@ -90,13 +103,13 @@ module _ (l : Language) (lists : List GivenList) (text : Text) (written : List T
   }
     where
       none : (q : Query) → IsQuery l lists text q → ⊥
-      none q r = let never = sym h ∙ is_stated l lists text written q shallow is r in cc
+      none q r = let never = sym h ∙ is_stated l lists text written q is r in cc
 
   found_query : (found : Query) → statement_in l lists written ≡ Some found → IsQuery l lists text found
   found_query found h = stated_is l lists text written found is h
 
   found_alone : (found q : Query) → statement_in l lists written ≡ Some found → IsQuery l lists text q → q ≡ found
-  found_alone found q h r = same _ _ (sym (is_stated l lists text written q shallow is r) ∙ h)
+  found_alone found q h r = same _ _ (sym (is_stated l lists text written q is r) ∙ h)
 
   -- or as one with too many variables
   pub too_many_variables : (found : Query) (n : ℕ) → statement_in l lists written ≡ Some found → n ≡ min 9 (declared_variables found) → 8 < n → IsAnswered l lists text (Err cause.Limit)
@@ -106,7 +119,7 @@ module _ (l : Language) (lists : List GivenList) (text : Text) (written : List T
     only = λ q r. absurd (omega (arith, e, more, r.2, ap declared_variables (found_alone found q h r.0)));
   }
 
-  pub tree_found : become_few lists written ≡ true → (found : Query) (n : ℕ) → statement_in l lists written ≡ Some found → n ≡ min 9 (declared_variables found) → n ≤ 8 → IsAnswered l lists text (Ok found)
+  pub tree_found : are_few lists written ≡ true → (found : Query) (n : ℕ) → statement_in l lists written ≡ Some found → n ≡ min 9 (declared_variables found) → n ≤ 8 → IsAnswered l lists text (Ok found)
   tree_found few found n h e fits = record {
     read = (found_query found h, within few, omega (arith, e, fits));
     refused = tt;

@@ -14,31 +14,38 @@ use Rattle.jpql_grammar.specs.Limits.{nests_over}
 use Rattle.jpql_tree.specs.Variables.{declared_variables}
 use Rattle.jpql_tree.specs.Steps.{◌>>=◌}
 use Rattle.jpql_grammar.specs.Lists.{spread, are_used}
-use Rattle.jpql_grammar.specs.Statements.{whole_at}
+use Rattle.jpql_grammar.specs.Statements.{statement_of}
 use Rattle.jpql_grammar.specs.Text.{IsText}
 use Rattle.jpql_grammar.specs.Queries.{IsQuery, speaks}
 use Rattle.jpql_lexer.specs.declared.error.ReadError.{ReadError}
 use Rattle.jpql_lexer.specs.declared.error.ReadError.TheVariants.{Memory, Syntax}
-use Rattle.jpql_text.specs.Together.{most_values_together, values_together}
+use Rattle.jpql_text.specs.Together.{most_values_together, values_together, most_cases, cases_in}
 
 -- a statement, where the language has it
 abbrev pub spoken : Language → Query → Option Query
 spoken l query = if speaks l query then Some query else None
 
--- the statement of the language that tokens are, where lists stand for their values; conditions and
--- values nest no deeper than parentheses do
+-- the statement of the language that tokens are, where lists stand for their values
 abbrev pub statement_in : Language → List GivenList → List Token → Option Query
-statement_in l lists tokens = spread lists tokens >>= whole_at 35 >>= spoken l
+statement_in l lists tokens = spread lists tokens >>= statement_of >>= spoken l
 
 -- ---- the limits
 
+-- collections become few enough values in these tokens, and there are few enough words CASE
+abbrev pub AreFew : List GivenList → List Token → Type 0
+AreFew lists tokens = (values_together lists tokens ≤ most_values_together) × (cases_in tokens ≤ most_cases)
+
+-- collections become too many values, or there are too many words CASE
+abbrev pub AreTooMany : List GivenList → List Token → Type 0
+AreTooMany lists tokens = (most_values_together < values_together lists tokens) ⊎ (most_cases < cases_in tokens)
+
 -- Where collections are handed in for these parameters, the text is within the limits that are told
--- before it is read: at most 16,384 bytes, at most 32 parentheses open at one place, and at most 65,536
--- values of collections in its tokens, together.
+-- before it is read: at most 16,384 bytes, at most 32 parentheses open at one place, and in its tokens at
+-- most 65,536 values of collections, together, and at most 64 words CASE.
 abbrev pub IsWithin : Language → List GivenList → Text → Type 0
 IsWithin l lists text = (length text ≤ most_query_bytes)
     × (nests_over most_open_parentheses false 0 text ≡ false)
-    × ((tokens : List Token) → IsText l text tokens → values_together lists tokens ≤ most_values_together)
+    × ((tokens : List Token) → IsText l text tokens → AreFew lists tokens)
 
 -- The text is one of the language's grammar, where collections are handed in for these parameters,
 -- within the limits, with at most 8 variables, and this is its tree.
@@ -46,12 +53,12 @@ abbrev pub IsRead : Language → List GivenList → Text → Query → Type 0
 IsRead l lists text query =
     IsQuery l lists text query × IsWithin l lists text × (declared_variables query ≤ most_query_variables)
 
--- a text is too long, nests too deep, has collections become too many values, or is a query of the
--- language with too many variables
+-- a text is too long, nests too deep, has collections become too many values or too many words CASE, or
+-- is a query of the language with too many variables
 abbrev pub IsOverLimit : Language → List GivenList → Text → Type 0
 IsOverLimit l lists text = (most_query_bytes < length text)
     ⊎ ((nests_over most_open_parentheses false 0 text ≡ true)
-    ⊎ (((tokens : List Token) × IsText l text tokens × (most_values_together < values_together lists tokens))
+    ⊎ (((tokens : List Token) × IsText l text tokens × AreTooMany lists tokens)
     ⊎ ((query : Query) × IsQuery l lists text query × (most_query_variables < declared_variables query))))
 
 -- ---- what is answered

@@ -1,13 +1,15 @@
--- How many values collections become in a text, and how many they may (chapter 4.6.9): each value stands
--- for the parameter wherever that one stands behind IN, so that a short text can say a long list often.
-use Rattle.std.specs.Prelude.{ℕ, ◌+◌, Bool, nat_le, List, [], ◌∷◌, Option, Some, None}
+-- How much there may be in a text's tokens: values that collections become (chapter 4.6.9), each of which
+-- stands for the parameter wherever that one stands behind IN, so that a short text can say a long list
+-- often; and words CASE, which nest without a parenthesis (chapter 4.7.4).
+use Rattle.std.specs.Prelude.{ℕ, suc, ◌+◌, Bool, ◌&&◌, nat_le, List, [], ◌∷◌, Option, Some, None, if◌then◌else◌}
 use Rattle.jpql_grammar.specs.declared.lists.Before.{Before}
 use Rattle.jpql_grammar.specs.declared.lists.GivenList.{GivenList}
+use Rattle.jpql_grammar.specs.declared.token.Keyword.TheVariants as k
 use Rattle.jpql_grammar.specs.declared.token.Mark.TheVariants as m
 use Rattle.jpql_grammar.specs.declared.token.Token.{Token}
 use Rattle.jpql_tree.specs.Steps.{◌>>=◌}
 use Rattle.jpql_grammar.specs.Lists.{list_named, lone_parameter, behind}
-use Rattle.jpql_grammar.specs.Values.{sees}
+use Rattle.jpql_grammar.specs.Values.{is_key, sees}
 
 -- the most values of one collection that is handed in for a parameter
 abbrev pub most_list_values : ℕ
@@ -40,3 +42,20 @@ values_together lists tokens = values_from lists Before.Other tokens
 -- whether they are few enough
 abbrev pub become_few : List GivenList → List Token → Bool
 become_few lists tokens = nat_le (values_together lists tokens) most_values_together
+
+-- the most words CASE in one text
+abbrev pub most_cases : ℕ
+most_cases = 64
+
+-- how many words CASE tokens have
+unfoldable pub cases_in : List Token → ℕ
+cases_in [] = 0
+cases_in (x ∷ rest) = if is_key k.Case x then suc (cases_in rest) else cases_in rest
+
+-- whether they are few enough
+abbrev pub has_few_cases : List Token → Bool
+has_few_cases tokens = nat_le (cases_in tokens) most_cases
+
+-- whether a text's tokens are within both limits
+abbrev pub are_few : List GivenList → List Token → Bool
+are_few lists tokens = become_few lists tokens && has_few_cases tokens

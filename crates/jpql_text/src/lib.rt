@@ -6,8 +6,9 @@
 //! grammar. `jpql_lexer` cuts the text into tokens, `jpql_conditions` reads values and conditions,
 //! and here are collections behind IN, statements, the limits and the whole.
 //!
-//! Conditions and values recurse as deep as parentheses nest, of which a text has at most 32, and its
-//! tokens one more where a collection stands for its values: each recursion counts down from 35.
+//! Conditions and values recurse as deep as parentheses and CASEs nest: of those a text has at most
+//! 32, and one more where a collection stands for its values, of these at most 64. Each recursion
+//! counts down from the number of tokens, of which each step takes one at least.
 #![tactic(auto)]
 
 mod language;

@@ -1,8 +1,14 @@
-//! How deep parentheses nest in a text.
+//! How deep parentheses nest in a text, and how many words CASE its tokens have.
 ghost use Rattle.std.specs.Prelude.{◌≡◌, ◌≤◌, false, IfSome};
 ghost use Rattle.jpql_grammar.specs.Limits as spec;
+ghost use Rattle.jpql_text.specs.Together as together;
 
 use jpa_value::MOST_OPEN_PARENTHESES;
+use jpql_conditions::is_word;
+use jpql_grammar::{Keyword, Token};
+
+/// The most words CASE in one text (own limit): they nest without a parenthesis.
+pub const MOST_CASES: usize = 64;
 
 /// Whether the bytes after this one are inside quotes, and how many parentheses are open before
 /// them; none where too many are.
@@ -44,4 +50,23 @@ pub fn nests_over(text: &[u8]) -> bool
         }
     }
     false
+}
+
+/// Whether there are at most 64 words CASE in a text.
+#[tactic(auto, unfolding(crate::specs::Together::cases_in))]
+pub fn has_few_cases(tokens: &[Token]) -> bool
+    ensures { result ≡ together.has_few_cases tokens.now }
+{
+    let mut room = MOST_CASES;
+    let mut left = tokens;
+    while let [_, rest @ ..] = left {
+        if is_word(Keyword::Case, left) {
+            if room == 0 {
+                return false;
+            }
+            room -= 1;
+        }
+        left = rest;
+    }
+    true
 }

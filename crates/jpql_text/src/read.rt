@@ -13,13 +13,14 @@ ghost use Rattle.jpql_grammar.specs.Queries.{IsQuery, KeepNames};
 ghost use Rattle.jpql_lexer.specs.Gives.{Gives};
 ghost use Rattle.jpql_text.specs.Answers.{IsAnswered, IsRead, IsRefused, UsesLists};
 ghost use Rattle.jpql_text.specs.Answers.{cause_of, statement_in};
+ghost use Rattle.jpql_text.specs.Together as together;
 
 use crate::language::speaks;
-use crate::limits::nests_over;
+use crate::limits::{has_few_cases, nests_over};
 use crate::lists::{are_used, become_few, spread};
-use crate::statements::statement;
+use crate::statements::statement_of;
 use crate::variables::declared;
-use jpa_value::{Argument, Cause, MOST_OPEN_PARENTHESES, MOST_QUERY_BYTES, MOST_QUERY_VARIABLES};
+use jpa_value::{Argument, Cause, MOST_QUERY_BYTES, MOST_QUERY_VARIABLES};
 use jpql_grammar::{GivenList, Token};
 use jpql_lexer::{ReadError, tokens};
 use jpql_tree::{Language, Query};
@@ -45,13 +46,20 @@ fn statement_in(
     ensures { Gives (λ query. query) result (statement_in language lists.now written.items) }
 {
     let tokens = spread(alloc, lists, written)?;
-    let query = statement(alloc, MOST_OPEN_PARENTHESES + 3, tokens.as_slice())?;
+    let query = statement_of(alloc, tokens.as_slice())?;
     if speaks(language, &query) {
         Ok(query)
     } else {
         drop(query);
         Err(ReadError::Syntax)
     }
+}
+
+/// Whether collections become few enough values in a text, and its words CASE are few enough.
+fn are_few(lists: &[GivenList], tokens: &[Token]) -> bool
+    ensures { result ≡ together.are_few lists.now tokens.now }
+{
+    become_few(lists, tokens) && has_few_cases(tokens)
 }
 
 /// The tree of a text that has these tokens, and isn't too long and nests not too deep.
@@ -65,7 +73,7 @@ fn tree_of(
         limits.nests_over 32 false 0 text ≡ false → IsText language text written.items →
         IsAnswered language lists.now text result }
 {
-    if !become_few(lists, written.as_slice()) {
+    if !are_few(lists, written.as_slice()) {
         drop(written);
         return Err(Cause::Limit);
     }
@@ -85,16 +93,17 @@ fn tree_of(
 /// The tree of a query's text in a language. The text is one of the grammar of Jakarta Persistence
 /// 3.1, chapter 4, as far as `jpql_grammar`'s `specs/Grammar` has it; keywords are those of the
 /// language and ignore ASCII case, and parentheses leave no node. The profile's ORDER BY sorts by
-/// result variables and paths alone, the wide language's by any value; the wide language compares
-/// values with the rows of subqueries too. A parameter that a collection is handed in for stands behind
-/// IN alone, with parentheses around it or not, for the parameters of its values (chapter 4.6.9), whose
-/// names `value_name` gives.
+/// result variables and paths alone, the wide language's by any value; the wide language has CASE
+/// (chapter 4.7.4), and compares values with the rows of subqueries too. A parameter that a
+/// collection is handed in for stands behind IN alone, with parentheses around it or not, for the
+/// parameters of its values (chapter 4.6.9), whose names `value_name` gives.
 ///
 /// `Limit` for a text over 16,384 bytes, for one in which more than 32 parentheses are open at some
 /// place outside quotes, for one in which collections become more than 65,536 values, counted at
-/// each place where one stands behind IN, and for a text of the grammar that declares more than 8
-/// variables; `IllegalArgument(Syntax)` for each other text outside the grammar; `OutOfMemory` where
-/// a growth was refused.
+/// each place where one stands behind IN, for one of the wide language with more than 64 words
+/// CASE, and for a text of the grammar that declares more than 8 variables;
+/// `IllegalArgument(Syntax)` for each other text outside the grammar; `OutOfMemory` where a growth
+/// was refused.
 pub fn read_query(
     alloc: Global,
     language: Language,

@@ -291,7 +291,7 @@ fn any_statement(
 
 /// The statement that all the tokens are.
 #[tactic(auto, unfolding(jpql_grammar::specs::Statements::whole_at))]
-pub fn statement(alloc: Global, depth: usize, tokens: &[Token]) -> Result<Query, ReadError>
+fn statement(alloc: Global, depth: usize, tokens: &[Token]) -> Result<Query, ReadError>
     ensures { Gives (λ q. q) result (spec.whole_at depth tokens.now) }
 {
     let (query, rest) = any_statement(alloc, depth, tokens)?;
@@ -302,4 +302,11 @@ pub fn statement(alloc: Global, depth: usize, tokens: &[Token]) -> Result<Query,
             Err(ReadError::Syntax)
         }
     }
+}
+
+/// The statement that these tokens are. No part of it nests deeper than there are tokens.
+pub fn statement_of(alloc: Global, tokens: &[Token]) -> Result<Query, ReadError>
+    ensures { Gives (λ q. q) result (spec.statement_of tokens.now) }
+{
+    statement(alloc, tokens.len() + 1, tokens)
 }

@@ -35,7 +35,8 @@ pub enum Trimmed {
     Both,
 }
 
-/// A function over values (chapters 4.7.2, 4.7.3 and 4.7.4).
+/// A function over values (chapters 4.7.2, 4.7.3 and 4.7.4). A test of values inside a CASE is one as
+/// well, which gives 1 where it is true, 0 where it is false, and null where it is unknown.
 #[derive(Clone, Copy)]
 pub enum Function {
     Length,
@@ -50,6 +51,20 @@ pub enum Function {
     Lower,
     /// Of the text, and of what is taken off its sides where that isn't the blank.
     Trim(Trimmed),
+    /// CASE WHEN: of each test with the value behind its THEN, and of the value behind ELSE.
+    Case,
+    /// CASE of a value: of that value, and then as CASE WHEN, with what it is compared with as tests.
+    Match,
+    Test(Comparison),
+    IsBetween,
+    /// IN: of a value, and of those among which it may be.
+    IsAmong,
+    /// LIKE: of a text and a pattern, and of what escapes in the pattern, where that is written.
+    IsLike,
+    IsNull,
+    And,
+    Or,
+    Not,
 }
 
 /// An aggregate: a function over the tuples of a group (chapter 4.9.5).

@@ -8,6 +8,7 @@ mod Joined
 mod Items
 mod Judged
 mod RowSamples
+mod ScopeSamples
 -- ---- each name means something
 pub mod Options
 pub mod ResolvedValues

@@ -23,6 +23,7 @@ use Rattle.jpql_tree.specs.Names.{Text}
 use Rattle.jpql_tree.specs.Steps.{◌>>=◌}
 use Rattle.jpql_typed.specs.declared.path.Step.{Step}
 use Rattle.jpql_typed.specs.declared.path.TypedPath.{TypedPath}
+use Rattle.jpql_types.specs.declared.scope.Clause.{Clause}
 use Rattle.jpql_types.specs.declared.sort.Sort.{Sort}
 use Rattle.jpql_typed.specs.declared.typed.TypedValue.{TypedValue}
 use Rattle.jpql_typed.specs.declared.typed.TypedCondition.{TypedCondition}
@@ -31,10 +32,10 @@ use Rattle.jpql_typed.specs.declared.typed.TypedOrigin.{TypedOrigin}
 use Rattle.jpql_typed.specs.declared.typed.TypedSource.{TypedSource, roll-TypedSource}
 use Rattle.jpql_typed.specs.declared.typed.TypedJoin.{TypedJoin, roll-TypedJoin}
 use Rattle.jpql_typed.specs.declared.typed.TypedBlock.{TypedBlock, roll-TypedBlock}
-use Rattle.jpql_types.specs.Scope.{Scope, when, place_of, path_of, step_from, target, resolved}
+use Rattle.jpql_types.specs.Scope.{Scope, when, is_new, place_of, path_of, step_from, target, resolved}
 use Rattle.jpql_types.specs.Sorts.{goes_with, text, joined, joined_basic, sort_against, are_comparable}
 use Rattle.jpql_types.specs.Typing as typing
-use Rattle.jpql_types.specs.Typing.{value_sort, sorts_of, collection, variable_path, is_of_hierarchy, allows_exists, is_one_character, related_class, origin_class, in_turn, with_variable}
+use Rattle.jpql_types.specs.Typing.{value_sort, sorts_of, collection, variable_path, is_of_hierarchy, allows_exists, is_one_character, related_class, origin_class, in_turn, with_variable, when_new}
 use Rattle.jpql_types.specs.Trees as trees
 use Rattle.jpql_types.specs.Trees.{place, no_step}
 use Rattle.jpql_types.specs.Resolved as names
@@ -42,6 +43,15 @@ use Rattle.jpql_types.specs.Resolved.{both, if_written}
 use Rattle.jpql_types.proofs.Options.{IsThere, value_in, none_some, there, there_before, there_at, there_that, there_if, there_both, passed_if, all_there, that_at, then_at, when_there, both_of, each_of, each_tested, each_paired}
 use Rattle.jpql_types.proofs.Turns.{Turns, turns}
 use Rattle.jpql_types.proofs.ResolvedValues.{value_resolved, values_resolved, collected_path}
+
+-- a variable that is declared is new, and its class is the one that was found
+new_one : (scope : Scope) (x : Text) (o : Option ℕ) (f : ℕ → Option Scope) (wider : Scope) → (when_new scope x o >>= f) ≡ Some wider → (o >>= f) ≡ Some wider
+unfolding when_new
+new_one scope x o f wider h = by (is_new scope x) h
+  where
+    by : (b : Bool) → ((if b then o else None) >>= f) ≡ Some wider → (o >>= f) ≡ Some wider
+    by true h = h
+    by false h = absurd (none_some wider h)
 
 module _ (m : PersistenceUnit) (ps : List (Text × Sort)) (groups : List Path) where
   -- ---- what typing says, what names mean, and the tree
@@ -257,11 +267,14 @@ module _ (m : PersistenceUnit) (ps : List (Text × Sort)) (groups : List Path) w
   join_case : (is_left : Bool) (of relation x : Text) (on : Option Cs) → J (roll-Join (bare_join (record { is_left = is_left; of = of; relation = relation; variable = x; on = on })))
   join_case is_left of relation x None scope wider h =
       let w = bare_join (record { is_left = is_left; of = of; relation = relation; variable = x; on = None }) in
-      let it = join_by is_left x (λ s. true) None None (λ s e. refl) scope wider (step_from m scope of relation) (subst (λ f. f scope ≡ Some wider) (judged_join w) h) in
+      let it = join_by is_left x (λ s. true) None None (λ s e. refl) scope wider (step_from m scope of relation)
+      (new_one scope x (related_class m scope of relation) (λ class. when true (with_variable scope x class)) wider (subst (λ f. f scope ≡ Some wider) (judged_join w) h)) in
       (ap (λ f. f scope) (named_join w) ∙ it.0 ∙ ap (λ f. Some (f scope)) (sym (made_join w)), ap (λ f. (f scope).1) (made_join w) ∙ it.1)
   join_case is_left of relation x (Some c) scope wider h =
       let w = bare_join (record { is_left = is_left; of = of; relation = relation; variable = x; on = Some c }) in
-      let it = join_with _ is_left x c scope wider (step_from m scope of relation) (subst (λ f. f scope ≡ Some wider) (judged_join w) h) in
+      let it = join_with Clause.On is_left x c scope wider (step_from m scope of relation)
+      (new_one scope x (related_class m scope of relation) (λ class. when (judged c.0 (with_variable scope x class) Clause.On) (with_variable scope x class)) wider
+      (subst (λ f. f scope ≡ Some wider) (judged_join w) h)) in
       (ap (λ f. f scope) (named_join w) ∙ it.0 ∙ ap (λ f. Some (f scope)) (sym (made_join w)), ap (λ f. (f scope).1) (made_join w) ∙ it.1)
 
   join_layer : (y : Join-F Cs Bs Js Ss) → J (roll-Join (bare_join y))
@@ -321,7 +334,9 @@ module _ (m : PersistenceUnit) (ps : List (Text × Sort)) (groups : List Path) w
       let judged_source = folds.fold-roll-Source Judges Rows Adds Adds (typing.condition_step m ps groups) (typing.block_step m ps groups) (typing.join_step m ps groups) (typing.source_step m ps groups) w in
       let named_source = folds.fold-roll-Source Named-in Block-named Join-named Source-named (names.test_step m ps) (names.block_step m ps) (names.join_step m ps) (names.source_step m ps) w in
       let made_source = folds.fold-roll-Source Made-in Block-made Join-made Source-made (trees.test_step m ps) (trees.block_step m ps) (trees.join_step m ps) (trees.source_step m ps) w in
-      let it = source_by y.origin y.variable y.joins scope wider (subst (λ f. f scope ≡ Some wider) judged_source h) in
+      let it = source_by y.origin y.variable y.joins scope wider
+      (new_one scope y.variable (origin_class m scope y.origin) (λ class. in_turn (map join_adds (map (λ z. z.0) y.joins)) (with_variable scope y.variable class)) wider
+      (subst (λ f. f scope ≡ Some wider) judged_source h)) in
       (ap (λ f. f scope) named_source ∙ it.0 ∙ ap (λ f. Some (f scope)) (sym made_source), ap (λ f. (f scope).1) made_source ∙ it.1)
 
   -- ---- nested SELECTs

@@ -16,6 +16,7 @@ use Rattle.jpql_tree.specs.declared.Sorted.{Sorted}
 use Rattle.jpql_tree.specs.declared.SortKey.{SortKey}
 use Rattle.jpql_tree.specs.declared.Select.{Select}
 use Rattle.jpql_tree.specs.declared.Assignment.{Assignment}
+use Rattle.jpql_tree.specs.declared.Language.{Language}
 use Rattle.jpql_tree.specs.declared.Query.{Query}
 use Rattle.jpql_tree.specs.Names.{Text}
 use Rattle.jpql_tree.specs.Steps.{◌>>=◌}
@@ -153,14 +154,14 @@ module _ (m : PersistenceUnit) (ps : List (Text × Sort)) where
 
   -- ---- a statement that was checked
 
-  checked_by : (q : Query) (typed : Typed) (a b : Bool) → is_typed m ps q ≡ a
+  checked_by : (l : Language) (q : Query) (typed : Typed) (a b : Bool) → is_typed m ps l q ≡ a
       → (if not a then Err (Cause.IllegalArgument Argument.Typing) else if not b then Err (Cause.IllegalArgument Argument.Parameter) else Ok (trees.typed_statement m ps q)) ≡ Ok typed
       → names.statement m ps q ≡ Some typed
-  checked_by q typed false b ae e = absurd cc
-  checked_by q typed true false ae e = absurd cc
-  checked_by q typed true true ae e =
+  checked_by l q typed false b ae e = absurd cc
+  checked_by l q typed true false ae e = absurd cc
+  checked_by l q typed true true ae e =
       let same : trees.typed_statement m ps q ≡ typed = cc in
-      typed_resolved q (and_parts (has_distinct_names q) (is_statement_typed m ps q) ae).1 ∙ ap Some same
+      typed_resolved q (and_parts (has_distinct_names l q) (is_statement_typed m ps q) ae).1 ∙ ap Some same
 
   pub statement_resolved : (q : Query) → names.IsResolved m ps q
-  statement_resolved q typed e = checked_by q typed (is_typed m ps q) (are_given ps q) refl e
+  statement_resolved q l typed e = checked_by l q typed (is_typed m ps l q) (are_given ps q) refl e

@@ -18,6 +18,7 @@ use Rattle.jpql_tree.specs.declared.Sorted.{Sorted}
 use Rattle.jpql_tree.specs.declared.SortKey.{SortKey}
 use Rattle.jpql_tree.specs.declared.Select.{Select}
 use Rattle.jpql_tree.specs.declared.Assignment.{Assignment}
+use Rattle.jpql_tree.specs.declared.Language.{Language}
 use Rattle.jpql_tree.specs.declared.Query.{Query}
 use Rattle.jpql_tree.specs.Names.{Text}
 use Rattle.jpql_tree.specs.Steps.{◌>>=◌}
@@ -212,6 +213,7 @@ module _ (m : PersistenceUnit) (parameters : List (Text × Sort)) where
 
   -- ---- the law: what a check answers is a tree in which each name means something
 
-  -- where a check accepts a statement, its answer is the tree in which each name means something
+  -- where a check accepts a statement of a language, its answer is the tree in which each name means
+  -- something
   abbrev pub IsResolved : Query → Type 0
-  IsResolved q = (typed : Typed) → checked m q parameters ≡ Ok typed → statement q ≡ Some typed
+  IsResolved q = (l : Language) (typed : Typed) → checked l m q parameters ≡ Ok typed → statement q ≡ Some typed

@@ -35,6 +35,10 @@ same_variable = str_eq_ignore_ascii_case
 abbrev pub place_of : Scope → Text → Option ℕ
 place_of scope x = position_from (λ v. same_variable v.name x) 0 scope
 
+-- whether no variable of a name may be named yet: in a scope no two have one name (chapter 4.4.2)
+abbrev pub is_new : Scope → Text → Bool
+is_new scope x = not (list_any (λ v. same_variable v.name x) scope)
+
 -- the class of the variable at a place
 abbrev pub class_at : Scope → ℕ → Option ℕ
 class_at scope place = option_map (λ v. v.class) (slice_get scope place)

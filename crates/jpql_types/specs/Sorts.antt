@@ -59,7 +59,7 @@ joined_with s (b ∷ all) = if goes_with s b then joined_with (known_of s b) all
 abbrev pub joined : List Sort → Option Sort
 joined = joined_with Sort.Null
 
--- COALESCE, NULLIF and BETWEEN join no entities
+-- COALESCE, NULLIF, CASE and BETWEEN join no entities
 abbrev pub joined_basic : List Sort → Option Sort
 joined_basic all = joined all >>= λ s. when (is_basic s) s
 
@@ -69,7 +69,40 @@ fit asked [] = true
 fit [] (s ∷ all) = false
 fit (a ∷ asked) (s ∷ all) = goes_with a s && fit asked all
 
--- what a function gives of arguments of these sorts, however many
+-- = and <> compare one sort, the others one with an order
+abbrev pub are_comparable : Comparison → Sort → Sort → Bool
+are_comparable Comparison.Equal a b = goes_with a b
+are_comparable Comparison.Different a b = goes_with a b
+are_comparable _ a b = goes_with a b && is_basic a && is_basic b
+
+-- ---- CASE, of its WHENs with their THENs in turn, and of its ELSE (chapter 4.7.4)
+
+-- what stands behind WHEN
+abbrev pub whens : {A : Type 0} → List A → List A
+whens [] = []
+whens (otherwise ∷ []) = []
+whens (w ∷ a ∷ more) = w ∷ whens more
+
+-- what stands behind THEN and ELSE
+abbrev pub outcomes : {A : Type 0} → List A → List A
+outcomes [] = []
+outcomes (otherwise ∷ []) = otherwise ∷ []
+outcomes (w ∷ a ∷ more) = a ∷ outcomes more
+
+-- CASE of a value, which comes first: it is of one sort with what stands behind WHEN
+abbrev pub match_sort : List Sort → Option Sort
+match_sort [] = None
+match_sort (s ∷ all) = joined (s ∷ whens all) >>= λ t. joined_basic (outcomes all)
+
+-- what a test gives of the first two values, where they may be compared
+abbrev pub comparison_sort : Comparison → List Sort → Option Sort
+comparison_sort op [] = None
+comparison_sort op (a ∷ []) = None
+comparison_sort op (a ∷ b ∷ all) = when (are_comparable op a b) integer
+
+-- What a function gives of arguments of these sorts, however many. A test inside a CASE gives an
+-- integer, and takes what the same test takes in a condition (chapter 4.6); but its ESCAPE may be any
+-- text, of which one that isn't one character escapes nothing.
 abbrev pub given_sort : Function → List Sort → Option Sort
 given_sort Function.Length all = when (fit (text ∷ []) all) integer
 given_sort Function.Concat all = when (list_all (goes_with text) all) text
@@ -82,6 +115,16 @@ given_sort Function.NullIf all = joined_basic all
 given_sort Function.Upper all = when (fit (text ∷ []) all) text
 given_sort Function.Lower all = when (fit (text ∷ []) all) text
 given_sort (Function.Trim sides) all = when (fit (text ∷ text ∷ []) all) text
+given_sort Function.Case all = joined_basic (outcomes all)
+given_sort Function.Match all = match_sort all
+given_sort (Function.Test op) all = comparison_sort op all
+given_sort Function.IsBetween all = joined_basic all >>= λ s. Some integer
+given_sort Function.IsAmong all = joined all >>= λ s. Some integer
+given_sort Function.IsLike all = when (fit (text ∷ text ∷ text ∷ []) all) integer
+given_sort Function.IsNull all = Some integer
+given_sort Function.And all = when (fit (integer ∷ integer ∷ []) all) integer
+given_sort Function.Or all = when (fit (integer ∷ integer ∷ []) all) integer
+given_sort Function.Not all = when (fit (integer ∷ []) all) integer
 
 -- and where it takes as many as these, by the grammar's own table
 abbrev pub call_sort : Function → List Sort → Option Sort
@@ -104,12 +147,6 @@ sort_against (Against.One g distinct) s = aggregate_sort g s
 -- arithmetic is of integers
 abbrev pub arithmetic_sort : List Sort → Option Sort
 arithmetic_sort all = when (list_all (goes_with integer) all) integer
-
--- = and <> compare one sort, the others one with an order
-abbrev pub are_comparable : Comparison → Sort → Sort → Bool
-are_comparable Comparison.Equal a b = goes_with a b
-are_comparable Comparison.Different a b = goes_with a b
-are_comparable _ a b = goes_with a b && is_basic a && is_basic b
 
 -- what a step leads to, other than a collection
 abbrev pub step_sort : PersistenceUnit → Step → Option Sort

@@ -17,6 +17,7 @@ use Rattle.jpql_tree.specs.declared.Sorted.{Sorted}
 use Rattle.jpql_tree.specs.declared.SortKey.{SortKey}
 use Rattle.jpql_tree.specs.declared.Select.{Select}
 use Rattle.jpql_tree.specs.declared.Assignment.{Assignment}
+use Rattle.jpql_tree.specs.declared.Language.{Language}
 use Rattle.jpql_tree.specs.declared.Query.{Query}
 use Rattle.jpql_tree.specs.Names.{Text}
 use Rattle.jpql_tree.specs.Steps.{◌>>=◌}
@@ -32,20 +33,26 @@ use Rattle.jpql_types.specs.Typing.{pass_both, sort_of_path, with_variable, scop
 use Rattle.jpql_types.specs.Typing.{is_condition_typed, source_scope}
 use Rattle.jpql_types.specs.Trees.{is_named, typed_statement}
 
--- ---- names: no variable is declared twice, no item named twice or as a variable
+-- ---- names: which are distinct
 
 -- whether no two names of a list are the same
 abbrev pub are_distinct : (Text → Text → Bool) → List Text → Bool
 are_distinct same [] = true
 are_distinct same (x ∷ xs) = not (list_any (same x) xs) && are_distinct same xs
 
--- no variable and no item's name stands twice, and no item has a variable's name (chapters 4.4.2
--- and 4.9)
-abbrev pub has_distinct_names : Query → Bool
-has_distinct_names q =
+-- in the profile no two variables of a statement have one name; in the wide language nested SELECTs
+-- may declare it again of which none is around another, as scopes tell (chapter 4.4.2)
+abbrev pub are_variables_distinct : Language → List Text → Bool
+are_variables_distinct Language.Profile variables = are_distinct same_variable variables
+are_variables_distinct Language.Wide variables = true
+
+-- variables are distinct as the language asks, no item's name stands twice, and no item has a
+-- variable's name (chapters 4.4.2 and 4.9)
+abbrev pub has_distinct_names : Language → Query → Bool
+has_distinct_names l q =
     let variables = names_in Names.Variables q in
     let items = names_in Names.Items q in
-    are_distinct same_variable variables && are_distinct same_name items
+    are_variables_distinct l variables && are_distinct same_name items
     && list_all (λ name. not (list_any (same_variable name) variables)) items
 
 -- ---- groups
@@ -217,9 +224,10 @@ module _ (m : PersistenceUnit) (parameters : List (Text × Sort)) where
   is_statement_typed (Query.Delete entity x filter) =
       is_some_that (λ class. is_filter_typed [] (scope_of x class) Clause.Where filter) (class_of m entity)
 
-  -- a statement is well typed: its names are distinct, and its clauses well typed (chapter 4.2)
-  abbrev pub is_typed : Query → Bool
-  is_typed q = has_distinct_names q && is_statement_typed q
+  -- a statement of a language is well typed: its names are distinct, and its clauses well typed
+  -- (chapter 4.2)
+  abbrev pub is_typed : Language → Query → Bool
+  is_typed l q = has_distinct_names l q && is_statement_typed q
 
 -- every parameter of the statement is given, and no other
 abbrev pub are_given : List (Text × Sort) → Query → Bool
@@ -229,8 +237,8 @@ are_given parameters q =
     && list_all (λ p. list_any (same_name p.0) used) parameters
 
 -- what a check answers where there is memory
-abbrev pub checked : PersistenceUnit → Query → List (Text × Sort) → Result Typed Cause
-checked m q parameters =
-    if not (is_typed m parameters q) then Err (Cause.IllegalArgument Argument.Typing)
+abbrev pub checked : Language → PersistenceUnit → Query → List (Text × Sort) → Result Typed Cause
+checked l m q parameters =
+    if not (is_typed m parameters l q) then Err (Cause.IllegalArgument Argument.Typing)
     else if not (are_given parameters q) then Err (Cause.IllegalArgument Argument.Parameter)
     else Ok (typed_statement m parameters q)

@@ -21,7 +21,7 @@ use Rattle.jpql_tree.specs.Steps.{◌>>=◌}
 use Rattle.jpql_types.specs.declared.scope.Clause.{Clause}
 use Rattle.jpql_typed.specs.declared.path.TypedPath.{TypedPath}
 use Rattle.jpql_types.specs.declared.sort.Sort.{Sort}
-use Rattle.jpql_types.specs.Scope.{Scope, when, step_from, target, resolved}
+use Rattle.jpql_types.specs.Scope.{Scope, when, is_new, step_from, target, resolved}
 use Rattle.jpql_types.specs.Sorts.{integer, text, goes_with, joined, joined_basic, call_sort, aggregate_sort}
 use Rattle.jpql_types.specs.Sorts.{sort_against, arithmetic_sort, are_comparable, path_sort, collection_class}
 
@@ -92,6 +92,11 @@ variable_path x = record { variable = x; names = [] }
 -- a scope with one more variable, at its end
 abbrev pub with_variable : Scope → Text → ℕ → Scope
 with_variable scope x class = scope ++ record { name = x; class = class } ∷ []
+
+-- the class of a variable that is declared in a scope: none where one of its name is there, in this
+-- SELECT or in one around it
+unfoldable pub when_new : Scope → Text → Option ℕ → Option ℕ
+when_new scope x class = if is_new scope x then class else None
 
 -- the scope of a DELETE, which may leave its variable out
 abbrev pub scope_of : Option Text → ℕ → Scope
@@ -184,14 +189,15 @@ module _ (m : PersistenceUnit) (parameters : List (Text × Sort)) (groups : List
 
   -- the scope behind a join, whose ON is well typed with the join's own variable (chapter 4.4.5)
   abbrev pub join_step : Join-F Judges Rows Adds Adds → Adds
-  join_step j scope = related_class m scope j.of j.relation
+  join_step j scope = when_new scope j.variable (related_class m scope j.of j.relation)
       >>= λ class. let wider = with_variable scope j.variable class in
       when (if_some (λ c. c wider Clause.On) j.on) wider
 
   -- the scope behind a range and its joins, where each is well typed (chapter 4.4.3)
   abbrev pub source_step : Source-F Judges Rows Adds Adds → Adds
   source_step s scope =
-      origin_class m scope s.origin >>= λ class. in_turn s.joins (with_variable scope s.variable class)
+      when_new scope s.variable (origin_class m scope s.origin)
+      >>= λ class. in_turn s.joins (with_variable scope s.variable class)
 
   -- whether a condition is well typed in a scope and a clause (chapter 4.6)
   abbrev pub is_condition_typed : Scope → Clause → Condition → Bool

@@ -17,7 +17,7 @@ use crate::setting::typed_assignments;
 use crate::sort::ParamType;
 use jpa_model::Metamodel;
 use jpa_value::{Argument, Boxed, Cause, Seq, Text};
-use jpql_tree::{Assignment, Condition, Path, Query};
+use jpql_tree::{Assignment, Condition, Language, Path, Query};
 use jpql_typed::Typed;
 use std::alloc::{AllocError, Global};
 
@@ -171,18 +171,20 @@ fn typed_statement(
     }
 }
 
-/// A statement, where it is well typed.
+/// A statement of a language, where it is well typed.
 fn typed_query(
     alloc: Global,
+    language: Language,
     metamodel: &Metamodel,
     parameters: &Parameters<'_>,
     query: &Query,
 ) -> Result<Typed, TypingError>
-    ensures typed { IsJudged result (spec.is_typed metamodel.now parameters.now query.now) }
+    ensures typed { IsJudged result (spec.is_typed metamodel.now parameters.now language
+        query.now) }
     ensures tree { IfOk result (λ found. found ≡ trees.typed_statement metamodel.now
         parameters.now query.now) }
 {
-    if !has_distinct_names(alloc, query)? {
+    if !has_distinct_names(alloc, language, query)? {
         return Err(TypingError::Typing);
     }
     typed_statement(alloc, metamodel, parameters, query)
@@ -208,34 +210,38 @@ fn with_parameters<T: Drop>(
 
 fn checked_query(
     alloc: Global,
+    language: Language,
     metamodel: &Metamodel,
     query: &Query,
     parameters: &[(Text, ParamType)],
 ) -> Result<Typed, Cause>
-    ensures { IsUnlessMemory result (spec.checked metamodel.now query.now parameters.now) }
+    ensures { IsUnlessMemory result (spec.checked language metamodel.now query.now
+        parameters.now) }
 {
     let parameters = Parameters::of(alloc, parameters)?;
-    match typed_query(alloc, metamodel, &parameters, query) {
+    match typed_query(alloc, language, metamodel, &parameters, query) {
         Err(TypingError::Memory) => Err(Cause::OutOfMemory),
         Err(TypingError::Typing) => Err(Cause::IllegalArgument(Argument::Typing)),
         Ok(typed) => with_parameters(alloc, &parameters, query, typed),
     }
 }
 
-/// The typed tree of a statement, whose parameters are of these sorts (chapters 4.2 to 4.11).
+/// The typed tree of a statement of a language, whose parameters are of these sorts (chapters 4.2 to
+/// 4.11).
 ///
 /// `IllegalArgument(Typing)` where the statement isn't well typed, a parameter that isn't given
 /// being of all sorts; else `IllegalArgument(Parameter)` where one of its parameters isn't given,
 /// or one that is given isn't in it; `OutOfMemory` where a growth was refused.
 pub fn check_query(
     alloc: Global,
+    language: Language,
     metamodel: &Metamodel,
     query: Query,
     parameters: &[(Text, ParamType)],
 ) -> Result<Typed, Cause>
-    ensures { IsUnlessMemory result (spec.checked metamodel.now query parameters.now) }
+    ensures { IsUnlessMemory result (spec.checked language metamodel.now query parameters.now) }
 {
-    let checked = checked_query(alloc, metamodel, &query, parameters);
+    let checked = checked_query(alloc, language, metamodel, &query, parameters);
     drop(query);
     checked
 }

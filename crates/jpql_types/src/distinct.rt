@@ -11,7 +11,7 @@ use crate::names::{Names, names_in};
 use crate::paths::is_same_variable;
 use crate::sort::Sort;
 use jpa_value::{Seq, Text};
-use jpql_tree::{Assignment, Query};
+use jpql_tree::{Assignment, Language, Query};
 use std::alloc::{AllocError, Global};
 use std::collections::BTreeSet;
 
@@ -55,15 +55,29 @@ fn are_no_variables(names: &[Text], variables: &[Text]) -> bool
     names.iter().all(|name| !is_variable(name, variables))
 }
 
-/// Whether no variable is declared twice, and no item named twice or as a variable.
-pub(crate) fn has_distinct_names(alloc: Global, query: &Query) -> Result<bool, AllocError>
-    ensures { IfOk result (λ has. has ≡ spec.has_distinct_names query.now) }
+/// Whether variables are distinct as the language asks: in the wide one their scopes tell.
+fn are_variables_distinct(language: Language, variables: &[Text]) -> bool
+    ensures { result ≡ spec.are_variables_distinct language variables.now }
+{
+    match language {
+        Language::Profile => are_distinct_variables(variables),
+        Language::Wide => true,
+    }
+}
+
+/// Whether variables are distinct as the language asks, and no item is named twice or as a variable.
+pub(crate) fn has_distinct_names(
+    alloc: Global,
+    language: Language,
+    query: &Query,
+) -> Result<bool, AllocError>
+    ensures { IfOk result (λ has. has ≡ spec.has_distinct_names language query.now) }
 {
     let variables = names_in(alloc, Names::Variables, query)?;
     let items = names_in(alloc, Names::Items, query)?;
     let are_distinct_items = are_distinct_names(alloc, items.as_slice())?;
     Ok(
-        are_distinct_variables(variables.as_slice())
+        are_variables_distinct(language, variables.as_slice())
             && are_distinct_items
             && are_no_variables(items.as_slice(), variables.as_slice()),
     )

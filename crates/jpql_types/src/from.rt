@@ -8,7 +8,7 @@ ghost use Rattle.jpql_types.specs.Within.{IsClass, IsScope};
 
 use crate::context::Context;
 use crate::error::TypingError;
-use crate::paths::{step_from, target};
+use crate::paths::{is_same_variable, step_from, target};
 use crate::scope::Variable;
 use jpa_value::{Seq, Text};
 use jpql_tree::Origin;
@@ -33,6 +33,15 @@ pub(crate) fn copied(alloc: Global, scope: &[Variable]) -> Result<Seq<Variable>,
         found.push(named(alloc, &variable.name, variable.class)?)?;
     }
     Ok(found)
+}
+
+/// Whether no variable of a name is in scope.
+fn is_new(scope: &[Variable], name: &Text) -> bool
+    ensures { result ≡ scopes.is_new scope.now name.now }
+{
+    !scope
+        .iter()
+        .any(|variable| is_same_variable(&variable.name, name))
 }
 
 /// One more variable in scope; fails for want of memory alone.
@@ -101,7 +110,8 @@ fn typed_origin(
     }
 }
 
-/// The scope with the variable of a source, and where its objects come from.
+/// The scope with the variable of a source, which is new there, and where its objects come from.
+#[tactic(auto, unfolding(crate::specs::Typing::when_new))]
 pub(crate) fn with_source(
     alloc: Global,
     context: &Context<'_>,
@@ -112,7 +122,8 @@ pub(crate) fn with_source(
     requires { IsScope context.now.metamodel.now scope }
     ensures scope { Gives (λ found. found.0) result
         (option_map (typing.with_variable scope variable.now)
-        (typing.origin_class context.now.metamodel.now scope origin.now)) }
+        (typing.when_new scope variable.now
+        (typing.origin_class context.now.metamodel.now scope origin.now))) }
     ensures origin { IfOk result (λ found. found.1
         ≡ (trees.typed_origin context.now.metamodel.now context.now.parameters.now scope
         origin.now).0) }
@@ -122,13 +133,17 @@ pub(crate) fn with_source(
         origin.now).1) }
     ensures within { IfOk result (λ found. IsScope context.now.metamodel.now found.0) }
 {
+    if !is_new(scope.as_slice(), variable) {
+        return Err(TypingError::Typing);
+    }
     let found = typed_origin(context, scope.as_slice(), origin);
     let (origin, class) = found.ok_or(TypingError::Typing)?;
     let scope = with_variable(alloc, context, scope, variable, class)?;
     Ok((scope, origin))
 }
 
-/// The scope with the variable of a join, and the step that it goes along.
+/// The scope with the variable of a join, which is new there, and the step that it goes along.
+#[tactic(auto, unfolding(crate::specs::Typing::when_new))]
 pub(crate) fn with_join(
     alloc: Global,
     context: &Context<'_>,
@@ -140,7 +155,8 @@ pub(crate) fn with_join(
     requires { IsScope context.now.metamodel.now scope }
     ensures scope { Gives (λ found. found.0) result
         (option_map (typing.with_variable scope variable.now)
-        (typing.related_class context.now.metamodel.now scope of.now relation.now)) }
+        (typing.when_new scope variable.now
+        (typing.related_class context.now.metamodel.now scope of.now relation.now))) }
     ensures step { IfOk result (λ found. found.1
         ≡ trees.typed_step context.now.metamodel.now context.now.parameters.now scope of.now
         relation.now) }
@@ -149,6 +165,9 @@ pub(crate) fn with_join(
         (trees.place (scopes.target context.now.metamodel.now found.1.1))) }
     ensures within { IfOk result (λ found. IsScope context.now.metamodel.now found.0) }
 {
+    if !is_new(scope.as_slice(), variable) {
+        return Err(TypingError::Typing);
+    }
     let found = related(context, scope.as_slice(), of, relation);
     let (step, class) = found.ok_or(TypingError::Typing)?;
     let scope = with_variable(alloc, context, scope, variable, class)?;

@@ -111,16 +111,82 @@ fn fit(asked: &[Sort], all: &[Sort]) -> bool
     }
 }
 
+/// The one sort of what stands behind THEN and ELSE in a CASE, after some that are of this one.
+fn joined_outcomes(all: &[Sort], first: Sort) -> Option<Sort>
+    ensures { result ≡ sorts.joined_with first (sorts.outcomes all.now) }
+{
+    match all {
+        [] => Some(first),
+        [otherwise] => joined_with(first, &[*otherwise]),
+        [_, found, more @ ..] => {
+            if !first.goes_with(*found) {
+                return None;
+            }
+            joined_outcomes(more, first.known_of(*found))
+        }
+    }
+}
+
+/// The one sort of what stands behind WHEN in a CASE, after some that are of this one.
+fn joined_whens(all: &[Sort], first: Sort) -> Option<Sort>
+    ensures { result ≡ sorts.joined_with first (sorts.whens all.now) }
+{
+    match all {
+        [] | [_] => Some(first),
+        [one, _, more @ ..] => {
+            if !first.goes_with(*one) {
+                return None;
+            }
+            joined_whens(more, first.known_of(*one))
+        }
+    }
+}
+
+/// What a CASE gives, of what stands behind THEN and ELSE.
+fn case_sort(all: &[Sort]) -> Option<Sort>
+    ensures { result ≡ sorts.joined_basic (sorts.outcomes all.now) }
+{
+    joined_outcomes(all, Sort::Null).filter(|sort| sort.is_basic())
+}
+
+/// What a CASE of a value gives, which comes first.
+fn match_sort(all: &[Sort]) -> Option<Sort>
+    ensures { result ≡ sorts.match_sort all.now }
+{
+    match all {
+        [] => None,
+        [value, more @ ..] => match joined_whens(more, *value) {
+            None => None,
+            Some(_) => case_sort(more),
+        },
+    }
+}
+
+/// What a comparison inside a CASE gives.
+fn comparison_sort(comparison: Comparison, all: &[Sort]) -> Option<Sort>
+    ensures { result ≡ sorts.comparison_sort comparison all.now }
+{
+    match all {
+        [one, other, ..] => are_comparable(comparison, *one, *other).then_some(INTEGER),
+        [] | [_] => None,
+    }
+}
+
 /// Whether a function takes this many arguments (chapter 4.7).
 fn takes(function: Function, count: usize) -> bool
     ensures { result ≡ calls.takes function count }
 {
     match function {
         Function::Length | Function::Abs | Function::Upper | Function::Lower => count == 1,
+        Function::IsNull | Function::Not => count == 1,
         Function::Trim(_) => count == 1 || count == 2,
         Function::Mod | Function::NullIf => count == 2,
-        Function::Substring | Function::Locate => count == 2 || count == 3,
-        Function::Concat | Function::Coalesce => count >= 2,
+        Function::Test(_) | Function::And | Function::Or => count == 2,
+        Function::Substring | Function::Locate | Function::IsLike => count == 2 || count == 3,
+        Function::Concat | Function::Coalesce | Function::IsAmong => count >= 2,
+        Function::IsBetween => count == 3,
+        Function::Case => count >= 3 && count % 2 == 1,
+        Function::Match => count >= 4 && count % 2 == 0,
     }
 }
 
@@ -138,6 +204,15 @@ fn given_sort(function: Function, all: &[Sort]) -> Option<Sort>
         Function::Coalesce | Function::NullIf => joined_basic(all),
         Function::Upper | Function::Lower if fit(&[TEXT], all) => Some(TEXT),
         Function::Trim(_) if fit(&[TEXT, TEXT], all) => Some(TEXT),
+        Function::Case => case_sort(all),
+        Function::Match => match_sort(all),
+        Function::Test(comparison) => comparison_sort(comparison, all),
+        Function::IsBetween => joined_basic(all).map(|_| INTEGER),
+        Function::IsAmong => joined(all).map(|_| INTEGER),
+        Function::IsLike if fit(&[TEXT, TEXT, TEXT], all) => Some(INTEGER),
+        Function::IsNull => Some(INTEGER),
+        Function::And | Function::Or if fit(&[INTEGER, INTEGER], all) => Some(INTEGER),
+        Function::Not if fit(&[INTEGER], all) => Some(INTEGER),
         _ => None,
     }
 }

@@ -200,6 +200,8 @@ class _Typing:
         language: LanguageName,
     ) -> None:
         self._kinds, self._teller, self._language = kinds, teller, language
+        # Whether a variable may have the name of one that can't be used where it is declared.
+        self._names_again = jpql.LANGUAGES[language].names_again
         self._entities: Dict[str, _Entity] = {}
         for name, entity in entities.items():
             root = entity
@@ -209,7 +211,9 @@ class _Typing:
 
     def statement(self, statement: Statement) -> None:
         """Tells what is wrong in a statement."""
-        variables = self._declared_once(statement)
+        variables = [variable.said.lower() for variable in jpql.variables_of(statement)]
+        if not self._names_again:
+            self._declared_once(statement)
         self._items_apart(statement, variables)
         if isinstance(statement, Block):
             self._select(statement)
@@ -227,13 +231,15 @@ class _Typing:
 
     # -- names
 
-    def _declared_once(self, statement: Statement) -> List[str]:
+    def _declared_once(self, statement: Statement) -> None:
         seen: List[str] = []
         for variable in jpql.variables_of(statement):
             if variable.said.lower() in seen:
-                self._wrong(variable, f"a second variable has the name {variable.said}")
+                self._second(variable)
             seen.append(variable.said.lower())
-        return seen
+
+    def _second(self, variable: Token) -> None:
+        self._wrong(variable, f"a second variable has the name {variable.said}")
 
     def _items_apart(self, statement: Statement, variables: Sequence[str]) -> None:
         seen: List[str] = []
@@ -318,7 +324,10 @@ class _Typing:
             scope = _Scope(variables)
             entity = self._entity(source.entity) if source.entity else self._joined(source, scope)
             if source.variable is not None:
-                variables[source.variable.said.lower()] = entity
+                name = source.variable.said.lower()
+                if self._names_again and name in variables:
+                    self._second(source.variable)
+                variables[name] = entity
             if source.on is not None:
                 self._condition(source.on, _Scope(dict(variables), in_on=True))
         return _Scope(variables)

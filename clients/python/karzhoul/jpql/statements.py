@@ -30,14 +30,16 @@ AGGREGATES = ("COUNT", "SUM", "MIN", "MAX")
 class Language:
     """A language of queries: its keywords, how many values each function takes, from and to,
     whether a list may be handed in for a parameter that stands behind IN, whether ORDER BY takes
-    values that are neither paths nor names of items, and whether values are compared with the rows of
-    nested SELECTs."""
+    values that are neither paths nor names of items, whether values are compared with the rows of
+    nested SELECTs, and whether one variable's name may stand in several of these of which none is
+    around another."""
 
     keywords: FrozenSet[str]
     functions: Mapping[str, Tuple[int, int]]
     takes_lists: bool
     orders_by_values: bool
     compares_rows: bool
+    names_again: bool
 
 
 _PROFILE = Language(
@@ -59,6 +61,7 @@ _PROFILE = Language(
     takes_lists=False,
     orders_by_values=False,
     compares_rows=False,
+    names_again=False,
 )
 _WIDE = Language(
     _PROFILE.keywords
@@ -67,6 +70,7 @@ _WIDE = Language(
     takes_lists=True,
     orders_by_values=True,
     compares_rows=True,
+    names_again=True,
 )
 LanguageName = Literal["profile", "wide"]
 # As `jpa --grammar` tells them.

@@ -186,6 +186,20 @@ class Told(unittest.TestCase):
         ):
             self.tells(text, told)
 
+    def test_names_that_stand_again(self) -> None:
+        text = "SELECT p FROM Person p WHERE EXISTS (SELECT o FROM p.orders o WHERE o.number = 1)"
+        for other in ("AND EXISTS (SELECT o FROM p.orders o)", "OR p.id IN (SELECT O.number FROM Order O)"):
+            self.assertEqual(self.says(f"{text} {other}", None, "wide"), [], other)
+        self.tells(f"{text} AND EXISTS (SELECT o FROM p.orders o)", "1:118: o: a second variable has the name o")
+        for text, told in (
+            ("SELECT p FROM Person p, Order P", "1:31: P: a second variable has the name P"),
+            ("SELECT p FROM Person p WHERE EXISTS (SELECT o FROM p.orders o WHERE EXISTS (SELECT 1 FROM Order o))",
+             "1:97: o: a second variable has the name o"),
+            ("SELECT p FROM Person p JOIN p.orders o WHERE EXISTS (SELECT 1 FROM Order O)", "1:74: O: a second variable has the name O"),
+            ("SELECT p FROM Person p WHERE EXISTS (SELECT o FROM p.orders o) AND o.number = 1", "1:68: o: there is no variable o here; there are p"),
+        ):
+            self.assertEqual(self.says(text, None, "wide"), [told], text)
+
     def test_kinds(self) -> None:
         for text, told in (
             ("SELECT p FROM Person p WHERE p.id = 'a'", "1:37: 'a': p.id is a whole number, and 'a' is a text"),

@@ -19,8 +19,8 @@ returns-in_err-statement c =
     let counts : (is_count call.first && is_count call.max) ≡ true = search rules in
     let is_read = subst (λ ls. read_of call.language ls call.text w ≡ Done said w) same_lists
     (subst (λ t. read_of call.language c.as_slice-lists.result.now t w ≡ Done said w) same_text (c.in_ok-said.ensures.meets w)) in
-    let refused = subst (λ ls. IsRefusedAs c.in_err-statement.field-0.0 w.events (statement_of m said ls call.bindings w)) same_lists
-    (subst (λ bs. IsRefusedAs c.in_err-statement.field-0.0 w.events (statement_of m said c.as_slice-lists.result.now bs w)) same_bindings c.in_err-statement.ensures.meets) in
+    let refused = subst (λ ls. IsRefusedAs c.in_err-statement.field-0.0 w.events (statement_of call.language m said ls call.bindings w)) same_lists
+    (subst (λ bs. IsRefusedAs c.in_err-statement.field-0.0 w.events (statement_of call.language m said c.as_slice-lists.result.now bs w)) same_bindings c.in_err-statement.ensures.meets) in
     let same_error : c.from_residual-in_err-statement.result ≡ Err c.in_err-statement.field-0.0 = search rules in
     record { meets = rw same_error (judged_refused m call w said is_read counts c.in_err-statement.field-0.0 refused) }
 
@@ -37,6 +37,6 @@ returns c =
     let counts : (is_count call.first && is_count call.max) ≡ true = search rules in
     let is_read = subst (λ ls. read_of call.language ls call.text w ≡ Done said w) same_lists
     (subst (λ t. read_of call.language c.as_slice-lists.result.now t w ≡ Done said w) same_text (c.in_ok-said.ensures.meets w)) in
-    let is = subst (λ ls. statement_of m said ls call.bindings w ≡ Done statement w) same_lists
-    (subst (λ bs. statement_of m said c.as_slice-lists.result.now bs w ≡ Done statement w) same_bindings c.in_ok-statement.ensures.meets) in
+    let is = subst (λ ls. statement_of call.language m said ls call.bindings w ≡ Done statement w) same_lists
+    (subst (λ bs. statement_of call.language m said c.as_slice-lists.result.now bs w ≡ Done statement w) same_bindings c.in_ok-statement.ensures.meets) in
     record { meets = judged_so m call w said is_read counts statement c.select_asked.result is (c.select_asked.ensures.meets w) }

@@ -1,16 +1,16 @@
 use Rattle.std.proofs.Common.{◌≡◌, ◌∙◌, true, Err, ap, sym, subst}
 use Rattle.jpql_text.specs.Answers.{IsAnswered}
-use Rattle.jpql_text.specs.Together.{become_few}
-use Rattle.jpql_text.proofs.Whole.{too_many_values, unread, too_many_variables, tree_found}
+use Rattle.jpql_text.specs.Together.{are_few}
+use Rattle.jpql_text.proofs.Whole.{too_many, unread, too_many_variables, tree_found}
 use Rattle.jpql_text.proofs.read.tree_of.Goals as goal
 
-pub returns-then-not-become_few : goal.returns-then-not-become_few
-returns-then-not-become_few c text short shallow is =
-    too_many_values c.args.language c.args.lists.now text c.args.written.items short shallow is (ap (become_few c.args.lists.now) (sym c.as_slice.ensures.value) ∙ sym c.become_few.ensures ∙ c.if-not-become_few.true)
+pub returns-then-not-are_few : goal.returns-then-not-are_few
+returns-then-not-are_few c text short shallow is =
+    too_many c.args.language c.args.lists.now text c.args.written.items short shallow is (ap (are_few c.args.lists.now) (sym c.as_slice.ensures.value) ∙ sym c.are_few.ensures ∙ c.if-not-are_few.true)
 
 pub returns-in-Err : goal.returns-in-Err
 returns-in-Err c text short shallow is =
-    let few : become_few c.args.lists.now c.args.written.items ≡ true = ap (become_few c.args.lists.now) (sym c.as_slice.ensures.value) ∙ sym c.become_few.ensures ∙ c.if-not-become_few.false in
+    let few : are_few c.args.lists.now c.args.written.items ≡ true = ap (are_few c.args.lists.now) (sym c.as_slice.ensures.value) ∙ sym c.are_few.ensures ∙ c.if-not-are_few.false in
     subst (λ cause. IsAnswered c.args.language c.args.lists.now text (Err cause)) (sym c.cause_of.ensures)
     (unread c.args.language c.args.lists.now text c.args.written.items short shallow is few c.in-Err.error c.in-Err.ensures)
 
@@ -20,5 +20,5 @@ returns-then-declared-gt-MOST_QUERY_VARIABLES c text short shallow is =
 
 pub returns-else-declared-gt-MOST_QUERY_VARIABLES : goal.returns-else-declared-gt-MOST_QUERY_VARIABLES
 returns-else-declared-gt-MOST_QUERY_VARIABLES c text short shallow is =
-    let few : become_few c.args.lists.now c.args.written.items ≡ true = ap (become_few c.args.lists.now) (sym c.as_slice.ensures.value) ∙ sym c.become_few.ensures ∙ c.if-not-become_few.false in
+    let few : are_few c.args.lists.now c.args.written.items ≡ true = ap (are_few c.args.lists.now) (sym c.as_slice.ensures.value) ∙ sym c.are_few.ensures ∙ c.if-not-are_few.false in
     tree_found c.args.language c.args.lists.now text c.args.written.items short shallow is few c.in-Ok.query c.declared.result c.in-Ok.ensures c.declared.ensures c.if-declared-gt-MOST_QUERY_VARIABLES.false
