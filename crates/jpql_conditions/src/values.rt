@@ -50,7 +50,8 @@ fn takes(function: Function, count: usize) -> bool
         Function::Test(_) | Function::And | Function::Or => count == 2,
         Function::Substring | Function::Locate | Function::IsLike => count == 2 || count == 3,
         Function::IsBetween => count == 3,
-        Function::Concat | Function::Coalesce | Function::IsAmong => 2 <= count,
+        Function::Concat | Function::Coalesce => 2 <= count,
+        Function::IsAmong => 1 <= count,
         Function::Case => 3 <= count && count % 2 == 1,
         Function::Match => 4 <= count && count % 2 == 0,
     }
