@@ -1,5 +1,5 @@
 -- Functions, LIKE and aggregates evaluated.
-use Rattle.std.proofs.Common.{◌≡◌, pos, negsuc, true, false, [], ◌∷◌, ◌++◌, Some, None, refl, codes}
+use Rattle.std.proofs.Common.{◌≡◌, pos, negsuc, true, false, [], ◌∷◌, Some, None, refl, codes}
 use Rattle.std.specs.Str.{chars}
 use Rattle.jpql_tree.specs.declared.Against.{Against}
 use Rattle.jpql_tree.specs.declared.Aggregate.{Aggregate}
@@ -231,6 +231,13 @@ among_beside_null = refl
 
 among_unknown : applied Function.IsAmong (number (pos 1) ∷ null ∷ number (pos 2) ∷ []) ≡ gives null
 among_unknown = refl
+
+-- IN of none is false, of null too
+among_none : applied Function.IsAmong (number (pos 1) ∷ []) ≡ gives (number (pos 0))
+among_none = refl
+
+null_among_none : applied Function.IsAmong (null ∷ []) ≡ gives (number (pos 0))
+null_among_none = refl
 
 is_null : applied Function.IsNull (null ∷ []) ≡ gives (number (pos 1))
 is_null = refl
