@@ -39,7 +39,7 @@ fn with_lying<'a>(
 }
 
 /// Identities in rising order, each once. Takes no memory.
-fn in_order<'a>(ids: Vec<&'a Identity>) -> Vec<&'a Identity>
+pub(super) fn in_order<'a>(ids: Vec<&'a Identity>) -> Vec<&'a Identity>
     ensures rising { IsStrictlySortedBy lent_cmp result.items }
     ensures same { (q : Identity) → list_any (same_identity q) (lent_ids result.items)
         ≡ list_any (same_identity q) (lent_ids ids.entry.items) }
