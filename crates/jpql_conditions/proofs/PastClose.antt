@@ -1,5 +1,5 @@
 -- One token of those up to the parenthesis that closes.
-use Rattle.std.proofs.Common.{◌≡◌, ℕ, zero, suc, ◌+◌, ◌-◌, ◌<◌, ◌≤◌, true, false, List, [], ◌∷◌, length, refl, ap, arith}
+use Rattle.std.proofs.Common.{◌≡◌, ℕ, zero, suc, ◌+◌, ◌-◌, ◌<◌, ◌≤◌, true, false, List, [], ◌∷◌, length, refl, arith}
 use Rattle.jpql_grammar.specs.declared.token.Mark.TheVariants as m
 use Rattle.jpql_grammar.specs.declared.token.Token.{Token}
 use Rattle.jpql_grammar.specs.declared.token.Token.TheVariants as t
