@@ -113,14 +113,17 @@ def limits(ask: Asking) -> None:
     """The limits are those of the paper's table, and those at which a text is refused."""
     paper = section("What the program tells of a language")
     table = {name: int(most.replace(",", "")) for name, most in LIMIT.findall(paper)}
-    for words in WORDS.values():
-        see(told(ask, *words)["limits"], table, words)
+    for language, words in WORDS.items():
+        wanted = {name: most for name, most in table.items() if name != "cases" or language == "wide"}
+        see(told(ask, *words)["limits"], wanted, words)
     refusal = re.sub(r",", "", section("What is refused"))
     for name in ("bytes", "parentheses", "variables"):
         see(f" {table[name]} {name}" in refusal, True, f"the refusal of more {name}")
     see(f"a collection of more than {table['list']} values" in refusal, True, "the refusal of a longer list")
     together = f"collections that become more than {table['listsTogether']} values"
     see(together in refusal, True, "the refusal of more values together")
+    cases = f"in the wider language {table['cases']} words CASE"
+    see(cases in refusal, True, "the refusal of more words CASE")
 
 
 def other_words(ask: Asking) -> None:

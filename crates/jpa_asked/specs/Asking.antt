@@ -110,8 +110,8 @@ are_apart lists bindings = values_bound bindings == values_given lists
 
 -- ---- the statement
 
--- A statement of a language, typed, with what stands for its parameters by place: objects stand for what they are
--- before a flush. Each list stands in the text, and has its names for itself.
+-- A statement of a language, typed, with what stands for its parameters by place: objects stand for
+-- what they are before a flush. Each list stands in the text, and has its names for itself.
 abbrev pub statement_of : Language → PersistenceUnit → Reading → List GivenList → List Binding → Op Statement
 statement_of l m said lists bindings = do
   query ← give_or (Cause.IllegalArgument Argument.Syntax) said.tree

@@ -45,7 +45,8 @@ fn unread(cause: Cause, uses_lists: bool) -> Result<Reading, Cause>
 /// were handed in for these parameters.
 ///
 /// `Limit` for a text that is too long, nests too deep, in which collections become too many values,
-/// or that declares too many variables; `OutOfMemory` where a growth was refused.
+/// that has too many words CASE, or that declares too many variables; `OutOfMemory` where a growth
+/// was refused.
 pub fn read_of(
     alloc: Global,
     language: Language,
@@ -85,8 +86,8 @@ fn all_apart(uses_lists: bool, lists: &[GivenList], bindings: &[Binding]) -> Res
     }
 }
 
-/// A statement of a language by what its text says, typed, with what is bound to its parameters (chapters 3.10.12,
-/// 4.6.4 and 4.6.9).
+/// A statement of a language by what its text says, typed, with what is bound to its parameters
+/// (chapters 3.10.12, 4.6.4 and 4.6.9).
 ///
 /// `IllegalArgument` with `Syntax` where there is no tree, `Typing` where it is ill-typed, and
 /// `Parameter` where one of its parameters isn't bound, one is bound that isn't in it, a collection

@@ -75,6 +75,8 @@ class Grammar(unittest.TestCase):
                 "bytes": most, "parentheses": jpql.MOST_NESTED, "variables": jpql.MOST_VARIABLES,
                 "list": jpql.MOST_LISTED, "listsTogether": jpql.MOST_LISTED_TOGETHER,
             }
+            if name == "wide":
+                limits["cases"] = 64
             self.assertEqual(told["limits"], limits)
 
 
