@@ -1,6 +1,6 @@
 -- Names in conditions, nested SELECTs, joins and elements of FROM that are well typed mean something: by induction over their
 -- trees.
-use Rattle.std.proofs.Common.{◌≡◌, ◌∙◌, refl, ap, sym, subst, ℕ, Bool, true, List, [], ◌∷◌, map, is_some, Option, Some, None, option_map}
+use Rattle.std.proofs.Common.{◌≡◌, ◌∙◌, refl, ap, sym, subst, ℕ, Bool, true, false, List, [], ◌∷◌, map, is_some, Option, Some, None, option_map}
 use Rattle.std.specs.Prelude.{◌&&◌, unwrap_or, if◌then◌else◌}
 use Rattle.std.specs.List.{list_all}
 use Rattle.std.proofs.lemmas.Bool.{and_parts}

@@ -1,5 +1,6 @@
 //! The variables that FROM brings into scope, each with where its objects come from (chapter 4.4).
 ghost use Rattle.std.specs.Prelude.{◌≡◌, true, option_map, IfSome, IfOk};
+ghost use Rattle.std.specs.List.{list_any};
 ghost use Rattle.jpql_types.specs.Gives.{Gives, IsJudged};
 ghost use Rattle.jpql_types.specs.Scope as scopes;
 ghost use Rattle.jpql_types.specs.Typing as typing;
@@ -35,13 +36,19 @@ pub(crate) fn copied(alloc: Global, scope: &[Variable]) -> Result<Seq<Variable>,
     Ok(found)
 }
 
+fn is_in_scope(scope: &[Variable], name: &Text) -> bool
+    ensures { result ≡ list_any (λ v. scopes.same_variable v.name name.now) scope.now }
+{
+    scope
+        .iter()
+        .any(|variable| is_same_variable(&variable.name, name))
+}
+
 /// Whether no variable of a name is in scope.
 fn is_new(scope: &[Variable], name: &Text) -> bool
     ensures { result ≡ scopes.is_new scope.now name.now }
 {
-    !scope
-        .iter()
-        .any(|variable| is_same_variable(&variable.name, name))
+    !is_in_scope(scope, name)
 }
 
 /// One more variable in scope; fails for want of memory alone.
