@@ -47,7 +47,7 @@ class Table(unittest.TestCase):
         papers = "".join(
             file.read_text()
             for file in (root / "README.md", root / "clients/python/README.md",
-                         root / "docs/OPERATING.md", root / "docs/CARRY-OVER.md")
+                         root / "docs/OPERATING.md")
         )
         words = set(re.findall(r"`(?:karzhoul\.)?([A-Z]\w+)[`(]", papers))
         kinds = [

@@ -179,11 +179,11 @@ def _lock_entity(model: Model, lock: Lock, entity: Declared, faults: Faults) -> 
         faults.add(entity.kind, None, f"extended {record.get('extends', 'Entity')} before, and "
                    f"extends {entity.parent or 'Entity'} now: its rows are of a table for good. "
                    "Let it be a new class, by another name and was=\"\", and carry its objects "
-                   "over (docs/CARRY-OVER.md)")
+                   "over (docs/OPERATING.md)")
     elif bool(record.get("version")) != (version is not None):
         faults.add(entity.kind, None, "has a version where it had none, or none where it had one: "
                    "an entity keeps that for good. Take the change back, or bring the store over by "
-                   "karzhoul migrate (docs/CARRY-OVER.md)")
+                   "karzhoul migrate (docs/OPERATING.md)")
     if key:
         kinds = [part.type for part in key if part.type is not None]
         said = {"form": ", ".join(it.form for it in kinds),
@@ -193,7 +193,7 @@ def _lock_entity(model: Model, lock: Lock, entity: Declared, faults: Faults) -> 
         if before != said:
             faults.add(key[0].writer, key[0].said, f"is a key of {_key_words(said)}, and was one "
                        f"of {_key_words(before)}: a key stays as it is. Take the change back, or "
-                       "bring the store over by karzhoul migrate (docs/CARRY-OVER.md)")
+                       "bring the store over by karzhoul migrate (docs/OPERATING.md)")
 
 
 def _key_words(said: Record) -> str:

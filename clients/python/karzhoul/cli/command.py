@@ -37,8 +37,8 @@ from . import beginnings, carrying, selecting
 _MIGRATE = """With --from it brings a database over from the mapping or the classes that it was
 written with to those of --mapping: each object is read, stored in a new file beside the old one,
 and that takes the old one's place by one rename. Stopped at any moment, the old one stands.
-docs/CARRY-OVER.md tells the rest. Without --from it is for mappings by hand, and tells what an
-opening with one of revision 2 changes (docs/REVISIONS.md)."""
+docs/OPERATING.md tells the rest. Without --from it is for mappings by hand, and tells what an
+opening with one of revision 2 changes (docs/OPERATING.md)."""
 WRONG, MISSAID, REFUSED, FAILED, INTERRUPTED = 1, 2, 3, 4, 130
 Parsers = Sequence[argparse.ArgumentParser]
 

@@ -11,7 +11,7 @@ from .naming import AS_MAPPED, SNAKE
 _EXPORT = """Writes what a store holds as tables with names and types of their own: one for each
 hierarchy of entities and one for each list that is stored, with keys, constraints and indexes.
 Everything is written, or nothing: to a new file of SQLite, or a text of SQL that is one transaction.
-It is whole each time: there is no --since. docs/OUTGROW.md tells the rest."""
+It is whole each time: there is no --since. docs/OPERATING.md tells the rest."""
 _IMPORT = """Makes a new store of tables as 'export' writes them, by the same mapping and the same
 --names, --name and --as: the same objects, versions and next keys. Everything is stored, or
 nothing."""

@@ -1,4 +1,4 @@
-"""The page on mappings that change: each of its blocks, in one shell and in their order."""
+"""The example of docs/OPERATING.md, which moves data: each block, in one shell and in their order."""
 
 from __future__ import annotations
 
@@ -12,7 +12,7 @@ from karzhoul.mapping.linter import lint
 from ..support import PROGRAM, TOP, needs_program, needs_revision_2, package_elsewhere
 from .test_tutorial import blocks, follow
 
-PAGE = TOP / "docs" / "REVISIONS.md"
+PAGE = TOP / "docs" / "OPERATING.md"
 
 
 class Page(unittest.TestCase):
@@ -21,7 +21,7 @@ class Page(unittest.TestCase):
 
     def test_its_mappings_are_good(self) -> None:
         mappings = [block.text for block in blocks(PAGE) if block.kind == "json"]
-        self.assertEqual([json.loads(text)["revision"] for text in mappings], [1, 2])
+        self.assertEqual([json.loads(text)["revision"] for text in mappings], [1, 1, 2])
         for text in mappings:
             self.assertEqual(lint(text.encode()).findings, [])
 
