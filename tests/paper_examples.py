@@ -1,5 +1,5 @@
 #!/usr/bin/env python3
-"""tests/paper_examples.py PROGRAM: runs the examples of README.md, docs/GUIDE.md, docs/CALLS.md.
+"""tests/paper_examples.py PROGRAM: runs the examples of README.md, docs/MAPPINGS.md, docs/CALLS.md.
 
 - A block `jsonl` is calls; the block `text` behind it is the end of what the program answers.
 - A block `json` is a mapping. The calls behind it are a run over it and an empty store; a `text`
@@ -25,7 +25,7 @@ from typing import TYPE_CHECKING, Any
 if TYPE_CHECKING:
     from pathlib import Path
 
-PAGES = ["README.md", "docs/GUIDE.md", "docs/CALLS.md"]
+PAGES = ["README.md", "docs/MAPPINGS.md", "docs/CALLS.md"]
 BLOCK = re.compile(r"^```(\w+)(?: (\w+))?\n(.*?)^```$", re.MULTILINE | re.DOTALL)
 SECONDS = 60
 

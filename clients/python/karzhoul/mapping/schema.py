@@ -133,7 +133,7 @@ def mapping_schema() -> Schema:
     return {
         "$schema": "http://json-schema.org/draft-07/schema#",
         "title": "A mapping of Karzhoul",
-        "description": "Which entities are stored, and how. docs/GUIDE.md has all rules, and "
+        "description": "Which entities are stored, and how. docs/MAPPINGS.md has all rules, and "
                        "'karzhoul check' tells which a mapping breaks.",
         **_form("mapping"),
         "definitions": definitions,

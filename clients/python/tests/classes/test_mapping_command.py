@@ -30,7 +30,7 @@ class Loan(Entity):
     member: Member = many_to_one()
     due: date | None = None
 """
-# As docs/GUIDE.md says what a class gives.
+# As docs/MAPPINGS.md says what a class gives.
 MEMBER = {
     "name": "Member", "table": 1, "key": [{"name": "id", "type": "int"}], "generated": True,
     "version": {"name": "version", "column": 1},

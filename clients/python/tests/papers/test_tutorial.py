@@ -14,7 +14,7 @@ from typing import Iterator, List, NamedTuple
 
 from ..support import PROGRAM, TOP, needs_program, package_elsewhere
 
-TUTORIAL = TOP / "docs" / "TUTORIAL.md"
+TUTORIAL = TOP / "docs" / "START.md"
 
 
 class Block(NamedTuple):

@@ -1,4 +1,4 @@
-"""A check of mappings of the client's own: which rule of docs/GUIDE.md a mapping breaks, and where
+"""A check of mappings of the client's own: which rule of docs/MAPPINGS.md a mapping breaks, and where
 in its file.
 
 It refuses exactly what the program refuses, with the same word: `json`, `shape`, `model` or
