@@ -9,6 +9,7 @@
 - `CRATE: NAME` in docs/JUDGING.md is a file of definitions.
 - Each file of crates/*/specs says in its head what it defines, as tools/definitions prints it. Each
   public definition there has a comment right above it, and no line has more than 120 columns.
+- The table of limits of docs/OPERATING.md has those of crates/jpa_value/specs/Limits.antt.
 - Rows of tests/records have the cells of their table, and name files that are there.
 - The version of CHANGELOG.md is that of the program and of the client.
 - The calls are as many as docs/CALLS.md says, all are in its tables and those of docs/QUERIES.md,
@@ -34,6 +35,7 @@ PAGES = ("*.md", "docs/*.md", "tests/*.md", "tests/*/*.md", "clients/*/*.md",
 RUNS = "tests/runs/README.md"
 JUDGING = "docs/JUDGING.md"
 RECORDS = "tests/records/*.tsv"
+LIMITS = "crates/jpa_value/specs/Limits.antt"
 EXAMPLES = ("mappings", "revisions", "limits", "functions", "stores", "migrations", "queries", "typed")
 TITLE = re.compile(r"^(?:mapping|limit|functions|store|query|typed|wide) (.+)$", re.MULTILINE)
 VERSIONS = {
@@ -247,6 +249,16 @@ def check_records(name: Path) -> None:
             fault(f"{name}:{place}", f"{cells} cells, and not {columns}")
 
 
+def check_limits(page: str) -> None:
+    told = {row.get("What"): row.get("At most", "").split(" ")[0] for row in rows(page)}
+    limits = found_in(r"^-- (.*)\nabbrev pub \w+ : ℕ\n\w+ = (\d+)$", read(LIMITS))
+    if not limits:
+        fault(LIMITS, "no limits are found there")
+    for what, most in limits:
+        if told.get(what) != f"{int(most):,}":
+            fault(page, f"its table of limits doesn't say that '{what}' are {int(most):,} at most")
+
+
 def check_version(page: str) -> None:
     version = found_in(r"^## (\d+\.\d+\.\d+)", read(page))[:1]
     for name, pattern in VERSIONS.items():
@@ -287,6 +299,7 @@ def main(words: list[Any]) -> int:
         check_files(name.as_posix())
     for name in sorted(pathlib.Path("crates").glob("*/specs/**/*.antt")):
         check_definitions(name)
+    check_limits("docs/OPERATING.md")
     check_version("CHANGELOG.md")
     check_calls("docs/CALLS.md")
     for line in faults:
