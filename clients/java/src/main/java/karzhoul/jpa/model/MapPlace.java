@@ -46,6 +46,21 @@ final class MapPlace implements Place, ElementView.Maker {
     }
 
     @Override
+    public Object held(Object instance) {
+        return where.get(instance);
+    }
+
+    @Override
+    public Object holder(Object instance) {
+        return where.holder(instance);
+    }
+
+    @Override
+    public void hold(Object instance, Object held) {
+        where.set(instance, held);
+    }
+
+    @Override
     public void set(Object instance, Object value) {
         Object held = value == null ? null : where.get(instance);
         ElementView view = held == null ? null : ElementView.of(held, instance);

@@ -7,4 +7,19 @@ interface Place {
 
     /** Puts a value there, and makes embeddables on the way; a null where there is none makes none. */
     void set(Object instance, Object value);
+
+    /** What the application has there: the same, but of a collection that stands here as something else. */
+    default Object held(Object instance) {
+        return get(instance);
+    }
+
+    /** Puts there what the application had there. */
+    default void hold(Object instance, Object held) {
+        set(instance, held);
+    }
+
+    /** The embeddable that has it in a field; null where none is, or where a getter may answer a copy. */
+    default Object holder(Object instance) {
+        return null;
+    }
 }

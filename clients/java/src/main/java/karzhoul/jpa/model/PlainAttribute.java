@@ -104,6 +104,11 @@ final class PlainAttribute implements Attribute {
     }
 
     @Override
+    public Object holder(Object instance) {
+        return where.holder(instance);
+    }
+
+    @Override
     public void set(Object instance, Object value) {
         where.set(instance, value);
     }

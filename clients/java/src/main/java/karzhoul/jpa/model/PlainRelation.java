@@ -173,6 +173,21 @@ final class PlainRelation implements Relation {
     }
 
     @Override
+    public Object held(Object instance) {
+        return where.held(instance);
+    }
+
+    @Override
+    public Object holder(Object instance) {
+        return where.holder(instance);
+    }
+
+    @Override
+    public void hold(Object instance, Object held) {
+        where.hold(instance, held);
+    }
+
+    @Override
     public String toString() {
         return path;
     }
