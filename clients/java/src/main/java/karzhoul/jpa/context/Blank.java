@@ -21,46 +21,52 @@ final class Blank {
     /** A collection that isn't empty at first, or one of a getter that answers copies. */
     private record Begun(Object held, List<Object> content, boolean isCopy) {}
 
-    private final Object[] values;
-    private final Object[] held;
-    /** The embeddables that were there, of attributes and then of relations; null where there was none. */
+    /** The values of attributes, as a snapshot keeps them, and then what relations held. */
+    private final Object[] fields;
+    /** The embeddables that were there, by the same places; null where the class has none. */
     private final Object[] holders;
 
-    private Blank(Object[] values, Object[] held, Object[] holders) {
-        this.values = values;
-        this.held = held;
+    private Blank(Object[] fields, Object[] holders) {
+        this.fields = fields;
         this.holders = holders;
     }
 
     /** What this new instance has. */
     static Blank of(EntityModel model, Object made) {
-        List<Attribute> attributes = model.attributes();
-        List<Relation> relations = model.relations();
-        Object[] values = new Object[attributes.size()];
-        Object[] held = new Object[relations.size()];
-        Object[] holders = null;
-        for (int i = 0; i < values.length; i++) {
-            values[i] = kept(attributes.get(i), made);
-            holders = holders(holders, i, values.length + held.length, attributes.get(i).holder(made));
+        Object[] read = model.fieldsOf(made);
+        boolean hasGetters = read == null;
+        Object[] fields = hasGetters ? byGetters(model, made) : read;
+        int count = model.attributes().size();
+        for (int i = 0; i < fields.length; i++) {
+            if (fields[i] != null) {
+                fields[i] = i < count ? kept(model.attributes().get(i), fields[i])
+                    : begun(model.relations().get(i - count), made, fields[i], hasGetters);
+            }
         }
-        for (int i = 0; i < held.length; i++) {
-            held[i] = begun(relations.get(i), made);
-            holders = holders(holders, values.length + i, values.length + held.length, relations.get(i).holder(made));
-        }
-        return new Blank(values, held, holders);
+        return new Blank(fields, model.hasEmbeddables() ? holders(model, made) : null);
     }
 
-    private static Object[] holders(Object[] before, int place, int count, Object holder) {
-        if (holder == null) {
-            return before;
+    private static Object[] byGetters(EntityModel model, Object instance) {
+        int count = model.attributes().size();
+        Object[] got = new Object[count + model.relations().size()];
+        for (int i = 0; i < got.length; i++) {
+            try {
+                got[i] = i < count ? model.attributes().get(i).get(instance) : model.relations().get(i - count).held(instance);
+            } catch (RuntimeException e) {
+                got[i] = FAILED;
+            }
         }
-        Object[] holders = before == null ? new Object[count] : before;
-        holders[place] = holder;
+        return got;
+    }
+
+    private static Object[] holders(EntityModel model, Object instance) {
+        int count = model.attributes().size();
+        Object[] holders = new Object[count + model.relations().size()];
+        for (int i = 0; i < holders.length; i++) {
+            holders[i] = i < count ? model.attributes().get(i).holder(instance)
+                : model.relations().get(i - count).holder(instance);
+        }
         return holders;
-    }
-
-    private Object holder(int place) {
-        return holders == null ? null : holders[place];
     }
 
     /**
@@ -73,7 +79,7 @@ final class Blank {
         for (Attribute attribute : model.attributes()) {
             Object holder = attribute.holder(proxy);
             boolean isShared = holder != null && holder == attribute.holder(twin);
-            if (!isSame(attribute, attribute.get(proxy), kept(attribute, isShared ? fresh : twin))) {
+            if (!isSame(attribute, attribute.get(proxy), kept(attribute, attribute.get(isShared ? fresh : twin)))) {
                 return attribute.path();
             }
         }
@@ -87,30 +93,21 @@ final class Blank {
         return null;
     }
 
-    private static Object kept(Attribute attribute, Object made) {
-        Object value = null;
+    private static Object kept(Attribute attribute, Object value) {
         try {
-            value = attribute.get(made);
-            return Values.kept(attribute, value);
+            return value == FAILED ? value : Values.kept(attribute, value);
         } catch (Unkept unkept) {
             return value;
-        } catch (RuntimeException e) {
-            return FAILED;
         }
     }
 
-    private static Object begun(Relation relation, Object made) {
-        try {
-            Object held = relation.held(made);
-            if (held == null || !relation.isMany()) {
-                return held;
-            }
-            boolean isCopy = relation.held(made) != held;
-            List<Object> content = content(held);
-            return isCopy || !content.isEmpty() ? new Begun(held, content, isCopy) : held;
-        } catch (RuntimeException e) {
-            return FAILED;
+    private static Object begun(Relation relation, Object made, Object held, boolean hasGetters) {
+        if (held == FAILED || !relation.isMany()) {
+            return held;
         }
+        boolean isCopy = hasGetters && relation.held(made) != held;
+        List<Object> content = content(held);
+        return isCopy || !content.isEmpty() ? new Begun(held, content, isCopy) : held;
     }
 
     private static List<Object> content(Object held) {
@@ -127,37 +124,40 @@ final class Blank {
      * @throws PersistenceException where that can't be told
      */
     Written written(Entry entry) {
-        List<Attribute> attributes = entry.model().attributes();
-        List<Relation> relations = entry.model().relations();
-        Object proxy = entry.instance();
+        EntityModel model = entry.model();
+        Object[] read = model.fieldsOf(entry.instance());
+        Object[] now = read == null ? byGetters(model, entry.instance()) : read;
+        Object[] holdersNow = holders == null ? null : holders(model, entry.instance());
+        int count = model.attributes().size();
         Written written = null;
-        for (int i = 0; i < values.length; i++) {
-            if (isWritten(attributes.get(i), i, proxy)) {
-                written = written == null ? new Written() : written;
-                written.add(attributes.get(i), attributes.get(i).get(proxy));
+        for (int i = 0; i < now.length; i++) {
+            boolean isReplaced = holders != null && holders[i] != holdersNow[i];
+            if (now[i] == fields[i] && !isReplaced && (i < count || now[i] == null) || now[i] == FAILED) {
+                continue;
             }
-        }
-        for (int i = 0; i < held.length; i++) {
-            Relation relation = relations.get(i);
-            Written.Held now = relation.holder(proxy) == holder(values.length + i) ? written(entry, relation, held[i])
-                : new Written.Held(relation, relation.held(proxy), null);
-            if (now != null) {
-                written = written == null ? new Written() : written;
-                written.add(now);
-            }
+            written = i < count ? written(written, model.attributes().get(i), now[i], i, isReplaced)
+                : written(written, entry, model.relations().get(i - count), now[i], i, isReplaced);
         }
         return written;
     }
 
-    private boolean isWritten(Attribute attribute, int place, Object proxy) {
-        if (attribute.holder(proxy) != holder(place)) {
-            return true;
+    private Written written(Written before, Attribute attribute, Object now, int place, boolean isReplaced) {
+        if (!isReplaced && isSame(attribute, now, fields[place])) {
+            return before;
         }
-        try {
-            return !isSame(attribute, attribute.get(proxy), values[place]);
-        } catch (RuntimeException e) {
-            return false;       // a getter that fails still has nothing to tell
+        Written written = before == null ? new Written() : before;
+        written.add(attribute, now);
+        return written;
+    }
+
+    private Written written(Written before, Entry entry, Relation relation, Object now, int place, boolean isReplaced) {
+        Written.Held held = isReplaced ? new Written.Held(relation, now, null) : written(entry, relation, now, fields[place]);
+        if (held == null) {
+            return before;
         }
+        Written written = before == null ? new Written() : before;
+        written.add(held);
+        return written;
     }
 
     /** As what they are: a decimal of other places was written too. */
@@ -172,13 +172,7 @@ final class Blank {
         }
     }
 
-    private static Written.Held written(Entry entry, Relation relation, Object before) {
-        Object now;
-        try {
-            now = relation.held(entry.instance());
-        } catch (RuntimeException e) {
-            return null;
-        }
+    private static Written.Held written(Entry entry, Relation relation, Object now, Object before) {
         if (before instanceof Begun begun && (begun.isCopy() || now == begun.held())) {
             List<Object> added = now == null ? List.of() : content(now);
             begun.content().forEach(added::remove);

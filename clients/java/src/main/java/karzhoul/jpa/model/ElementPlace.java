@@ -1,5 +1,6 @@
 package karzhoul.jpa.model;
 
+import java.lang.invoke.MethodHandle;
 import java.util.ArrayList;
 import java.util.Collection;
 import java.util.List;
@@ -68,6 +69,16 @@ final class ElementPlace implements Place, Elements, ElementView.Maker {
     @Override
     public Object held(Object instance) {
         return where.get(instance);
+    }
+
+    @Override
+    public boolean isOfFields() {
+        return where.isOfFields();
+    }
+
+    @Override
+    public MethodHandle reader() {
+        return where.reader();
     }
 
     @Override

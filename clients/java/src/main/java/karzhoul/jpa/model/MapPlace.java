@@ -1,6 +1,7 @@
 package karzhoul.jpa.model;
 
 import jakarta.persistence.PersistenceException;
+import java.lang.invoke.MethodHandle;
 import java.util.ArrayList;
 import java.util.LinkedHashMap;
 import java.util.List;
@@ -48,6 +49,16 @@ final class MapPlace implements Place, ElementView.Maker {
     @Override
     public Object held(Object instance) {
         return where.get(instance);
+    }
+
+    @Override
+    public boolean isOfFields() {
+        return where.isOfFields();
+    }
+
+    @Override
+    public MethodHandle reader() {
+        return where.reader();
     }
 
     @Override

@@ -54,6 +54,10 @@ final class PlainAttribute implements Attribute {
         return isUnique;
     }
 
+    Place where() {
+        return where;
+    }
+
     void stands(int place) {
         this.place = place;
     }

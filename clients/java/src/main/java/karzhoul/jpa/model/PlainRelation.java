@@ -73,6 +73,10 @@ final class PlainRelation implements Relation {
         listOrder = order;
     }
 
+    Place where() {
+        return where;
+    }
+
     void stands(int place) {
         this.place = place;
     }
