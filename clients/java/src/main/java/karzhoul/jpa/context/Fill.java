@@ -140,7 +140,11 @@ final class Fill {
                 keyed.add(proxy);
             }
         }
-        found(keyed.stream().map(Entry::model).toList(), keyed.stream().map(Entry::key).toList());
+        if (keyed.isEmpty()) {
+            complete();
+        } else {
+            found(keyed.stream().map(Entry::model).toList(), keyed.stream().map(Entry::key).toList());
+        }
         for (Entry proxy : proxies) {
             if (proxy.isHollow()) {
                 throw context.marked(new EntityNotFoundException("EntityNotFound, " + proxy + ", whose "

@@ -411,7 +411,7 @@ final class Merge {
         Entry image = isCopied ? images.get(source) : source;
         boolean mayFit = image != null && value.attribute() != null && image.isStored()
             && image.model().callbacks().hears(Callbacks.Event.PreUpdate);
-        if ((isCopied || direct.containsKey(source)) && !mayFit) {
+        if ((isCopied || direct.containsKey(source) || value.attribute() == null) && !mayFit) {
             throw value.refusal();
         } else if (isCopied) {
             Object column = Values.columnOfKept(value.attribute(), image.values[value.attribute().place()]);

@@ -145,7 +145,7 @@ final class PlainEntity implements EntityModel {
         copies = Stream.concat(above == null ? Stream.empty() : above.copies.stream(), ownCopies.stream()).toList();
         attributes = List.copyOf(all);
         relations = List.copyOf(leading);
-        hasEmbeddables = places().stream().anyMatch(place -> place.reader() == null);
+        hasEmbeddables = places().stream().anyMatch(place -> place != null && place.reader() == null);
     }
 
     PlainEntity above() {
@@ -311,7 +311,7 @@ final class PlainEntity implements EntityModel {
     public Object[] fieldsOf(Object instance) {
         if (fields == null) {
             List<Place> places = places();
-            fields = Optional.of(places).filter(all -> all.stream().allMatch(Place::isOfFields)).map(Fields::new);
+            fields = Optional.of(places).filter(all -> all.stream().allMatch(place -> place != null && place.isOfFields())).map(Fields::new);
         }
         return fields.isEmpty() ? null : fields.get().of(instance);
     }

@@ -253,6 +253,23 @@ class CallbacksFirstTest {
     }
 
     @Test
+    void whatIsManagedKeepsItsOwnBesideAMerge() {
+        Bill bill = stored();
+        Line line = new Line();
+        line.id = 8L;
+        line.amount = BigDecimal.ONE;
+        line.bill = bill;
+        commit(() -> {
+            bill.amount = new BigDecimal("2.005");
+            bill.add(9, "1.00");
+            manager.merge(bill);
+            assertEquals(new BigDecimal("2.005"), bill.amount);
+            manager.merge(line);
+        });
+        assertEquals(new BigDecimal("2.00"), stored().amount);
+    }
+
+    @Test
     void aMergeThatStaysUnfitIsRefused() {
         Bill bill = stored();
         manager.clear();

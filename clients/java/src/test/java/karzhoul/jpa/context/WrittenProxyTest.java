@@ -240,6 +240,18 @@ class WrittenProxyTest {
     }
 
     @Test
+    void ofOneThatTheProgramKnowsByItsNumber() {
+        commit(() -> {
+            Part proxy = manager.getReference(Part.class, 1L);
+            manager.find(Part.class, 3L).next = proxy;
+            manager.flush();
+            assertFalse(LoadStates.isRead(proxy));
+            proxy.number = 1;
+        });
+        assertEquals(1, stored().number);
+    }
+
+    @Test
     void whatIsLeftAloneIsNotWritten() {
         UUID token = manager.find(Part.class, 1L).token;
         manager.clear();
