@@ -4,11 +4,12 @@
 - Links between papers, into folders and files, and to headings lead somewhere. Files that are
   named as code are there.
 - Names behind a link into crates/, in a table of an index, are declared in that file.
-- docs/CHAPTERS.md cites each folder of tests/runs, and no other. Titles of worked examples are
+- docs/JUDGING.md cites each folder of tests/runs, and no other. Titles of worked examples are
   those of their files. The index of tests/runs/README.md has the same runs by chapter.
-- `CRATE: NAME` in docs/WORDS.md is a file of definitions.
-- Each public definition of crates/*/specs has a comment right above it, and no line there has more
-  than 120 columns.
+- `CRATE: NAME` in docs/JUDGING.md is a file of definitions.
+- Each file of crates/*/specs says in its head what it defines, as tools/definitions prints it. Each
+  public definition there has a comment right above it, and no line has more than 120 columns.
+- Rows of tests/records have the cells of their table, and name files that are there.
 - The version of CHANGELOG.md is that of the program and of the client.
 - The calls are as many as docs/CALLS.md says, all are in its tables and those of docs/QUERIES.md,
   and no other paper counts them.
@@ -31,7 +32,8 @@ if TYPE_CHECKING:
 PAGES = ("*.md", "docs/*.md", "tests/*.md", "tests/*/*.md", "clients/*/*.md",
          "examples/*/*.md", "crates/*/README.md")
 RUNS = "tests/runs/README.md"
-INDEXES = ("docs/CHAPTERS.md", "docs/PROMISES.md")
+JUDGING = "docs/JUDGING.md"
+RECORDS = "tests/records/*.tsv"
 EXAMPLES = ("mappings", "revisions", "limits", "functions", "stores", "migrations", "queries", "typed")
 TITLE = re.compile(r"^(?:mapping|limit|functions|store|query|typed|wide) (.+)$", re.MULTILINE)
 VERSIONS = {
@@ -177,16 +179,20 @@ def cited_runs(cell: str) -> list[str]:
 
 
 def run_index(page: str) -> str:
-    """The runs that an index of chapters cites, by its headings."""
-    found = []
-    for part in re.split(r"^##+ ", read(page), flags=re.MULTILINE):
-        heading, _, body = part.partition("\n")
-        cells = [row.get("Shown by", "") for row in rows_in(body)]
-        names = sorted({f"`{name}`" for cell in cells for name in cited_runs(cell)})
-        if names:
-            lines = textwrap.wrap(" ".join(names), 118, break_on_hyphens=False)
-            found.append("\n".join([f"### {heading}", "", *lines, ""]))
-    return "\n".join(found)
+    """The runs that an index of chapters cites, by its sections: rows that have a title alone."""
+    found: dict[str, set[str]] = {}
+    section = ""
+    for row in rows(page):
+        section = (found_in(r"^\*\*(.*)\*\*$", row.get("Rule", "")) or [section])[0]
+        names = {f"`{name}`" for name in cited_runs(row.get("Shown by", ""))}
+        found[section] = found.get(section, set()) | names
+    return "\n".join(
+        "\n".join([f"### {section}", "", *wrapped(sorted(names)), ""])
+        for section, names in found.items() if names)
+
+
+def wrapped(names: list[str]) -> list[str]:
+    return textwrap.wrap(" ".join(names), 118, break_on_hyphens=False)
 
 
 def check_run_index(page: str, is_written: bool) -> None:
@@ -219,12 +225,26 @@ def check_words(page: str) -> None:
 
 def check_definitions(name: Path) -> None:
     above = ""
+    if name.stem[0].isupper() and name.name != "Lib.antt" and not read(name).startswith("-- "):
+        fault(name.as_posix(), "its head doesn't say what it defines")
     for place, line in enumerate(read(name).splitlines(), 1):
         if len(line) > 120:
             fault(f"{name}:{place}", f"{len(line)} columns")
         if DEFINES.match(line) and not above.lstrip().startswith("--"):
             fault(f"{name}:{place}", "a public definition without a comment")
         above = line
+
+
+def check_records(name: Path) -> None:
+    columns = 0
+    for place, line in enumerate(read(name).splitlines(), 1):
+        if not line or line.startswith("#"):
+            columns = 0
+            continue
+        cells = len(line.split("\t"))
+        columns = columns or cells
+        if cells != columns:
+            fault(f"{name}:{place}", f"{cells} cells, and not {columns}")
 
 
 def check_version(page: str) -> None:
@@ -258,11 +278,13 @@ def main(words: list[Any]) -> int:
         check_links(page)
         if "/" not in page or page.startswith(("docs/", "tests/")):
             check_files(page)
-    for page in INDEXES:
-        check_index(page)
-    check_runs("docs/CHAPTERS.md")
-    check_run_index("docs/CHAPTERS.md", bool(words))
-    check_words("docs/WORDS.md")
+    check_index(JUDGING)
+    check_runs(JUDGING)
+    check_run_index(JUDGING, bool(words))
+    check_words(JUDGING)
+    for name in sorted(pathlib.Path().glob(RECORDS)):
+        check_records(name)
+        check_files(name.as_posix())
     for name in sorted(pathlib.Path("crates").glob("*/specs/**/*.antt")):
         check_definitions(name)
     check_version("CHANGELOG.md")

@@ -1,5 +1,5 @@
 """What the program answers to lines, in plain Python after docs/GUIDE.md, docs/CALLS.md and
-docs/DEFINITIONS.md: the call that a line means (tests/model/reading.py), the machine that calls
+crates/*/specs: the call that a line means (tests/model/reading.py), the machine that calls
 change, and the cells of what was committed (tests/model/cells.py). It serves what the program
 serves, and knows nothing of how that is built.
 
