@@ -10,7 +10,7 @@ Told = Optional[Tuple[Token, str]]
 WORDS = ("CASE", "WHEN", "THEN", "ELSE", "END")
 # What begins or joins tests, beside comparisons.
 _OF_TESTS = ("AND", "OR", "NOT", "IN", "IS", "LIKE", "BETWEEN", "MEMBER")
-_NULL = "ELSE NULLIF(1, 1) gives null, and of texts NULLIF('', '')"
+_NULL = "ELSE :none gives null, with None handed in for it"
 _ALONE = "behind WHEN stand tests of values alone"
 
 
@@ -139,7 +139,7 @@ def _null(place: _Place) -> Told:
         return None
     if found.is_at("THEN", "ELSE"):
         word = found.last.said.upper()
-        way = "NULLIF(1, 1) gives null, and of texts NULLIF('', '')"
+        way = f"{word} :none gives null, with None handed in for it"
         return place.token, f"NULL is no value, and stands behind no {word}: {way}"
     way = "CASE WHEN o.amount IS NULL THEN .. asks for it"
     return place.token, f"nothing is equal to NULL: {way}"
@@ -187,18 +187,18 @@ def _missing(place: _Place) -> Told:
         return token, "THEN is missing here, with what this WHEN gives"
     if found.is_at("THEN") and "ELSE" in place.expected:
         if token.is_word("THEN"):
-            return token, "a second THEN follows on one WHEN: WHEN is missing before it"
+            return token, "a second THEN follows on one WHEN: write WHEN and a test before it"
         return token, f"ELSE is missing here, which each CASE has before its END: {_NULL}"
     if found.is_at("ELSE") and "END" in place.expected:
         if token.is_word("WHEN") or token.is_word("ELSE"):
-            return token, "behind ELSE and its value END follows: ELSE comes last, once"
+            return token, "behind ELSE and its value END follows: ELSE stands once, behind each WHEN"
         return token, "END is missing here, which ends CASE"
     return None
 
 
 def _is_like_a_word(token: Token) -> bool:
     """Whether a name may be one of the words, misspelt."""
-    return token.sort == "word" and any(
-        len(set(token.said.upper()) & set(word)) >= 3 and token.said.upper() != word
-        and abs(len(token.said) - len(word)) < 2 for word in WORDS[1:]
+    said = token.said.upper()
+    return token.sort == "word" and said not in WORDS and any(
+        len(set(said) & set(word)) >= 3 and abs(len(said) - len(word)) < 2 for word in WORDS[1:]
     )

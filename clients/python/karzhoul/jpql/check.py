@@ -574,7 +574,7 @@ class _Typing:
         what = "behind THEN and ELSE stand values of one kind"
         kind = self._one_kind(results, scope, what)
         if kind is not None and kind.is_entity:
-            first = next(it for it in results if it.sort != "parameter")
+            first = next((it for it in results if it.sort == "path"), results[0])
             way = f"give a member of each, as {self._text(first)}.id"
             self._wrong(first, f"CASE gives values, and no objects: {way}")
             return None

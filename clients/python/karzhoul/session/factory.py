@@ -124,8 +124,9 @@ class EntityManagerFactory(ObjectCalls, AbstractContextManager["EntityManagerFac
 
         What isn't committed is gone. Objects of before are `Restarted` where they are used, and so
         are managers that had some or an open transaction, also by a call of another thread that
-        waits meanwhile. Other managers go on, and classes and callbacks stay. In a pipeline the calls that were kept are sent first, and their first refusal is raised: then
-        nothing else was done.
+        waits meanwhile. Other managers go on, and classes and callbacks stay. In a pipeline the
+        calls that were kept are sent first, and their first refusal is raised: then nothing else
+        was done.
         """
         with self._lock:
             self._refuse_within()
