@@ -328,9 +328,10 @@ class Reader:
         if operand is not None:
             self._alike([operand, *whens], scope)
         self._alike(results, scope)
-        known = self._first(results, scope)
-        for part in results if known is not None and not known[0].is_plain else ():
-            other = self._type(part, scope)
+        kinds = [(part, self._type(part, scope)) for part in results]
+        typed = [kind for _, kind in kinds if kind is not None and not kind[0].is_plain]
+        for part, other in kinds if typed else ():
+            known = typed[0]
             if other is None and _is_computed(part):
                 given = f"{cut(self._text[part.at : part.end])}, which the query computes"
             elif other is not None and other[0].form != known[0].form:
