@@ -11,6 +11,8 @@ import subprocess
 import unittest
 from typing import Any, Dict, List, Mapping, Tuple, Union
 
+import karzhoul
+from karzhoul.explain.limits import kind_of
 from karzhoul.jpql import statements as jpql
 from karzhoul.jpql.check import INT, TEXT, Kind, Kinds, check
 from karzhoul.mapping.unit import entities_of
@@ -130,6 +132,16 @@ def serves_cases() -> bool:
 needs_cases = unittest.skipUnless(serves_cases(), "the program reads no CASE: it is an older one")
 
 
+def _nested(count: int) -> str:
+    """So many CASEs, each behind the THEN of another one."""
+    return ORDERS.format("CASE WHEN 1 = 1 THEN " * count + "1" + " ELSE 2 END" * count)
+
+
+def _within_tests(count: int) -> str:
+    """The same behind WHEN."""
+    return ORDERS.format("CASE WHEN " * count + "1" + " = 1 THEN 1 ELSE 2 END" * count)
+
+
 class WrongTexts(unittest.TestCase):
     def kinds(self, text: str) -> Kinds:
         return {name: KINDS[name] for name in _given(text)}
@@ -153,17 +165,13 @@ class WrongTexts(unittest.TestCase):
             self.assertEqual(f"{error['name']}({error['why']})", refusal, text)
 
     def test_how_many_cases_a_text_has(self) -> None:
-        def nested(count: int) -> str:
-            return ORDERS.format("CASE WHEN 1 = 1 THEN " * count + "1" + " ELSE 2 END" * count)
-
-        def within_tests(count: int) -> str:
-            return ORDERS.format("CASE WHEN " * count + "1" + " = 1 THEN 1 ELSE 2 END" * count)
-
-        for text in (nested, within_tests):
+        for text in (_nested, _within_tests):
             self.assertEqual(check(text(64), entities_of(PERSONS), {}, "wide"), [])
             [found] = check(text(65), entities_of(PERSONS), {}, "wide")
             self.assertEqual(found.refusal, "Limit")
             self.assertIn("65 words CASE, and 64 are the most: hand in what some give", found.message)
+            self.assertIs(kind_of(json.dumps(query(text(65)))), karzhoul.QueryLimit)
+            self.assertIsNot(kind_of(json.dumps(query(text(64)))), karzhoul.QueryLimit)
         [found] = check(ORDERS.format("o.case " * 65), entities_of(PERSONS), {}, "wide")
         self.assertEqual(found.refusal, "Limit")
 
