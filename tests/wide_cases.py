@@ -171,10 +171,99 @@ def refused(ask: Asking) -> None:
         for text in (f"SELECT {value} FROM Order o", f"SELECT o.number FROM Order o WHERE {value} IS NULL"):
             ask.refuses([text, *WIDE], name)
             ask.refuses([text], "IllegalArgument(syntax)")
-    ask.refuses(["SELECT o.number FROM Order o WHERE CASE WHEN o.amount IN (:p) THEN 1 ELSE 0 END = 1", "--param", "p=[1]", *WIDE],
-                "IllegalArgument(parameter)")
-    ask.refuses(["SELECT o.number FROM Order o WHERE CASE WHEN o.amount IN :p THEN 1 ELSE 0 END = 1", "--param", "p=[1]", *WIDE],
-                "IllegalArgument(syntax)")
+
+
+# Values with collections, which sqlite3 reads where they are written in parentheses, also without a value.
+COLLECTED = [
+    "CASE WHEN o.amount IN :p THEN 'in' ELSE 'out' END",
+    "CASE WHEN o.amount IN (:p) THEN o.number WHEN o.amount NOT IN (:q) THEN -o.number ELSE 0 END",
+    "CASE WHEN NOT o.amount IN :p THEN 'a' WHEN NOT (o.amount NOT IN :p) THEN 'b' ELSE 'c' END",
+    "CASE WHEN o.amount NOT IN :p AND (o.number IN (:q) OR o.amount IS NULL) THEN 1 ELSE 0 END",
+    "CASE WHEN (o.amount + 1 IN :p) THEN 'a' WHEN (o.amount) IN (:q) OR o.number IN (1, 2) THEN 'b' ELSE 'c' END",
+    "CASE CASE WHEN o.number IN :q THEN 1 ELSE 0 END WHEN 1 THEN 'a' ELSE CASE WHEN o.amount IN :p THEN 'b' ELSE 'c' END END",
+    "COALESCE(CASE WHEN NULLIF(1, 1) NOT IN :p THEN o.number ELSE NULLIF(1, 1) END, 99)",
+]
+COLLECTIONS: list[list[Optional[int]]] = [[], [1], [1, 3, 7], [None], [2, None, 1], [1, 1, 1]]
+
+
+def given(**values: Any) -> list[str]:
+    """The words that hand values in for parameters."""
+    return [word for name, value in values.items() for word in ("--param", f"{name}={json.dumps(value)}")]
+
+
+def written(values: list[Optional[int]]) -> str:
+    return f"({', '.join('NULL' if value is None else str(value) for value in values)})"
+
+
+def collections(ask: Asking) -> None:
+    """A collection behind IN in a CASE means its values in parentheses, as in WHERE; an empty one has none."""
+    ask.filled(store_of([(at, amount, None) for at, amount in enumerate(AMOUNTS, 1)]))
+    with closing(of_sqlite(AMOUNTS)) as store:
+        for value in COLLECTED:
+            for p in COLLECTIONS:
+                for q in COLLECTIONS[:3] if ":q" in value else COLLECTIONS[:1]:
+                    sets = {name: it for name, it in (("p", p), ("q", q)) if f":{name}" in value}
+                    said = re.sub(r"\(:(\w)\)|:(\w)", lambda found: written(sets[found[1] or found[2]]), value)
+                    for clause in ("SELECT", "WHERE", "ORDER BY DESC"):
+                        found = store.execute(sql(PARTS[clause].replace("{}", said)))
+                        rows = [list(row) if len(row) > 1 else row[0] for row in found]
+                        ask.answers([PARTS[clause].replace("{}", value), *given(**sets), *WIDE], lines_of(rows))
+
+
+def worked_collections(ask: Asking) -> None:
+    """Those of docs/QUERIES.md, and collections in each clause, of texts too."""
+    ask.filled(store_of(ORDERS))
+
+    def gives(text: str, rows: list[Any], **params: Any) -> None:
+        ask.answers([text, *given(**params), *WIDE], lines_of(rows))
+
+    with open(os.path.join(HERE, "..", "docs", "QUERIES.md"), encoding="utf-8") as file:
+        said = file.read().partition("\nA collection stands behind IN there")[2].partition("\n\n")[0]
+    see(re.findall(r"\[[12, ]+\]", said), ["[1, 2, 2, 2]", "[2, 1, 2, 1]", "[2, 2, 2, 2]", "[1, 1, 1, 1]"], "the paper's values")
+    for value, some, none in [
+        ("CASE WHEN o.amount IN :p THEN 1 ELSE 2 END", [1, 2, 2, 2], [2, 2, 2, 2]),
+        ("CASE WHEN o.amount NOT IN (:p) THEN 1 ELSE 2 END", [2, 1, 2, 1], [1, 1, 1, 1]),
+    ]:
+        see(f"`{value}`" in said, True, value)
+        gives(f"SELECT {value} FROM Order o ORDER BY o.number", some, p=[5])
+        gives(f"SELECT {value} FROM Order o ORDER BY o.number", none, p=[])
+    names = "SELECT p.id FROM Person p WHERE CASE WHEN p.name IN :p THEN 'in' ELSE 'out' END = "
+    gives(f"{names}'in'", [1, 3], p=["Bob", "Ada", "x"])
+    gives(f"{names}'out'", [2], p=["Bob", "Ada", "x"])
+    gives("SELECT p.id, o.number FROM Person p LEFT JOIN p.orders o ON CASE WHEN o.amount IN :p THEN 1 ELSE 0 END = 1",
+          [[1, 10], [2, None], [3, None]], p=[5, 6])
+    gives("SELECT p.id FROM Person p JOIN p.orders o GROUP BY p.id HAVING CASE WHEN COUNT(o) IN :p THEN 1 ELSE 0 END = 1", [1],
+          p=[2, 3])
+    gives("SELECT SUM(CASE WHEN o.amount IN :p THEN 1 ELSE 0 END) FROM Order o WHERE o.amount IN :p OR o.number NOT IN (:p)", [2],
+          p=[7])
+    gives("SELECT p.id FROM Person p WHERE EXISTS (SELECT o FROM p.orders o WHERE CASE WHEN o.number IN :p THEN 1 ELSE 0 END = 1)",
+          [2], p=[13, 12])
+    # One value in parentheses is a value there.
+    gives("SELECT o.number FROM Order o WHERE CASE WHEN o.amount IN (:p) THEN 1 ELSE 0 END = 1", [10], p=5)
+
+
+def refused_collections(ask: Asking) -> None:
+    """A collection stands behind IN alone there too, is typed as its values, and counts where it stands."""
+    ask.filled(store_of(ORDERS))
+    inside = "CASE WHEN o.amount IN :p THEN 1 ELSE 0 END"
+    for value, handed, name in [
+        ("CASE WHEN o.amount IN (:p, 3) THEN 1 ELSE 0 END", [1], "IllegalArgument(parameter)"),
+        ("CASE WHEN o.amount = :p THEN 1 ELSE 0 END", [1], "IllegalArgument(parameter)"),
+        ("CASE WHEN :p IN (1) THEN 1 ELSE 0 END", [1], "IllegalArgument(parameter)"),
+        ("CASE o.amount WHEN :p THEN 1 ELSE 0 END", [1], "IllegalArgument(parameter)"),
+        ("CASE WHEN o.amount IN (1) THEN :p ELSE 0 END", [], "IllegalArgument(parameter)"),
+        (f"{inside} + :p", [1], "IllegalArgument(parameter)"),
+        (inside, ["a"], "IllegalArgument(typing)"),
+        (inside, [1, "a"], "IllegalArgument(typing)"),
+        (inside, 1, "IllegalArgument(syntax)"),
+        (inside, [1] * 4097, "Limit"),
+        (" + ".join([inside] * 17), [1] * 4096, "Limit"),
+        ("CASE WHEN o.amount IN (SELECT p.id FROM Person p WHERE p.id IN :p) THEN 1 ELSE 0 END", [1], "IllegalArgument(syntax)"),
+    ]:
+        for text in (f"SELECT {value} FROM Order o", f"SELECT o.number FROM Order o WHERE {value} = 1"):
+            ask.refuses([text, *given(p=handed), *WIDE], name)
+    most = f"SELECT {' + '.join([inside] * 16)} FROM Order o ORDER BY o.number"
+    ask.answers([most, *given(p=[7] * 4096), *WIDE], lines_of([0, 16, 0, 16]))
 
 
 def nested(count: int) -> str:
@@ -194,4 +283,4 @@ def limits(ask: Asking) -> None:
     asks(ask, f"SELECT CASE o.number {whens} ELSE 0 END FROM Order o ORDER BY o.number", [-10, -11, -12, -13])
 
 
-TRIALS = [paper, each_clause, groups, refused, limits]
+TRIALS = [paper, each_clause, groups, refused, collections, worked_collections, refused_collections, limits]

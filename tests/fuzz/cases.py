@@ -60,8 +60,6 @@ class Cases:
             return self.test(block, 0)
         word = self.random.choices(list(TESTS), TESTS.values())[0]
         kind, negation = self.some([int, int, str, bytes]), self.some([[], [], [], ["NOT"]])
-        takes_lists, self.takes_lists = self.takes_lists, False
         found = self.value_test(word, kind, negation, block, depth)
-        self.takes_lists = takes_lists
         is_escaped = "ESCAPE" in found[-2:-1] and self.chance(0.3)
         return [*found[:-1], *self.quoted(self.some(["", "!!", "%a"]))] if is_escaped else found

@@ -4,10 +4,10 @@
 Over random units (20, or N, each with a random sound set of objects) random SELECTs are asked of
 the model (tests/model/jpql_run.py) and, written as SQL, of sqlite3: joins, null links, conditions
 with unknown, groups, DISTINCT and ORDER BY come so from a second hand, in half of the units in the
-wider language, so by values and beside rows too. Left out are SUBSTRING, LOCATE, UPPER, TRIM of a
-text that is given, LIKE with ESCAPE and what overflows, which SQL has otherwise. With --rows all
-units are in the wider language, and a quarter of the statements have values beside rows. No program
-is run. Exit status 0 where nothing differs.
+wider language, so by values, beside rows and with collections too. Left out are SUBSTRING, LOCATE,
+UPPER, TRIM of a text that is given, LIKE with ESCAPE and what overflows, which SQL has otherwise,
+and what is too deep for sqlite3. With --rows all units are in the wider language, and a quarter of
+the statements have values beside rows. No program is run. Exit status 0 where nothing differs.
 """
 from __future__ import annotations
 
@@ -24,7 +24,7 @@ from model.jpql_types import IllTyped, Typing
 from fuzz.lines import MAPPINGS, Calls, some_mapping, unit_of
 from model.machine import Machine
 from model.queries import Given
-from model.reading import Refused, given
+from model.reading import Refused, handed
 
 if TYPE_CHECKING:
     from model.kinds import Datum, Identity, Key, Objects, Part
@@ -473,13 +473,14 @@ def some_statement(
     calls: FewValues, machine: Machine, unit: Unit, objects: Objects
 ) -> tuple[str, Node, dict[str, Datum]] | None:
     """A well-typed SELECT, and what its parameters mean; None where there is none."""
-    texts = Texts(calls, objects)
+    texts = Texts(calls, objects, machine.is_wide)
     text = texts.text(texts.statement(False))
     try:
         params = Given(
-            machine, {name: given(value) for name, (_, value) in texts.parameters.items()}
+            machine,
+            {name: handed(value, machine.is_wide) for name, (_, value) in texts.parameters.items()},
         )
-        statement = statement_of(text, machine.is_wide)
+        statement = statement_of(text, machine.is_wide, params.lists)
         if statement is None:  # A value that ORDER BY takes in the wider language alone.
             return None
         Typing(unit, params.kinds(), machine.is_wide).statement(statement)
@@ -521,7 +522,12 @@ def compared(
         tuple(tables.numbers.get(value, -1) if isinstance(value, tuple) else value for value in row)
         for row in rows
     ]
-    theirs = [tuple(row) for row in tables.store.execute(text)]
+    try:
+        theirs = [tuple(row) for row in tables.store.execute(text)]
+    except sqlite3.OperationalError as fault:
+        if "parser stack overflow" not in str(fault):
+            raise
+        return None  # It is too deep for sqlite3.
     if not statement.is_grouped and not statement.is_distinct:
         return mine, theirs
     keys = [[tuple(row[place] for place in places) for row in rows] for rows in (mine, theirs)]

@@ -482,7 +482,7 @@ class Reader:
                 (Node("between", value=value, low=low[0], high=high[0]), high[1]) if high else None
             )
         if self.is_word(at, "IN"):
-            return self.in_values(value, at + 1) if is_inside else self.in_test(value, at + 1)
+            return self.in_test(value, at + 1, is_inside)
         if self.is_word(at, "LIKE"):
             return self.like_test(value, self.value(at + 1), is_inside)
         if self.is_word(at, "MEMBER") and not is_inside:
@@ -495,10 +495,10 @@ class Reader:
         sort, said = self.tokens[at] if at < len(self.tokens) else ("end", "")
         return said if sort == "mark" and said in COMPARISONS else None
 
-    def in_test(self, value: Node, at: int) -> tuple[Node, int] | None:
-        """IN of values in parentheses, of the rows of a subquery in the wider language, or of a
-        collection that was handed in for a parameter, with parentheses or without."""
-        rows = self.closed(self.nested, at) if self.is_wide else None
+    def in_test(self, value: Node, at: int, is_inside: bool) -> tuple[Node, int] | None:
+        """IN of values in parentheses, of the rows of a subquery in the wider language outside of a
+        CASE, or of a collection that was handed in for a parameter, with parentheses or without."""
+        rows = self.closed(self.nested, at) if self.is_wide and not is_inside else None
         if rows:
             return self.beside("ANY", "=", value, rows)
         found = self.list_name(at) or self.closed(self.list_name, at)
@@ -506,10 +506,6 @@ class Reader:
             listed, after = found
             values = [Node("parameter", name=(listed, k)) for k in range(self.lists[listed])]
             return Node("in", value=value, values=values, listed=listed), after
-        return self.in_values(value, at)
-
-    def in_values(self, value: Node, at: int) -> tuple[Node, int] | None:
-        """IN of values in parentheses."""
         values = self.closed(lambda at: self.listed(self.value, at), at)
         return (
             (Node("in", value=value, values=values[0], listed=None), values[1]) if values else None

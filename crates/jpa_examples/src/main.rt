@@ -10,7 +10,7 @@
 //! answers.
 //!
 //! The kinds are `store` (src/stores.rt); `mapping`, `members`, `limit` and `functions`
-//! (src/mappings.rt); `query`, `wide`, `repeated` and `typed` (src/statements.rt).
+//! (src/mappings.rt); `query`, `wide`, `repeated`, `repeated-wide` and `typed` (src/statements.rt).
 #![tactic(auto)]
 
 mod given;

@@ -3,7 +3,8 @@ use crate::given::{add_text, number, text_of};
 use crate::shown::show;
 use crate::stop::Stop;
 use crate::writer::Writer;
-use jpa_value::{Argument, Cause};
+use jpa_value::{Argument, Cause, Seq, Text};
+use jpql_grammar::GivenList;
 use jpql_text::{at_most_one_tree, read_query};
 use jpql_tree::{Language, Query};
 use std::alloc::Global;
@@ -29,15 +30,17 @@ fn add_refusal(cause: Cause, out: &mut Writer) -> Result<(), Stop> {
     Ok(())
 }
 
-/// The tree of a text in a language, which has one at most, or the name of its refusal.
+/// The tree of a text in a language where these collections are handed in, which has one at most, or
+/// the name of its refusal.
 fn query_answer(
     alloc: Global,
     language: Language,
+    lists: &[GivenList],
     text: &str,
     out: &mut Writer,
 ) -> Result<(), Stop> {
     at_most_one_tree();
-    match read_query(alloc, language, &[], text) {
+    match read_query(alloc, language, lists, text) {
         Ok(query) => {
             add_query(&query, out);
             drop(query);
@@ -51,22 +54,39 @@ fn query_answer(
 fn line_answer(
     alloc: Global,
     language: Language,
+    lists: &[GivenList],
     line: &str,
     out: &mut Writer,
 ) -> Result<(), Stop> {
     let text = text_of(alloc, line)?;
-    query_answer(alloc, language, text.as_str(), out)
+    query_answer(alloc, language, lists, text.as_str(), out)
 }
 
-/// Adds a line for each text of the language.
+/// The collections on lines, each its parameter's name and how many values it has.
+fn lists(alloc: Global, rows: &str) -> Result<Seq<GivenList>, Stop> {
+    let mut lists = Seq::new(alloc);
+    for line in rows.lines() {
+        let Some((name, count)) = line.split_once(' ') else {
+            return Err(Stop::Form);
+        };
+        let count = number(count)?;
+        let name = Text::of(alloc, name)?;
+        lists.push(GivenList { name, count })?;
+    }
+    Ok(lists)
+}
+
+/// Adds a line for each text of the language, where the collections on the rows are handed in.
 pub(crate) fn query_answers(
     alloc: Global,
     language: Language,
+    rows: &str,
     given: &str,
     out: &mut Writer,
 ) -> Result<(), Stop> {
+    let lists = lists(alloc, rows)?;
     for line in given.lines() {
-        line_answer(alloc, language, line, out)?;
+        line_answer(alloc, language, lists.as_slice(), line, out)?;
     }
     Ok(())
 }
@@ -95,10 +115,11 @@ fn repeated(alloc: Global, count: usize, given: &str) -> Result<String, Stop> {
 /// or why it is refused.
 pub(crate) fn repeated_answer(
     alloc: Global,
+    language: Language,
     rows: &str,
     given: &str,
     out: &mut Writer,
 ) -> Result<(), Stop> {
     let text = repeated(alloc, number(rows)?, given)?;
-    query_answer(alloc, Language::Profile, text.as_str(), out)
+    query_answer(alloc, language, &[], text.as_str(), out)
 }

@@ -1,7 +1,7 @@
-//! Texts of queries: the kinds `query`, `wide` (of the wider language) and `repeated`
-//! (src/queries.rt) answer their trees, and `typed` (src/typed.rt) what the mapping says of them.
-//! Each answers a line for each that is given; in a given line a backslash and two hexadecimal
-//! digits stand for a character (src/given.rt).
+//! Texts of queries: the kinds `query`, `wide` (of the wider language), `repeated` and
+//! `repeated-wide` (src/queries.rt) answer their trees, and `typed` (src/typed.rt) what the mapping
+//! says of them. Each answers a line for each that is given; in a given line a backslash and two
+//! hexadecimal digits stand for a character (src/given.rt).
 use crate::stop::Stop;
 use crate::told::Unit;
 use crate::writer::Writer;
@@ -19,9 +19,10 @@ fn add_answer(
     out: &mut Writer,
 ) -> Result<(), Stop> {
     match kind {
-        "query" => queries::query_answers(alloc, Language::Profile, given, out),
-        "wide" => queries::query_answers(alloc, Language::Wide, given, out),
-        "repeated" => queries::repeated_answer(alloc, rows, given, out),
+        "query" => queries::query_answers(alloc, Language::Profile, rows, given, out),
+        "wide" => queries::query_answers(alloc, Language::Wide, rows, given, out),
+        "repeated" => queries::repeated_answer(alloc, Language::Profile, rows, given, out),
+        "repeated-wide" => queries::repeated_answer(alloc, Language::Wide, rows, given, out),
         "typed" => typed::typed_answers(alloc, unit, rows, given, out),
         _ => Err(Stop::Form),
     }

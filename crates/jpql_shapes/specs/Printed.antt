@@ -1,7 +1,7 @@
 -- What the grammar of a language has, as a line of JSON: its words, functions and limits.
 use Rattle.std.specs.Prelude.{ℕ, List, [], ◌∷◌, ◌++◌, map, codes, Option, Some, None}
 use Rattle.std.specs.List.{flat_map}
-use Rattle.serde_json.specs.Data.{Data, null, number, string, array, object, unsigned, member, no_members}
+use Rattle.serde_json.specs.Data.{Data, Members, null, number, string, array, object, unsigned, member, no_members}
 use Rattle.serde_json.specs.View.{items_of}
 use Rattle.serde_json.specs.Written.{compact_text}
 use Rattle.jpa_value.specs.Limits.{most_query_bytes, most_open_parentheses, most_query_variables}
@@ -17,7 +17,7 @@ use Rattle.jpql_grammar.specs.declared.token.Callee.TheVariants as calls
 use Rattle.jpql_grammar.specs.declared.token.Keyword.{Keyword}
 use Rattle.jpql_grammar.specs.Text.{keywords, spelling}
 use Rattle.jpql_grammar.specs.Values.{callee_of}
-use Rattle.jpql_text.specs.Together.{most_list_values, most_values_together}
+use Rattle.jpql_text.specs.Together.{most_list_values, most_values_together, most_cases}
 use Rattle.jpql_shapes.specs.Shapes.{ArgumentKind, Shape, shape}
 use Rattle.jpql_shapes.specs.Shapes as kind
 
@@ -70,16 +70,21 @@ aggregate_told name _ = []
 abbrev pub all_told : (Text → Callee → List Data) → List Keyword → Data
 all_told told words = array (items_of (flat_map (λ k. told (spelling k) (callee_of k)) words))
 
+-- the limit of words CASE, which the wide language alone has
+abbrev pub cases_told : Language → Members
+cases_told language.Profile = no_members
+cases_told language.Wide = member (codes "cases") (number (unsigned most_cases)) no_members
+
 -- the limits of a query: of its text's bytes, of parentheses that are open at some place, of the
--- variables that it declares, of the values of a collection, and of those that collections become in it
--- together
-abbrev pub limits_data : Data
-limits_data =
+-- variables that it declares, of the values of a collection, of those that collections become in it
+-- together, and of its words CASE
+abbrev pub limits_data : Language → Data
+limits_data l =
     object (member (codes "bytes") (number (unsigned most_query_bytes))
     (member (codes "parentheses") (number (unsigned most_open_parentheses))
     (member (codes "variables") (number (unsigned most_query_variables))
     (member (codes "list") (number (unsigned most_list_values))
-    (member (codes "listsTogether") (number (unsigned most_values_together)) no_members)))))
+    (member (codes "listsTogether") (number (unsigned most_values_together)) (cases_told l))))))
 
 -- what the grammar of a language has (chapter 4.4.1)
 abbrev pub grammar_data : Language → Data
@@ -88,7 +93,7 @@ grammar_data l =
     (member (codes "keywords") (texts_data (map spelling (keywords l)))
     (member (codes "functions") (all_told function_told (keywords l))
     (member (codes "aggregates") (all_told aggregate_told (keywords l))
-    (member (codes "limits") limits_data no_members)))))
+    (member (codes "limits") (limits_data l) no_members)))))
 
 -- the same as compact JSON, and a line feed
 abbrev pub grammar_text : Language → Text

@@ -46,7 +46,8 @@ const WIDE: &str = concat!(
     r#"{"name":"LOWER","arguments":["text"],"least":1,"most":1,"result":"text"},"#,
     r#"{"name":"TRIM","arguments":["text","text"],"least":1,"most":2,"result":"text"}"#,
     r#"],"aggregates":["COUNT","SUM","MIN","MAX"],"#,
-    r#""limits":{"bytes":16384,"parentheses":32,"variables":8,"list":4096,"listsTogether":65536}}"#,
+    r#""limits":{"bytes":16384,"parentheses":32,"variables":8,"list":4096,"#,
+    r#""listsTogether":65536,"cases":64}}"#,
     "\n",
 );
 
@@ -56,8 +57,8 @@ const WIDE: &str = concat!(
 /// repeats, how many there are at `least` and at `most`, null for no bound, and their `result`;
 /// `aggregates` (chapter 4.9.5); and `limits`: the most `bytes` of a text, open `parentheses`,
 /// `variables` that are declared, values of a `list`, a collection that is handed in for a
-/// parameter, and values that `listsTogether` become, counted at each place where one stands behind
-/// IN.
+/// parameter, values that `listsTogether` become, counted at each place where one stands behind IN,
+/// and words CASE (`cases`), which the wide language alone has.
 ///
 /// A kind is `text`, `integer` or `any`: all arguments of `any` are of one sort, which isn't an
 /// entity's.

@@ -14,7 +14,7 @@ from ..queries.rewriting import Edits, is_list
 from .binding import embedded_of
 from .checks import chain, member_of
 from .declared import OWN_ID, Member, Model
-from .types import Money, Plainly, Span, StoredType, Unfit
+from .types import Iso, Money, Plainly, Span, StoredType, Unfit
 from .values import WrongValue, from_stored, to_stored
 
 Typed = Optional[Tuple[StoredType, str]]
@@ -312,12 +312,36 @@ class Reader:
             self._alike([it for it in node.parts if isinstance(it, Node)], scope)
         elif node.sort == "arithmetic":
             self._product(node, scope)
+        elif node.sort == "case":
+            self._case(node, scope)
         elif node.sort == "rows":
             value, block = node.parts
             inner = self._scope(block.sources, scope)
             self._one_type([(value, scope), (block.items[0].value, inner)])
         for part in node.parts:
             self._within(part, scope)
+
+    def _case(self, node: Node, scope: Scope) -> None:
+        """A CASE: a value behind it and those behind its WHENs are of one type, and so is all that
+        it gives."""
+        operand, whens, results = jpql.branches_of(node)
+        if operand is not None:
+            self._alike([operand, *whens], scope)
+        self._alike(results, scope)
+        kinds = [(part, self._type(part, scope)) for part in results]
+        typed = [kind for _, kind in kinds if kind is not None and not kind[0].is_plain]
+        for part, other in kinds if typed else ():
+            known = typed[0]
+            if other is None and _is_computed(part):
+                given = f"{cut(self._text[part.at : part.end])}, which the query computes"
+            elif other is not None and other[0].form != known[0].form:
+                given = f"{other[1]}, {other[0].what}"
+            else:
+                continue
+            raise WrongValue(
+                f"a CASE gives {known[1]}, {known[0].what}, or {given}: what it gave can't be told, "
+                "so let all behind THEN and ELSE be of one type, or select each by itself"
+            )
 
     def _alike(self, parts: Sequence[Node], scope: Scope, known: Typed = None) -> None:
         """Values that are of one type."""
@@ -366,24 +390,41 @@ class Reader:
         ):
             for part in node.parts:
                 self._give(part, kind, scope)
-        elif node.sort in ("call", "arithmetic", "aggregate"):
-            self._check_scale(node, kind, scope)
+        elif node.sort == "case":
+            for part in jpql.branches_of(node).results:
+                self._give(part, kind, scope)
+        elif node.sort in ("call", "arithmetic", "aggregate", "size"):
+            self._check_computed(node, kind, scope)
 
-    def _check_scale(self, node: Node, kind: Typed, scope: Scope) -> None:
-        """Refuses a whole number that a query computes beside what is stored by a scale."""
+    def _check_computed(self, node: Node, kind: Typed, scope: Scope) -> None:
+        """Refuses what a query computes beside what is stored in a form of its own: a whole number
+        beside a scale, and a text beside a date or a time, but for a part of one."""
         assert kind is not None
-        if isinstance(kind[0], _SCALED) and self._type(node, scope) is None:
-            computed = cut(self._text[node.at : node.end])
-            raise WrongValue(
-                f"{kind[1]} is {kind[0].what}, and {computed} is a whole number that the query "
-                "computes: compute it before, and hand it in as a parameter"
-            )
+        if not isinstance(kind[0], (*_SCALED, Iso)) or self._type(node, scope) is not None:
+            return
+        if node.said == "SUBSTRING" and self._is_iso(node.parts[0], scope):
+            return
+        computed = cut(self._text[node.at : node.end])
+        what = "a whole number" if _is_whole(node) else "a text"
+        raise WrongValue(
+            f"{kind[1]} is {kind[0].what}, and {computed} is {what} that the query computes: "
+            "compute it before, and hand it in as a parameter"
+        )
+
+    def _is_iso(self, node: Node, scope: Scope) -> bool:
+        kind = self._type(node, scope)
+        return kind is not None and isinstance(kind[0], Iso)
 
     def _literal(self, node: Node, value: Any, kind: Typed) -> None:
         assert kind is not None
         if kind[0].is_plain or node.at in self._done:
             return
         self._done.add(node.at)
+        if isinstance(kind[0], Span) and value != 0:
+            raise WrongValue(
+                f"{kind[1]} is {kind[0].what}, which no literal of a query is: hand it in as a "
+                f"parameter, as timedelta(hours=3), in the place of {shown(value)}"
+            )
         try:
             stored = kind[0].to_stored(kind[0].from_literal(value))
         except Unfit as why:
@@ -411,6 +452,8 @@ class Reader:
             return kind if keeps else None
         if node.sort == "call" and node.said in _OF_ONE_TYPE:
             return self._first(node.parts, scope)
+        if node.sort == "case":
+            return self._first(jpql.branches_of(node).results, scope)
         return self._first(node.parts, scope) if node.sort == "arithmetic" else None
 
     def _first(self, parts: Sequence[Any], scope: Scope) -> Typed:
@@ -445,6 +488,19 @@ def _is_needed(whole: Member, leaf: Member) -> bool:
             is_there = part.part is not None and not part.part.is_optional
             return is_there and (leaf is part or _is_needed(part, leaf))
     return False
+
+
+def _is_computed(node: Node) -> bool:
+    """Whether a value of no attribute's type is one that the query computes."""
+    if node.sort == "call" and node.said in _OF_ONE_TYPE:
+        return any(map(_is_computed, node.parts))
+    return node.sort in ("call", "arithmetic", "aggregate", "size")
+
+
+def _is_whole(node: Node) -> bool:
+    """Whether what a query computes is a whole number, and no text."""
+    is_number = node.sort != "call" or node.said in ("LENGTH", "LOCATE", "ABS", "MOD")
+    return is_number and not (node.sort == "aggregate" and node.said in ("MIN", "MAX"))
 
 
 def _differ(one: StoredType, other: StoredType) -> bool:

@@ -126,6 +126,11 @@ class Keeper:
         self._read: Dict[Entity, None] = {}
         self._old: Dict[Entity, None] = {}
 
+    def go_over(self) -> None:
+        """The manager, which has no object, is one of another run."""
+        self._run = self._manager._run
+        self._read, self._old = {}, {}
+
     def over(self) -> None:
         """The transaction is over."""
         self._taken, self._left, self._dropped = {}, {}, {}

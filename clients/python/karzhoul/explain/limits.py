@@ -89,10 +89,12 @@ def _is_over(text: str) -> bool:
         return True
     if jpql.nesting(text) > jpql.MOST_NESTED:
         return True
-    for language in jpql.LANGUAGES:
+    for name, language in jpql.LANGUAGES.items():
         with suppress(jpql.Unreadable):
-            statement = jpql.statement_of(text, language)
-            return len(jpql.variables_of(statement)) > jpql.MOST_VARIABLES
+            cases = jpql.cases_in(jpql.tokens_of(text)) if language.has_cases else 0
+            statement = jpql.statement_of(text, name)
+            is_over = len(jpql.variables_of(statement)) > jpql.MOST_VARIABLES
+            return is_over or cases > jpql.MOST_CASES
     return False
 
 

@@ -67,6 +67,10 @@ def check(
     if jpql.nesting(text) > jpql.MOST_NESTED:
         return teller.limit(f"more than {jpql.MOST_NESTED} parentheses stand within one another")
     try:
+        cases = jpql.cases_in(jpql.tokens_of(text)) if jpql.LANGUAGES[language].has_cases else 0
+        if cases > jpql.MOST_CASES:
+            most = f"{jpql.MOST_CASES} are the most: hand in what some give, or ask in several queries"
+            return teller.limit(f"the text has {cases} words CASE, and {most}")
         statement = jpql.statement_of(text, language)
     except jpql.Unreadable as fault:
         token, message = syntax_told(fault, _readable_tokens(text, fault.token), language)
@@ -464,7 +468,9 @@ class _Typing:
 
     def _compared(self, node: Node, scope: _Scope) -> None:
         """A comparison, BETWEEN, IN or IS NULL."""
-        self._ordered(node, self._one_kind(node.parts, scope))
+        takes_list = node.sort == "in" and len(node.parts) == 2
+        takes_list = takes_list and self._teller.text[node.parts[1].at] != "("
+        self._ordered(node, self._one_kind(node.parts, scope, takes_list=takes_list))
 
     def _ordered(self, node: Node, kind: Optional[Kind]) -> None:
         is_ordered = node.sort == "between" or node.said in ("<", "<=", ">", ">=")
@@ -488,22 +494,27 @@ class _Typing:
         else:
             self._ordered(node, kind or other)
 
-    def _one_kind(self, parts: Sequence[Node], scope: _Scope) -> Optional[Kind]:
-        """The one kind of what is compared."""
-        kinds = [(part, kind) for part in parts for kind in self._of_each(part, scope)]
+    def _one_kind(
+        self, parts: Sequence[Node], scope: _Scope, what: str = "", takes_list: bool = False
+    ) -> Optional[Kind]:
+        """The one kind of what is compared, or of what stands at such places; with whether the last
+        part may be a list."""
+        kinds = [(part, self._value(part, scope)) for part in parts]
+        if takes_list:
+            kinds += [(parts[-1], kind) for kind in self._of_list(parts[-1])]
         known = [(part, kind) for part, kind in kinds if kind is not None]
         for part, kind in known[1:]:
             first, wanted = known[0]
             if kind != wanted:
                 words = f"{self._text(first)} is {wanted}, and {self._text(part)} is {kind}"
-                self._wrong(part, words)
+                self._wrong(part, f"{what}: {words}" if what else words)
                 return None
         return known[0][1] if known else None
 
-    def _of_each(self, node: Node, scope: _Scope) -> Sequence[Optional[Kind]]:
-        """The kinds of the values that a node stands for, which are several of a list."""
+    def _of_list(self, node: Node) -> Sequence[Optional[Kind]]:
+        """The kinds of the values of a list that a parameter is."""
         listed = self._kinds.get(node.said) if node.sort == "parameter" else None
-        return listed if isinstance(listed, list) else [self._value(node, scope)]
+        return listed if isinstance(listed, list) else []
 
     def _type(self, node: Node, scope: _Scope) -> None:
         variable, *names = node.words
@@ -547,7 +558,27 @@ class _Typing:
         if node.sort in ("arithmetic", "signed"):
             self._of(INT, node.parts, scope, "arithmetic")
             return INT
+        if node.sort == "case":
+            return self._case(node, scope)
         return self._aggregate(node, scope) if node.sort == "aggregate" else self._call(node, scope)
+
+    def _case(self, node: Node, scope: _Scope) -> Optional[Kind]:
+        """The one kind of what a CASE gives."""
+        operand, whens, results = jpql.branches_of(node)
+        if operand is None:
+            for when in whens:
+                self._condition(when, scope)
+        else:
+            what = "behind CASE and its WHENs stand values of one kind"
+            self._one_kind([operand, *whens], scope, what)
+        what = "behind THEN and ELSE stand values of one kind"
+        kind = self._one_kind(results, scope, what)
+        if kind is not None and kind.is_entity:
+            first = next((it for it in results if it.sort == "path"), results[0])
+            way = f"give a member of each, as {self._text(first)}.id"
+            self._wrong(first, f"CASE gives values, and no objects: {way}")
+            return None
+        return kind
 
     def _aggregate(self, node: Node, scope: _Scope) -> Optional[Kind]:
         if not scope.takes_aggregates:

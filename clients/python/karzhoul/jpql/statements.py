@@ -7,12 +7,14 @@ what may stand there.
 from __future__ import annotations
 
 import re
+import sys
+import threading
 from contextlib import suppress
 from dataclasses import dataclass, field, replace
 from functools import lru_cache
 from typing import (
-    Any, Callable, Dict, FrozenSet, List, Literal, Mapping, NamedTuple, NoReturn, Optional, Tuple,
-    TypeVar, Union,
+    Any, Callable, Dict, FrozenSet, List, Literal, Mapping, NamedTuple, NoReturn, Optional,
+    Sequence, Tuple, TypeVar, Union,
 )
 
 T = TypeVar("T")
@@ -20,6 +22,7 @@ T = TypeVar("T")
 MOST_BYTES = 16_384
 MOST_NESTED = 32
 MOST_VARIABLES = 8
+MOST_CASES = 64
 MOST_LISTED = 4_096
 MOST_LISTED_TOGETHER = 65_536
 GREATEST = 2**63 - 1
@@ -31,8 +34,8 @@ class Language:
     """A language of queries: its keywords, how many values each function takes, from and to,
     whether a list may be handed in for a parameter that stands behind IN, whether ORDER BY takes
     values that are neither paths nor names of items, whether values are compared with the rows of
-    nested SELECTs, and whether one variable's name may stand in several of these of which none is
-    around another."""
+    nested SELECTs, whether one variable's name may stand in several of these of which none is
+    around another, and whether CASE is a value."""
 
     keywords: FrozenSet[str]
     functions: Mapping[str, Tuple[int, int]]
@@ -40,6 +43,7 @@ class Language:
     orders_by_values: bool
     compares_rows: bool
     names_again: bool
+    has_cases: bool
 
 
 _PROFILE = Language(
@@ -62,6 +66,7 @@ _PROFILE = Language(
     orders_by_values=False,
     compares_rows=False,
     names_again=False,
+    has_cases=False,
 )
 _WIDE = Language(
     _PROFILE.keywords
@@ -71,6 +76,7 @@ _WIDE = Language(
     orders_by_values=True,
     compares_rows=True,
     names_again=True,
+    has_cases=True,
 )
 LanguageName = Literal["profile", "wide"]
 # As `jpa --grammar` tells them.
@@ -79,6 +85,8 @@ _STATEMENTS = ("SELECT", "UPDATE", "DELETE")
 COMPARISONS = ("=", "<>", "<", "<=", ">", ">=")
 QUANTIFIERS = ("ALL", "ANY", "SOME")
 
+# How many calls deeper a text may be read, by one thread at a time.
+_DEEPER, _deepening = 3_000, threading.Lock()
 _BLANKS = re.compile(r"[ \t\r\n]*")
 _TOKEN = re.compile(
     r"(?P<word>[A-Za-z_][A-Za-z0-9_]*)|(?P<integer>[0-9]+)|(?P<text>'(?:[^']|'')*')"
@@ -117,7 +125,9 @@ class Node:
       value is compared with, on either side;
     - `empty`, `size`: the path; `type`: `words` are the variable and the entities;
     - `literal` (`value`), `parameter` (said: its name), `path` (`words`), `arithmetic`, `signed`,
-      `call` and `aggregate` (said: the function, in capitals).
+      `call` and `aggregate` (said: the function, in capitals);
+    - `case`: `parts` are what stands behind CASE, each WHEN, THEN and ELSE, as `branches_of` has it
+      (said: `value` where a value stands behind CASE).
 
     It stands from the character `at` to before the character `end`.
     """
@@ -129,6 +139,24 @@ class Node:
     parts: Tuple[Any, ...] = ()
     words: Tuple[Token, ...] = ()
     value: Union[int, str] = 0
+
+
+class Branches(NamedTuple):
+    """The parts of a CASE: the value behind it, where one is, what stands behind each WHEN, tests
+    or what that value may equal, and what it gives, behind each THEN and behind ELSE."""
+
+    operand: Optional[Node]
+    whens: Sequence[Node]
+    results: Sequence[Node]
+
+
+def branches_of(case: Node) -> Branches:
+    """The parts of a CASE."""
+    count = 1 if case.said else 0
+    rest = case.parts[count:]
+    return Branches(
+        case.parts[0] if count else None, rest[:-1:2], (*rest[1::2], rest[-1])
+    )
 
 
 @dataclass
@@ -264,6 +292,11 @@ def _why_odd(text: str, at: int) -> str:
     return "a parameter is :name or ?1" if text[at] in ":?" else ""
 
 
+def cases_in(tokens: List[Token]) -> int:
+    """How many words CASE stand in a text, of whatever use."""
+    return sum(token.is_word("CASE") for token in tokens)
+
+
 def nesting(text: str) -> int:
     """The most parentheses that are open at a place outside of texts."""
     depth = most = 0
@@ -286,7 +319,22 @@ class _No(Exception):
 
 def statement_of(text: str, language: LanguageName = "profile") -> Statement:
     """The statement that a text is in a language; an `Unreadable` where it is none."""
-    return _Reader(tokens_of(text), LANGUAGES[language]).statement()
+    return _read_in(tokens_of(text), LANGUAGES[language])
+
+
+def _read_in(tokens: List[Token], language: Language) -> Statement:
+    """The statement that tokens are. Many CASEs within one another are deeper than the interpreter
+    goes by itself."""
+    try:
+        return _Reader(tokens, language).statement()
+    except RecursionError:
+        with _deepening:
+            limit = sys.getrecursionlimit()
+            sys.setrecursionlimit(limit + _DEEPER)
+            try:
+                return _Reader(tokens, language).statement()
+            finally:
+                sys.setrecursionlimit(limit)
 
 
 @lru_cache(maxsize=256)
@@ -295,7 +343,7 @@ def read(text: str) -> Optional[Statement]:
     What both languages read is one statement in both."""
     for language in (replace(_PROFILE, takes_lists=True), _WIDE):
         with suppress(Unreadable, RecursionError):
-            return _Reader(tokens_of(text), language).statement()
+            return _read_in(tokens_of(text), language)
     return None
 
 
@@ -597,14 +645,16 @@ class _Reader:
         self._must("EMPTY")
         return Node("empty", path.at, self._end(), parts=(path,))
 
-    def _value_test(self) -> Node:
+    def _value_test(self, is_inside: bool = False) -> Node:
+        """A test of a value; inside a CASE, one of values alone."""
         value = self._value()
         self._note("a comparison")
         if self._here.sort == "mark" and self._here.said in COMPARISONS:
             operator = self._next().said
-            if self._begins_rows():
+            if self._begins_rows() and not is_inside:
                 return self._beside(value, operator, self._closed(self._scalar))
-            if self.language.compares_rows and any(map(self._may, QUANTIFIERS)):
+            takes_rows = self.language.compares_rows and not is_inside
+            if takes_rows and any(map(self._may, QUANTIFIERS)):
                 word = self.tokens[self.at - 1]
                 return self._beside(value, operator, self._closed(self._nested), word)
             return self._of_values("compare", value, self._value(), said=operator)
@@ -615,16 +665,16 @@ class _Reader:
             return self._of_values("null", value)
         if self._here.is_word("NOT"):
             self.at += 1
-        return self._worded_test(value)
+        return self._worded_test(value, is_inside)
 
-    def _worded_test(self, value: Node) -> Node:
+    def _worded_test(self, value: Node, is_inside: bool) -> Node:
         """A test of a value by BETWEEN, IN, LIKE or MEMBER."""
         if self._may("BETWEEN"):
             low = self._value()
             self._must("AND")
             return self._of_values("between", value, low, self._value())
         if self._may("IN"):
-            if self._begins_rows():
+            if self._begins_rows() and not is_inside:
                 word = self.tokens[self.at - 1]
                 return self._beside(value, "=", self._closed(self._nested), word)
             if self.language.takes_lists and self._here.sort == "parameter":
@@ -634,8 +684,12 @@ class _Reader:
             pattern, escape = self._value(), ""
             if self._may("ESCAPE"):
                 escape = self._next().said if self._here.sort == "text" else self._no("a text")
-                return self._of_values("like", value, pattern, said=f"'{escape}'")
+                # Inside a CASE one that isn't one character escapes nothing.
+                said = "" if is_inside and len(escape) != 1 else f"'{escape}'"
+                return self._of_values("like", value, pattern, said=said)
             return self._of_values("like", value, pattern)
+        if is_inside:
+            raise _No
         self._must("MEMBER")
         self._may("OF")
         return self._of_values("member", value, self._path())
@@ -696,9 +750,53 @@ class _Reader:
             return replace(value, at=token.at, end=self._end())
         if token.sort != "word":
             self._no("a value")
+        if self.language.has_cases and token.is_word("CASE"):
+            return self._case()
         call = token.said.upper()
         is_call = call in (*self.language.functions, *AGGREGATES, "SIZE")
         return self._call(call) if is_call else self._path()
+
+    # -- CASE
+
+    def _case(self) -> Node:
+        start, parts = self._next().at, []
+        if not self._here.is_word("WHEN"):
+            self._note("WHEN")
+            parts.append(self._value())
+        said = "value" if parts else ""
+        self._must("WHEN")
+        while True:
+            parts.append(self._value() if said else self._when())
+            self._must("THEN")
+            parts.append(self._value())
+            if not self._may("WHEN"):
+                break
+        self._must("ELSE")
+        parts.append(self._value())
+        self._must("END")
+        return Node("case", start, self._end(), said, tuple(parts))
+
+    def _when(self) -> Node:
+        """What stands behind WHEN: tests of values, with AND, OR, NOT and parentheses."""
+        return self._once("when", lambda: self._joined("OR", "or", self._when_all))
+
+    def _when_all(self) -> Node:
+        return self._joined("AND", "and", self._when_negation)
+
+    def _when_negation(self) -> Node:
+        start = self._here.at
+        if not self._may("NOT"):
+            return self._when_test()
+        return Node("not", start, parts=(self._when_test(),), end=self._end())
+
+    def _when_test(self) -> Node:
+        return self._once("when test", self._any_when_test)
+
+    def _any_when_test(self) -> Node:
+        closed = None
+        if self._here.is_mark("("):
+            closed = self._try(lambda: self._closed(self._when))
+        return closed or self._value_test(is_inside=True)
 
     def _path(self) -> Node:
         words = [self._name("a path")]

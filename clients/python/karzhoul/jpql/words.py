@@ -6,10 +6,11 @@ from __future__ import annotations
 import difflib
 from typing import Dict, List, Optional, Sequence, Tuple
 
+from .cases import WORDS, case_told
 from .nested import nested_told
 from .statements import AGGREGATES, LANGUAGES, QUANTIFIERS, LanguageName, Token, Unreadable
 
-_CASE = "CASE isn't served: COALESCE and NULLIF are"
+_CASE = "CASE is of the wider language, language='wide'; COALESCE and NULLIF are served here"
 _NOW = "the program has no clock: hand the date or the time in as a parameter"
 _DATES = "parts of dates and times aren't served: compare whole ones, handed in as parameters"
 _FRACTIONS = (
@@ -110,7 +111,8 @@ def unserved(word: str, language: LanguageName) -> Optional[str]:
     no such word."""
     served = LANGUAGES[language].functions
     is_rows = word.upper() in QUANTIFIERS and LANGUAGES[language].compares_rows
-    return None if is_rows or word.upper() in served else UNSERVED.get(word.upper())
+    is_case = word.upper() in WORDS and LANGUAGES[language].has_cases
+    return None if is_rows or is_case or word.upper() in served else UNSERVED.get(word.upper())
 
 
 def syntax_told(
@@ -124,7 +126,8 @@ def syntax_told(
         return token, _MARKS.get(token.said, f"{spelled(token)} stands in no query")
     earlier = [each for each in tokens if each.end <= token.at][-2:]
     return (
-        nested_told(fault, tokens, language)
+        case_told(fault, tokens, language)
+        or nested_told(fault, tokens, language)
         or _unserved([token], language)
         or _misspelt(token, 0.6, fault.expected, language)
         or _unserved(earlier[::-1], language)

@@ -3,8 +3,9 @@
 from __future__ import annotations
 
 import warnings
-from typing import TYPE_CHECKING, Any, Dict, FrozenSet, Iterator, List, Mapping, NamedTuple
-from typing import Optional, Tuple, Type, Union
+from functools import partial
+from typing import TYPE_CHECKING, Any, Callable, Dict, FrozenSet, Iterator, List, Mapping
+from typing import NamedTuple, Optional, Tuple, Type, TypeVar, Union
 
 from ..jpql.check import check
 from ..mapping.unit import entities_of
@@ -22,6 +23,7 @@ if TYPE_CHECKING:
     from ..session.pending import Due, Pending
     from ..session.runs import Run
 
+T = TypeVar("T")
 # By name, or by number for ?1.
 Params = Optional[Union[Mapping[str, Any], Mapping[int, Any]]]
 Limit = Optional[int]
@@ -58,6 +60,10 @@ class Queries:
 
     def _flushes_before(self) -> bool:
         """Whether a query flushes first."""
+        raise NotImplementedError
+
+    def _done(self, call: Callable[[], T], loads: bool = True) -> T:
+        """What a call answers, which may be made again where another run began meanwhile."""
         raise NotImplementedError
 
     def query(
@@ -162,9 +168,12 @@ class Queries:
             told = f"pages have numbers and sizes from 1 on, and not {number} and {size}"
             raise ValueError(told)
         asked = self._asked(text, result_class, params, end_program_after, named)
-        lines, counted = [asked.line("query", (number - 1) * size, size + 1)], counting(text)
-        if total:
-            lines.append(asked.line("query", text=counted or text))
+        counted = counting(text)
+
+        def lines() -> List[bytes]:
+            page = [asked.line("query", (number - 1) * size, size + 1)]
+            return [*page, asked.line("query", text=counted or text)] if total else page
+
         found, *more = asked.answers(lines)
         count: Optional[int] = None
         if total:
@@ -219,7 +228,7 @@ class Queries:
         asked = self._asked(text, None, params, end_program_after, named)
         if self.keeper is not None:
             self.keeper.check_statement(asked.text)
-        return int(asked.answers([asked.line("executeUpdate")], is_one=True)[0])
+        return int(asked.answers(lambda: [asked.line("executeUpdate")], is_one=True)[0])
 
     def _asked(
         self,
@@ -315,10 +324,12 @@ class _Asked(NamedTuple):
                 raise
             raise TypeError(f"{fault}; and the query is wrong: {wrong[0]}") from None
 
-    def answers(self, lines: List[bytes], is_one: bool = False, text: str = "") -> List[Any]:
-        """The answers to its lines: the first has rows, or one, with an item of its class. With the
-        text, where it is another one."""
-        answers = self._asked(lines)
+    def answers(
+        self, lines: Callable[[], List[bytes]], is_one: bool = False, text: str = ""
+    ) -> List[Any]:
+        """The answers to its lines as they are spelled for the manager's run: the first has rows,
+        or one, with an item of its class. With the text, where it is another one."""
+        answers = self.manager._done(lambda: self._asked(lines()))
         conversions = self.manager.factory.conversions
         if conversions is not None:
             rows = conversions.values(text or self.text, answers[:1] if is_one else answers[0])
@@ -343,13 +354,13 @@ class _Asked(NamedTuple):
 
     def one(self, first: Limit, most: Limit) -> Any:
         """Its one row."""
-        row = self.answers([self.line("querySingle", first, most)], is_one=True)[0]
+        row = self.answers(lambda: [self.line("querySingle", first, most)], is_one=True)[0]
         return as_row(row, Names(self.text))
 
     def rows(self, first: Limit, most: Limit) -> Rows:
         """Its rows, from the first on and at most so many."""
         names = Names(self.text)
-        found = self.answers([self.line("query", first, most)])[0]
+        found = self.answers(lambda: [self.line("query", first, most)])[0]
         return Rows(as_rows(found, names), names)
 
 
@@ -364,6 +375,10 @@ def _listed(run: Run, values: Mapping[str, Any]) -> Iterator[str]:
             raise misfit(fault, f"the parameter {name!r}", value) from None
 
 
+def _part_lines(asked: _Asked, most: int, text: str, more: Mapping[str, Any]) -> List[bytes]:
+    return [asked.line("query", None, most, text, more)]
+
+
 def _iterated(asked: _Asked, query: ByKey, size: int) -> Iterator[Any]:
     """The rows of a query, asked for by the key."""
     names, width, most = Names(asked.text), len(query.key), size
@@ -371,7 +386,7 @@ def _iterated(asked: _Asked, query: ByKey, size: int) -> Iterator[Any]:
     is_end = False
     while not is_end:
         text, more = query.part(last)
-        found = asked.answers([asked.line("query", None, most, text, more)], text=text)[0]
+        found = asked.answers(partial(_part_lines, asked, most, text, more), text=text)[0]
         is_end = len(found) < most
         if query.has_groups and not is_end:
             # The rows of an object come together, and the last one's may go on.

@@ -45,14 +45,32 @@ class Managers:
         factory = self._factory
         if factory._left:
             self._close_left()
+        is_begun = place.is_block and factory.program.begins
+        self._ask(place, is_begun)
+        assert place.run is not None
+        return EntityManager(place.run, place.number, place, is_begun)
+
+    def go_on(self, manager: EntityManager) -> None:
+        """Creates a manager of a run that is over again, in that which is on. Its place, which was
+        given back as that began, is waited for."""
+        factory, place = self._factory, manager._place
+        if factory._places is not None:
+            factory._places.keep(place)
+        if place.run is not factory._run:  # Else an interrupt came behind this.
+            self._ask(place, False)
+        assert place.run is not None
+        manager._go_over(place.run, place.number)
+
+    def _ask(self, place: Place, is_begun: bool) -> None:
+        """Has the program create a manager at a place, in the run that is on."""
+        factory = self._factory
         while True:
             run = factory._run
             try:
-                is_begun = place.is_block and factory.program.begins
                 number = factory.ask_manager(run, is_begun)
                 place.run, place.number = run, number  # First, so that it isn't left open.
                 run.managers = number
-                return EntityManager(run, number, place, is_begun)
+                return
             except Restarted:  # While it waited.
                 if run is factory._run:
                     raise

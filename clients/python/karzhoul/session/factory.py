@@ -122,10 +122,11 @@ class EntityManagerFactory(ObjectCalls, AbstractContextManager["EntityManagerFac
         objects (`Limit`). The program does so where it can (`restart` of docs/CALLS.md); where it
         has ended, and where a transaction is open, it is started again over its file.
 
-        What isn't committed is gone. Objects and managers of before are `Restarted` where they are
-        used, also by a call of another thread that waits meanwhile; classes and callbacks stay. In
-        a pipeline the calls that were kept are sent first, and their first refusal is raised: then
-        nothing else was done.
+        What isn't committed is gone. Objects of before are `Restarted` where they are used, and so
+        are managers that had some or an open transaction, also by a call of another thread that
+        waits meanwhile. Other managers go on, and classes and callbacks stay. In a pipeline the
+        calls that were kept are sent first, and their first refusal is raised: then nothing else
+        was done.
         """
         with self._lock:
             self._refuse_within()

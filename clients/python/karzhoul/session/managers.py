@@ -5,8 +5,8 @@ from __future__ import annotations
 import warnings
 from contextlib import AbstractContextManager
 from typing import (
-    TYPE_CHECKING, Any, Dict, FrozenSet, Iterable, Iterator, List, Optional, Tuple, Type, Union,
-    overload,
+    TYPE_CHECKING, Any, Callable, Dict, FrozenSet, Iterable, Iterator, List, Optional, Tuple, Type,
+    TypeVar, Union, overload,
 )
 from weakref import ref
 
@@ -15,7 +15,9 @@ from ..objects.entities import E, EmbeddedId, Entity
 from ..objects.fetching import fetched
 from ..objects.misfits import misfit
 from ..queries.queries import Queries
-from ..refusals import KarzhoulError, NoSuchManager, ProgramEnded, Refused, Restarted
+from ..refusals import (
+    EntityNotFound, KarzhoulError, NoResult, NoSuchManager, ProgramEnded, Refused, Restarted,
+)
 from ..wire.lines import (
     GREATEST, LEAST, FlushModeType, LifecycleEvent, LockModeType, line_of, spelled, text_spelled,
 )
@@ -28,6 +30,7 @@ if TYPE_CHECKING:
     from .places import Place
     from .runs import Run
 
+T = TypeVar("T")
 _LOST = (
     "a manager is closed with what was done outside of a transaction, and no commit came since: "
     "that is not stored: {}"
@@ -68,6 +71,9 @@ class EntityManager(Queries, AbstractContextManager["EntityManager"]):
         self._level = OWN_BLOCK
         # Whether it is closed as its transaction ends.
         self._is_settled = False
+        # None where no object is managed for certain; else it is of the last call after which one
+        # may be.
+        self._holding: Optional[object] = None
         run.opened[number] = ref(self)
 
     @begin_of_block
@@ -114,6 +120,67 @@ class EntityManager(Queries, AbstractContextManager["EntityManager"]):
             raise ValueError(f"there are {most} attempts, and one is the least")
         return attempts(self._transaction, most)
 
+    # ---- another run
+
+    @property
+    def is_free(self) -> bool:
+        """Whether it has neither an object nor an open transaction, so that it goes on in the next
+        run of the program."""
+        return self._holding is None and not self._transaction.is_active
+
+    def _goes_on(self, run: Run) -> bool:
+        """Whether a call that was spelled for a run is to be spelled again, since another one is on
+        by now: there it is created again, where it is free."""
+        if run is self.factory._run or not self.is_free:
+            return False
+        if self._run is not self.factory._run:
+            self.factory._managers.go_on(self)
+        return True
+
+    def _go_over(self, run: Run, number: int) -> None:
+        """It is the manager of this number in another run."""
+        self._run.opened.pop(self.number, None)
+        self.number, self._em = number, str(number)
+        self._bytes = self._em.encode()
+        self._run = run
+        run.opened[number] = ref(self)
+        self._concern = self._new_concern()
+        if self.keeper is not None:
+            self.keeper.go_over()
+        if self._mode is not FlushModeType.AUTO:
+            self._tell_mode(self._mode)
+
+    def _done(self, call: Callable[[], T], loads: bool = True) -> T:
+        """What a call answers, which spells its lines: again where another run began meanwhile, and
+        the manager is free. With whether it may load objects."""
+        while True:
+            run, held, holding = self._run, self._holding, object()
+            made = run.made
+            if loads:
+                self._holding = holding
+            try:
+                answer = call()
+            except Restarted:
+                if run is not self.factory._run and self._holding is holding:
+                    self._holding = held  # It wasn't sent, or is gone with its run.
+                if not self._goes_on(run):
+                    raise
+                continue
+            except (EntityNotFound, NoResult):
+                self._has_found_none(held, holding, run, made)
+                raise
+            self._has_found_none(held, holding, run, made)
+            return answer
+
+    def _has_found_none(
+        self, held: Optional[object], holding: object, run: Run, made: int
+    ) -> None:
+        """It still holds nothing where its call made no object of the run, and where no callback
+        had it do more meanwhile."""
+        is_over = run is not self.factory._run
+        if held is None and self._holding is holding and run.made == made and not is_over:
+            self._holding = None
+
     # ---- objects by key
 
     @overload
@@ -128,9 +195,14 @@ class EntityManager(Queries, AbstractContextManager["EntityManager"]):
         if known is not None and type(key) is int and LEAST <= key <= GREATEST:
             # As below, in less time.
             name, kind = known
-            line = b'{"call":"find","em":%b,"entity":%b,"key":[%d]}' % (self._bytes, name, key)
-            return self.factory.ask_found(self._run, line, kind, self._bytes)
+            if self._holding is None:
+                return self._done(lambda: self._found(key, name, kind))
+            return self._found(key, name, kind)
         return self._by_key("find", entity, (key,))[0]
+
+    def _found(self, key: int, name: bytes, kind: Type[E]) -> Optional[E]:
+        line = b'{"call":"find","em":%b,"entity":%b,"key":[%d]}' % (self._bytes, name, key)
+        return self.factory.ask_found(self._run, line, kind, self._bytes)
 
     @overload
     def find_many(self, entity: str, keys: Iterable[Any]) -> List[Optional[Entity]]: ...
@@ -156,11 +228,14 @@ class EntityManager(Queries, AbstractContextManager["EntityManager"]):
         self, call: str, entity: Union[str, Type[Entity]], keys: Iterable[Any]
     ) -> List[Any]:
         name = entity if isinstance(entity, str) else entity.__name__
-        front = f'{{"call":"{call}","em":{self._em},"entity":{text_spelled(name)},"key":'
-        keys = list(keys)
+        given = list(keys)
         binding = self.factory.binding
         if binding is not None:
-            keys = binding.keys(name, keys)
+            given = binding.keys(name, given)
+        return self._done(lambda: self._found_many(call, name, given))
+
+    def _found_many(self, call: str, name: str, keys: List[Any]) -> List[Any]:
+        front = f'{{"call":"{call}","em":{self._em},"entity":{text_spelled(name)},"key":'
         try:
             lines = [f"{front}{self._key(key)}}}".encode() for key in keys]
         except (TypeError, OverflowError, UnicodeEncodeError) as fault:
@@ -183,9 +258,14 @@ class EntityManager(Queries, AbstractContextManager["EntityManager"]):
     def persist_all(self, objects: Iterable[Entity]) -> None:
         """Makes new objects managed, as `persist` each of them, sent together. The first refusal is
         raised, with the others as its `later`."""
+        told = list(objects)
+        self._done(lambda: self._tell_to_persist(told))
+
+    def _tell_to_persist(self, objects: List[Entity]) -> None:
         front, number = f'{{"call":"persist","em":{self._em},"object":', self._run.number
         numbers = [number(entity) for entity in objects]
         self.factory.tell_all(self._run, [f"{front}{each}}}".encode() for each in numbers])
+        self._holding = self
         self._concern.persisted += map(int, numbers)
 
     def remove(self, entity: Entity) -> None:
@@ -204,10 +284,19 @@ class EntityManager(Queries, AbstractContextManager["EntityManager"]):
         self._run.refused.get(self.number, {}).pop(entity._karzhoul_number, None)
 
     def _tell_on(self, call: str, entity: Entity, more: str = "") -> None:
-        run, number = self._run, self._run.number(entity)
-        self.factory.tell(
-            run, f'{{"call":"{call}","em":{self._em},"object":{number}{more}}}'.encode()
-        )
+        while True:
+            run, held = self._run, self._holding
+            self._holding = self
+            try:
+                number = run.number(entity)
+                line = f'{{"call":"{call}","em":{self._em},"object":{number}{more}}}'
+                self.factory.tell(run, line.encode())
+                return
+            except Restarted:
+                if run is not self.factory._run:
+                    self._holding = held
+                if not self._goes_on(run):
+                    raise
 
     def fetch(self, objects: Iterable[Optional[Entity]], path: str) -> List[Any]:
         """What a relation leads to from each of many objects, asked without waiting for each: of a
@@ -224,13 +313,19 @@ class EntityManager(Queries, AbstractContextManager["EntityManager"]):
         where there is none, and is the answer; the object itself stays as it is. What the object
         leads to goes along where MERGE cascades. `OptimisticLock` where its version isn't the
         one that stands."""
+        return self._done(lambda: self._merged(entity))
+
+    def _merged(self, entity: E) -> E:
         self._concern.has_merged = True
         image: E = self._ask("merge", object=self._run.number(entity))
+        self._holding = self
         return image
 
     def contains(self, entity: Entity) -> bool:
         """Whether an object is managed here."""
-        return bool(self._ask("contains", object=self._run.number(entity)))
+        return self._done(
+            lambda: bool(self._ask("contains", object=self._run.number(entity))), loads=False
+        )
 
     def lock(self, entity: Entity, mode: LockModeType) -> None:
         """Locks a managed object, which has a version, until the open transaction ends: READ asks
@@ -241,7 +336,10 @@ class EntityManager(Queries, AbstractContextManager["EntityManager"]):
 
     def clear(self) -> None:
         """Takes all objects out of the context."""
-        self.factory.tell(self._run, line_of("clear", {"em": self._em}))
+        self._done(
+            lambda: self.factory.tell(self._run, line_of("clear", {"em": self._em})), loads=False
+        )
+        self._holding = None
         self._run.refused.pop(self.number, None)
         self._run.merged.pop(self.number, None)
         self._run.removed.pop(self.number, None)
@@ -257,7 +355,7 @@ class EntityManager(Queries, AbstractContextManager["EntityManager"]):
     def flush(self) -> None:
         """Writes what has changed into the transaction. What a callback raises that runs before
         (`EntityManagerFactory.listen`) leaves nothing written."""
-        self._pending.before(self._flush)
+        self._done(lambda: self._pending.before(self._flush), loads=False)
 
     def _flush(self, ran: FrozenSet[Due]) -> None:
         try:
@@ -268,9 +366,12 @@ class EntityManager(Queries, AbstractContextManager["EntityManager"]):
 
     def set_flush_mode(self, mode: FlushModeType) -> None:
         """Says when a query in a transaction flushes first."""
-        word = text_spelled(FlushModeType(mode))
-        self.factory.tell(self._run, line_of("setFlushMode", {"em": self._em, "mode": word}))
+        self._done(lambda: self._tell_mode(FlushModeType(mode)), loads=False)
         self._mode = FlushModeType(mode)
+
+    def _tell_mode(self, mode: FlushModeType) -> None:
+        line = line_of("setFlushMode", {"em": self._em, "mode": text_spelled(mode)})
+        self.factory.tell(self._run, line)
 
     def close(self) -> None:
         """Ends the manager, which owns no open transaction. What was persisted, removed, merged or
@@ -290,8 +391,11 @@ class EntityManager(Queries, AbstractContextManager["EntityManager"]):
             line = b'{"call":"close","em":%b}' % self._bytes
             if not is_over or not self.factory.let_go(self._run, line):
                 self._ask("close")
-        except (NoSuchManager, ProgramEnded, Restarted):  # It is gone already.
+        except (NoSuchManager, ProgramEnded, Restarted) as gone:  # It is gone already.
+            is_free = self.is_free
             self._give_place_back()
+            if is_free and isinstance(gone, Restarted):
+                return
             raise
         self._give_place_back()
         if lost:
@@ -361,6 +465,7 @@ class EntityManager(Queries, AbstractContextManager["EntityManager"]):
         return self.factory.ask_lines(self._run, lines, is_quiet=True)
 
     def _give_place_back(self) -> None:
+        self._holding = self  # It goes on in no other run.
         self._run.opened.pop(self.number, None)
         self._run.transaction_over(self.number)
         self._run.noted.pop(self.number, None)

@@ -80,6 +80,8 @@ class Places:
         self._held: Dict[Place, None] = {}
         self._waiting: Deque[_Waiter] = deque()
         self._due = _DUE
+        # When what is dropped is looked for next.
+        self._collects_from = 0.0
         # Until when those who hold no place wait for a new run; None where they don't.
         self._closed_until: Optional[float] = None
 
@@ -115,8 +117,16 @@ class Places:
             self._let_in()
         self._renew_where_due(place)
 
+    def keep(self, place: Place) -> None:
+        """Takes a place again where it was given back as another run began."""
+        with self._lock:
+            is_held = place in self._held
+        if not is_held:
+            self.take(place, self.wait)
+
     def run_begun(self) -> None:
-        """A new run is on, in which no manager of before is open. (Blocks go on to their ends.)"""
+        """A new run is on, in which no manager of before is open. Those that go on take their
+        places again where they are used. (Blocks go on to their ends.)"""
         if os.getpid() != self._process:
             return
         with self._lock:
@@ -146,9 +156,18 @@ class Places:
                 raise NoFreeManager(self._why(wait))
             # It looks again after a second, whatever was interrupted that would have woken it.
             if not waiter.woken.wait(min(deadline, self._closed_until or math.inf, now + 1) - now):
-                gc.collect()  # What is dropped stays until then.
+                self._collect()
                 self._look_after()
                 self._let_in()
+
+    def _collect(self) -> None:
+        """Lets what is dropped go, which stays until then. Nobody gives a place back meanwhile, and
+        many may wait: so one of them does it, and for a tenth of the time at most."""
+        begun = time.monotonic()
+        if begun >= self._collects_from:
+            gc.collect()
+            ended = time.monotonic()
+            self._collects_from = ended + max(1.0, 9 * (ended - begun))
 
     def _let_in(self) -> None:
         """Lets those in that may: first who holds a place already, and the others in turn."""

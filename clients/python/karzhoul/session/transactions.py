@@ -31,17 +31,21 @@ class EntityTransaction:
     def begin(self) -> EntityTransaction:
         """Opens it."""
         was_active = self.is_active
-        try:
-            # Before it is, so that no interrupt leaves one open that isn't known to be.
-            self.is_active = True
-            if self._is_begun:
-                self._is_begun = False
-            else:
-                self._ask("begin")
-        except KarzhoulError:
-            self.is_active = was_active
-            raise
-        run, number = self._manager._run, self._manager.number
+        while True:
+            run = self._manager._run
+            try:
+                # Before it is, so that no interrupt leaves one open that isn't known to be.
+                self.is_active = True
+                if self._is_begun:
+                    self._is_begun = False
+                else:
+                    self._ask("begin")
+                break
+            except KarzhoulError as fault:
+                self.is_active = was_active
+                if not isinstance(fault, Restarted) or not self._manager._goes_on(run):
+                    raise
+        number = self._manager.number
         refused = run.refused.get(number)
         run.transaction_over(number)
         if refused:  # By callbacks, outside of a transaction.
@@ -70,6 +74,8 @@ class EntityTransaction:
                     raced = self._manager.keeper.raced(fault)
             if isinstance(fault, Rollback) or is_told:
                 self._end(sets)
+                if not is_told:
+                    self._manager._holding = None
             if raced is not None:
                 raise raced from fault
             raise
@@ -88,6 +94,7 @@ class EntityTransaction:
             self._end()
             raise
         self._end()
+        self._manager._holding = None
 
     def _end(self, sets: Optional[int] = None) -> None:
         """It is over. With how often objects had been set when it was, where some were since."""

@@ -41,6 +41,52 @@ class Laureate(Author):
     prized: list[Title] = many_to_many()
 """
 
+OWNED = """
+class Member(Entity):
+    id: int = generated()
+    name: str
+    loans: list["Loan"] = one_to_many("member", cascade="all", orphan_removal=True)
+
+class Loan(Entity):
+    id: int = generated()
+    member: Member = many_to_one()
+"""
+
+
+@needs_program
+class Orphans(ClassesTest):
+    """What README says of a member that moves between two lists that remove orphans."""
+
+    def setUp(self) -> None:
+        super().setUp()
+        self.it = self.module(OWNED)
+        self.app = self.open(self.it, in_memory=True)
+        with self.app.begin() as manager:
+            ada, bob = self.it.Member(name="Ada"), self.it.Member(name="Bob")
+            manager.persist_all([ada, bob, self.it.Loan(member=ada)])
+
+    def loans(self) -> List[Any]:
+        with self.app.begin() as manager:
+            return list(manager.query("SELECT l.member.name FROM Loan l"))
+
+    def test_by_remove_and_append_it_is_removed(self) -> None:
+        with self.app.begin() as manager:
+            ada, bob = manager.find_many("Member", [1, 2])
+            loan = ada.loans[0]
+            ada.loans.remove(loan)
+            bob.loans.append(loan)
+            loan.member = bob
+        self.assertEqual(self.loans(), [])
+
+    def test_by_its_own_side_it_moves(self) -> None:
+        for is_read in (False, True):
+            with self.app.begin() as manager:
+                ada, bob = manager.find_many("Member", [1, 2])
+                if is_read:
+                    self.assertEqual((len(ada.loans), len(bob.loans)), (0, 1))
+                manager.get_reference("Loan", 1).member = ada if is_read else bob
+            self.assertEqual(self.loans(), ["Ada" if is_read else "Bob"])
+
 
 @needs_program
 class Lists(ClassesTest):

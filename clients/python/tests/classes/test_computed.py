@@ -1,14 +1,14 @@
-"""Whole numbers that a query computes beside money and spans of time."""
+"""What a query computes, or says by a literal, beside money, spans of time and dates."""
 
 from __future__ import annotations
 
 import unittest
-from datetime import timedelta
+from datetime import date, datetime, timedelta
 from decimal import Decimal
 from typing import Any
 
 import karzhoul
-from karzhoul import Entity, key, money
+from karzhoul import Entity, key, money, naive
 from karzhoul.classes.values import WrongValue
 from ..support import needs_program
 
@@ -18,6 +18,8 @@ class Fare(Entity):
     count: int
     price: Decimal = money(2)
     lasts: timedelta
+    until: date | None = None
+    sold: datetime | None = naive(default=None)
 
 
 @needs_program
@@ -55,6 +57,43 @@ class Computed(unittest.TestCase):
             with self.subTest(test), self.assertRaisesRegex(WrongValue, "is a whole number that the "
                                                             "query computes: compute it before"):
                 self.found(test, **({"n": 10} if ":n" in test else {}))
+
+    def test_a_span_beside_a_bare_number(self) -> None:
+        """It would count microseconds. Nothing is the same of each unit."""
+        for test in (
+            "f.lasts > 3", "f.lasts > -3", "f.lasts BETWEEN 1 AND 2", "3 < f.lasts", "f.lasts + 5 > f.lasts",
+            "COALESCE(f.lasts, 7) > f.lasts", "f.lasts IN (0, 1)", "f.lasts > ABS(-20)", "f.lasts > 'PT3H'",
+        ):
+            with self.subTest(test), self.assertRaisesRegex(WrongValue, r"Fare\.lasts is a timedelta, which no literal of "
+                                                            r"a query is: hand it in as a parameter, as timedelta\("):
+                self.found(test)
+        for test in ("f.lasts > 0", "COALESCE(f.lasts, 0) > :span", "f.lasts * 2 = :twice"):
+            given = {"span": timedelta(seconds=4)} if ":span" in test else {}
+            given.update({"twice": timedelta(seconds=10)} if ":twice" in test else {})
+            self.assertTrue(self.found(test, **given), test)
+        with self.app.begin() as manager:
+            with self.assertRaises(WrongValue):
+                manager.execute_update("UPDATE Fare f SET f.lasts = 3")
+            self.assertEqual(manager.query("SELECT f.lasts FROM Fare f"), [timedelta(seconds=5)])
+
+    def test_a_date_beside_a_computed_text(self) -> None:
+        """What it is written like can't be told: `2026-1-3` comes behind `2026-01-30`."""
+        with self.app.begin() as manager:
+            fare = manager.find(Fare, 1)
+            assert fare is not None
+            fare.until, fare.sold = date(2026, 1, 30), datetime(2026, 1, 30, 12)
+        for test in (
+            "f.until > UPPER('2026-1-3')", "CONCAT('2026-', '1-3') < f.until", "f.until IN ('2026-01-30', LOWER('x'))",
+            "f.sold > TRIM('2026-1-3')", "f.until = ANY (SELECT UPPER('2026-1-3') FROM Fare g)",
+        ):
+            with self.subTest(test), self.assertRaisesRegex(WrongValue, "is a date.* is a text that the query computes: "
+                                                            "compute it before, and hand it in as a parameter"):
+                self.found(test)
+        for test in (
+            "f.until > '2026-01-03'", "f.until = SUBSTRING(f.sold, 1, 10)", "SUBSTRING(f.until, 1, 4) = '2026'",
+            "f.until = COALESCE(f.until, '2026-01-03')", "f.until = (SELECT MAX(g.until) FROM Fare g)",
+        ):
+            self.assertTrue(self.found(test), test)
 
     def test_an_update(self) -> None:
         with self.app.begin() as manager:

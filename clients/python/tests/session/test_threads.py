@@ -177,6 +177,59 @@ class Services(ThreadsTest):
         self.assertEqual(self.all_of([work] * 24), [])
         self.assertEqual(self.counted(), 2400)
 
+    def test_a_new_run_between_a_manager_and_its_transaction(self) -> None:
+        """Threads that were held up there find their managers as they were."""
+        def work() -> None:
+            for _ in range(10):
+                with self.app.create_entity_manager() as manager:
+                    barrier.wait()  # Each has a manager.
+                    barrier.wait()  # Another run is on.
+                    with manager.transaction():
+                        manager.persist_all(self.make(2))
+
+        def restart() -> None:
+            for _ in range(10):
+                barrier.wait()
+                self.app.restart()
+                self.assertEqual(len(self.places._held), 0)
+                barrier.wait()
+
+        barrier = threading.Barrier(17, timeout=60)
+        self.assertEqual(self.all_of([*[work] * 16, restart]), [])
+        self.assertEqual(self.counted(), 320)
+        self.assertEqual(len(self.places._held), 0)
+
+    def test_a_place_is_waited_for_in_the_new_run(self) -> None:
+        manager = self.app.create_entity_manager()
+        self.app.restart()
+        self.assertEqual(len(self.places._held), 0)
+        others = [self.app.create_entity_manager() for _ in range(16)]
+        closing = threading.Timer(0.05, others[3].close)
+        closing.start()
+        with manager.transaction():
+            manager.persist(self.Person(name="Ada"))
+        closing.join()
+        self.assertEqual(len(self.places._held), 16)
+        manager.close()
+        self.assertEqual(len(self.places._held), 15)
+
+    def test_managers_that_go_on_give_their_places_back(self) -> None:
+        managers = [self.app.create_entity_manager() for _ in range(16)]
+        self.app.restart()
+        for manager in managers[:3]:
+            with manager.transaction():
+                pass
+        self.assertEqual(len(self.places._held), 3)
+        for manager in managers:
+            manager.close()
+        self.assertEqual(len(self.places._held), 0)
+        managers = [self.app.create_entity_manager() for _ in range(16)]
+        self.app.restart()
+        del manager, managers
+        gc.collect()
+        for _ in range(16):
+            self.app.create_entity_manager()
+
     def test_what_is_held_of_before_is_told(self) -> None:
         with self.app.begin() as manager:
             ada = self.Person(name="Ada")
@@ -212,6 +265,36 @@ class Waiting(ThreadsTest):
         closing.start()
         self.app.create_entity_manager()
         closing.join()
+
+    def test_many_who_wait_hold_nobody_up(self) -> None:
+        """They look for dropped managers, which takes long where a process has much; yet those who
+        give a place back are let in between."""
+        collected: List[float] = []
+
+        def collect() -> int:
+            collected.append(time.monotonic())
+            time.sleep(0.2)
+            return 0
+
+        managers = [self.app.create_entity_manager() for _ in range(16)]
+
+        def work() -> None:
+            with self.app.begin():
+                pass
+
+        with mock.patch("gc.collect", collect):
+            threads = [threading.Thread(target=work) for _ in range(24)]
+            for thread in threads:
+                thread.start()
+            self.until(lambda: len(self.places._waiting) == 24)
+            time.sleep(3)
+            for manager in managers:
+                manager.close()
+            for thread in threads:
+                thread.join()
+        self.assertIn(len(collected), range(1, 4))
+        for first, second in zip(collected, collected[1:]):
+            self.assertGreaterEqual(second - first, 1.8)
 
     def test_turns(self) -> None:
         """Who waits first is let in first."""
@@ -477,15 +560,17 @@ class Runs(ThreadsTest):
             self.app.create_entity_manager()
 
     def test_a_manager_of_one_s_own_holds_it_off_until_few_are_left(self) -> None:
-        manager = self.app.create_entity_manager()
+        manager, other = self.app.create_entity_manager(), self.app.create_entity_manager()
+        other.persist(self.make(1)[0])
         with self.app.begin():
-            self.make(300)
+            self.make(299)
         self.assertEqual((self.made(), manager.find("Person", 1)), (300, None))
         with self.app.begin():
             self.make(70)
         self.assertEqual(self.made(), 0)
         with self.assertRaises(Restarted):
-            manager.find("Person", 1)
+            other.find("Person", 1)
+        self.assertIsNone(manager.find("Person", 1))  # It has no object, and goes on.
 
     def test_a_transaction_of_one_s_own_is_not_given_up(self) -> None:
         manager = self.app.create_entity_manager()

@@ -56,6 +56,7 @@ final class Context {
     private final HiddenRows hiddenRows = new HiddenRows(this);
     private final UniqueValues uniques = new UniqueValues(this);
     private final ListOrders listOrders = new ListOrders(this);
+    private final UnreadProxies unreadProxies = new UnreadProxies(this);
     private Session session;
     private int depth;
     private boolean isActive;
@@ -130,6 +131,10 @@ final class Context {
 
     ListOrders listOrders() {
         return listOrders;
+    }
+
+    UnreadProxies unreadProxies() {
+        return unreadProxies;
     }
 
     /** The calls that wait for the next one that is answered. */
@@ -683,12 +688,14 @@ final class Context {
         entry.stored(true);
         entry.instance(Proxies.make(entry));
         identities.put(entry);
+        unreadProxies.add(entry);
         return entry;
     }
 
     private void letAllGo() {
         identities.all().forEach(Entry::letGo);
         identities.clear();
+        unreadProxies.forget();
         detached.clear();
         lost.clear();
         clear(heard);

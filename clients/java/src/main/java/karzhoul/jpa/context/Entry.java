@@ -33,6 +33,7 @@ final class Entry {
     private List<Object> key;
     private LockModeType lock = LockModeType.NONE;
     private Object plain;
+    private Blank blank;
 
     /** The values and relations of the row, where the program was told of others since; else null. */
     private Object[] cleanValues;
@@ -105,6 +106,16 @@ final class Entry {
 
     void hollow(boolean is) {
         isHollow = is;
+    }
+
+    /** What it has in its fields while it is hollow; null where what is written to them isn't looked for. */
+    void blank(Blank made) {
+        blank = made;
+    }
+
+    /** What was written to the fields of a proxy that wasn't looked at; null where nothing was. */
+    Written written() {
+        return blank == null ? null : Proxies.asleep(instance, () -> blank.written(this));
     }
 
     /** Whether its row is there for its manager. */

@@ -7,6 +7,7 @@ import java.util.Arrays;
 import java.util.Collection;
 import java.util.HashMap;
 import java.util.HashSet;
+import java.util.LinkedHashMap;
 import java.util.LinkedHashSet;
 import java.util.List;
 import java.util.Map;
@@ -42,6 +43,7 @@ final class Fill {
     private final List<Told> collections = new ArrayList<>();
     private final Set<Long> merged = new HashSet<>();
     private final List<Entry> copying = new ArrayList<>();
+    private final Map<Entry, Written> written = new LinkedHashMap<>();
     private List<Told> unread = new ArrayList<>();
 
     Fill(Context context) {
@@ -124,6 +126,39 @@ final class Fill {
         }
     }
 
+    /**
+     * Reads the values of proxies whose fields were written.
+     *
+     * @throws EntityNotFoundException where the row of one is gone
+     */
+    void written(List<Entry> proxies) {
+        List<Entry> keyed = new ArrayList<>();
+        for (Entry proxy : proxies) {
+            if (proxy.number() != 0) {
+                want(proxy.number());
+            } else {
+                keyed.add(proxy);
+            }
+        }
+        if (keyed.isEmpty()) {
+            complete();
+        } else {
+            found(keyed.stream().map(Entry::model).toList(), keyed.stream().map(Entry::key).toList());
+        }
+        for (Entry proxy : proxies) {
+            if (proxy.isHollow()) {
+                throw context.marked(new EntityNotFoundException("EntityNotFound, " + proxy + ", whose "
+                    + proxy.written().paths() + " was written: there is no such row"));
+            }
+        }
+    }
+
+    /** Reads the values of a proxy, and nothing that was written to its fields stays. */
+    void anew(Entry proxy) {
+        proxy.blank(null);
+        proxy(proxy);
+    }
+
     /** Reads these objects again, whose values the program has read anew or changed. */
     void again(Iterable<Entry> entries) {
         for (Entry entry : entries) {
@@ -197,6 +232,16 @@ final class Fill {
 
     /** Asks for what is wanted until nothing is, and gives all its relations; then PostLoad runs. */
     private void complete() {
+        try {
+            readAll();
+        } finally {
+            Map<Entry, Written> now = new LinkedHashMap<>(written);
+            written.clear();
+            now.forEach((entry, over) -> over.over(entry.instance()));
+        }
+    }
+
+    private void readAll() {
         while (!wanted.isEmpty() || !unread.isEmpty()) {
             round();
         }
@@ -253,7 +298,9 @@ final class Fill {
         Object[] values = shown.values();
         List<Object> key = List.of(Arrays.copyOf(values, model.key().parts().size()));
         Entry entry = entryFor(number, model, key);
-        entry.hollow(false);
+        if (entry.isHollow()) {
+            isRead(entry);
+        }
         if (!merged.contains(number)) {
             entry.stored(true);
             entry.clean();
@@ -268,6 +315,16 @@ final class Fill {
         }
         if (entry.context() != null && !merged.contains(number)) {
             loaded.add(entry);
+        }
+    }
+
+    /** A proxy is one no more; what was written to it by no method of it is written again, once all is read. */
+    private void isRead(Entry proxy) {
+        Written over = proxy.written();
+        proxy.blank(null);
+        proxy.hollow(false);
+        if (over != null) {
+            written.put(proxy, over);
         }
     }
 

@@ -25,6 +25,10 @@ final class Flush {
 
     private final Context context;
     private final Lines queue;
+    /** What the last push didn't tell, since it can't be kept. */
+    private List<Push.Unfit> unfit = List.of();
+    /** Those that heard PreUpdate for such a value. */
+    private final Set<Entry> unfitHeard = new HashSet<>();
 
     Flush(Context context) {
         this.context = context;
@@ -82,31 +86,59 @@ final class Flush {
         }
     }
 
-    /** Tells what changed, and runs what is due before the writes. */
+    /** Tells what changed, and runs what is due before the writes; what can't be kept then is refused. */
     private void prepare() {
         push();
-        if (hasChanged() && context.factory().hearsBefore(context.identities().models())) {
-            Set<Event> due = new HashSet<>();
-            for (int round = 0; runDue(due); round++) {
-                if (round == MOST_ROUNDS) {
-                    throw new PersistenceException("callbacks before the writes set each other off: after "
-                        + MOST_ROUNDS + " rounds each still changed something");
-                }
-                int before = queue.count();
-                push();
-                if (queue.count() == before) {
-                    break;
-                }
-            }
+        if ((hasChanged() || !unfit.isEmpty()) && context.factory().hearsBefore(context.identities().models())) {
+            runBefore();
         }
-        if (context.hasStale()) {
+        if (!unfit.isEmpty()) {
+            throw unfit.get(0).refusal();
+        } else if (context.hasStale()) {
             checkStale();
         }
     }
 
+    private void runBefore() {
+        Set<Event> due = new HashSet<>();
+        for (int round = 0; runUnfit() | (hasChanged() && runDue(due)); round++) {
+            if (round == MOST_ROUNDS) {
+                throw new PersistenceException("callbacks before the writes set each other off: after "
+                    + MOST_ROUNDS + " rounds each still changed something");
+            }
+            int before = queue.count();
+            push();
+            if (queue.count() == before) {
+                break;
+            }
+        }
+        for (Entry entry : unfitHeard) {
+            if (!entry.isTouched()) {
+                context.wasRunAhead(Callbacks.Event.PreUpdate, entry);      // nothing of it is written: it may hear again
+            }
+        }
+    }
+
+    /** Who has a value that can't be kept hears PreUpdate, of which the program can't tell: it doesn't have that value. */
+    private boolean runUnfit() {
+        boolean isNew = false;
+        for (Push.Unfit value : unfit) {
+            Entry entry = value.entry();
+            boolean isDue = entry.isManaged() && entry.isStored() && entry.model().callbacks().hears(Callbacks.Event.PreUpdate);
+            if (isDue && unfitHeard.add(entry)) {
+                isNew = true;
+                context.runAhead(Callbacks.Event.PreUpdate, entry);
+            }
+        }
+        return isNew;
+    }
+
     private void push() {
+        context.unreadProxies().readWritten();
         Push push = context.push();
+        push.waits();
         push.all();
+        unfit = push.unfit();
         for (Entry orphan : push.orphans()) {
             if (orphan.isManaged()) {
                 new Operations(context).remove(orphan);

@@ -26,8 +26,16 @@ final class Keys {
         give(model, instance);
         persistFirst(model, instance);
         derive(model, instance);
-        if (model.key().generation() != KeyModel.Generation.COUNTER && Targets.keyOf(model, instance) == null) {
+        if (model.key().generation() != KeyModel.Generation.COUNTER && !hasKey(model, instance)) {
             context.runAhead(Callbacks.Event.PrePersist, entry);
+        }
+    }
+
+    private static boolean hasKey(EntityModel model, Object instance) {
+        try {
+            return Targets.keyOf(model, instance) != null;
+        } catch (Unkept unkept) {
+            return false;       // PrePersist may give another one
         }
     }
 

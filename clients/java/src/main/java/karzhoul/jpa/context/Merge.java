@@ -43,6 +43,8 @@ final class Merge {
     /** The instances that are told to their images themselves, by these. */
     private final Map<Entry, Object> direct = new LinkedHashMap<>();
     private final List<Entry> prepared = new ArrayList<>();
+    /** Detached proxies that nobody has read, with what was written to their fields. */
+    private final Map<Object, Written> unread = new IdentityHashMap<>();
     private final MergedKeys mergedKeys;
     private final JoinedOrphans orphans;
 
@@ -67,7 +69,9 @@ final class Merge {
         try {
             List<Object> reached = reach(root);
             findImages(reached);
-            return (T) merged(root).instance();
+            Entry merged = Graph.isForeignProxy(root) ? managedOf(root) : merged(root);
+            unread.forEach(this::writeOver);
+            return (T) merged.instance();
         } catch (OptimisticLockException e) {
             giveUp();
             throw context.marked(new OptimisticLockException(e.getMessage(), e, stale(root)));
@@ -125,6 +129,7 @@ final class Merge {
             Entry entry = context.entryOf(instance);
             if (entry == null || entry.state() == Entry.State.NEW || entry.state() == Entry.State.DETACHED) {
                 if (Graph.isForeignProxy(instance)) {
+                    noteWritten(instance);
                     continue;
                 }
                 readMoved(instance);
@@ -142,6 +147,48 @@ final class Merge {
             }
         }
         return reached;
+    }
+
+    /** Notes what was written to the fields of a detached proxy that nobody has read. */
+    private void noteWritten(Object proxy) {
+        EntityModel model = context.modelOf(proxy);
+        String path = null;
+        Object known = Proxies.known(proxy);
+        if (known instanceof Plain.Key key) {
+            path = Proxies.asleep(proxy, () -> Blank.writtenOf(model, proxy, key.twin()));
+        } else {
+            Written written = ((Entry) known).written();
+            if (written != null && written.leadsOn()) {
+                path = written.paths();
+            } else if (written != null) {
+                unread.put(proxy, written);
+            }
+        }
+        if (path != null) {
+            List<Object> key = Targets.keyOf(model, proxy);
+            throw new PersistenceException(model.name() + " " + (key.size() == 1 ? key.get(0) : key) + " wasn't read before it was "
+                + (known instanceof Entry ? "detached" : "serialized") + ", and its " + path
+                + " was written since: merge can't tell it; set it on what find answers");
+        }
+    }
+
+    /** The managed one of a detached proxy that nobody has read. */
+    private Entry managedOf(Object proxy) {
+        Entry image = new Targets(context).managed(context.modelOf(proxy), proxy);
+        if (image == null) {
+            throw Targets.isGone(context.modelOf(proxy).name() + " " + Targets.keyOf(context.modelOf(proxy), proxy));
+        } else if (image.state() == Entry.State.REMOVED) {
+            throw new IllegalArgumentException("IllegalArgument(state), " + image + ": a removed instance can't be merged");
+        }
+        return image;
+    }
+
+    private void writeOver(Object proxy, Written written) {
+        Entry image = managedOf(proxy);
+        if (image.isHollow()) {
+            new Fill(context).proxy(image);
+        }
+        written.over(image.instance());
     }
 
     /** Reads the collections that are another entity's, and that it doesn't have as its own unread ones. */
@@ -187,8 +234,11 @@ final class Merge {
             } else {
                 source.number(context.newNumber(source.model()));
                 context.identities().put(source);
-                if (source.key() == null) {
-                    runAhead(source);
+                boolean isUnfit = image == null && isUnfit(source);
+                if (isUnfit && source.model().key().generation() == KeyModel.Generation.COUNTER) {
+                    mergedKeys.persistAhead(source);
+                } else if (isUnfit || source.key() == null) {
+                    runAhead(source, isUnfit);
                 }
             }
         }
@@ -244,16 +294,33 @@ final class Merge {
             || image.model().version().filter(it -> Values.isKept(it, version, image.values[it.place()])).isPresent();
     }
 
-    /** PrePersist of a new image may give its key: then it runs before the program is told of it, and not again. */
-    private void runAhead(Entry source) {
+    /** Whether a new one has a value that can't be kept, and that PrePersist may make fit. */
+    private static boolean isUnfit(Entry source) {
+        if (!source.model().callbacks().hears(Callbacks.Event.PrePersist)) {
+            return false;
+        }
+        try {
+            source.model().attributes().forEach(each -> Values.column(each, each.get(source.instance())));
+            return false;
+        } catch (Unkept unkept) {
+            return true;
+        }
+    }
+
+    /**
+     * PrePersist of a new image may give its key, and make a value fit: then it runs before the program is told of it,
+     * and not again.
+     */
+    private void runAhead(Entry source, boolean isUnfit) {
         EntityModel model = source.model();
         boolean isGiven = model.key().generation() == KeyModel.Generation.ASSIGNED && model.key().derived().isEmpty()
-            && model.callbacks().hears(Callbacks.Event.PrePersist);
+            && model.callbacks().hears(Callbacks.Event.PrePersist) || isUnfit && Keys.isGiven(model);
         if (!isGiven) {
             return;
         }
         Entry image = new Entry(model, context, Entry.State.MANAGED);
         image.instance(copy(model, source.instance()));
+        new Keys(context).give(model, image.instance());
         context.runAhead(Callbacks.Event.PrePersist, image);
         image.key(Targets.keyOf(model, image.instance()));
         if (image.key() == null) {
@@ -286,6 +353,7 @@ final class Merge {
         orphans.before(images);
         Push push = context.push();
         push.merging(imagesByInstance, direct);
+        push.waits();
         List<Entry> there = new ArrayList<>(managed);
         images.values().stream().filter(it -> it.isManaged() && !mergedKeys.ahead().contains(it)).forEach(there::add);
         push.these(there);
@@ -295,6 +363,7 @@ final class Merge {
         push.these(objects);
         objects.forEach(this::versionAndKey);
         objects.forEach(this::keepUnwritten);
+        push.unfit().forEach(this::keepFit);
         unread(objects);
         Entry known = context.entryOf(root);
         Entry told = known == null ? imagesByInstance.get(root) : known;
@@ -303,6 +372,7 @@ final class Merge {
         context.storing();
         Reply reply = context.ask(from)[0];
         readBack(reply.events(), reply.number());
+        push.unfit().forEach(this::giveUnfit);
         orphans.remove();
         return context.identities().of(reply.number());
     }
@@ -328,6 +398,33 @@ final class Merge {
                 Object column = Values.columnOfKept(attribute, image.values[attribute.place()]);
                 queue.set(source.number(), attribute.member(), column).about(source);
             }
+        }
+    }
+
+    /**
+     * What can't be kept isn't copied by the program, which has what the row has: it is given to the image afterwards,
+     * whose PreUpdate may make it fit. Where it doesn't hear that, it is refused.
+     */
+    private void keepFit(Push.Unfit value) {
+        Entry source = value.entry();
+        boolean isCopied = sources.containsKey(source);
+        Entry image = isCopied ? images.get(source) : source;
+        boolean mayFit = image != null && value.attribute() != null && image.isStored()
+            && image.model().callbacks().hears(Callbacks.Event.PreUpdate);
+        if ((isCopied || direct.containsKey(source) || value.attribute() == null) && !mayFit) {
+            throw value.refusal();
+        } else if (isCopied) {
+            Object column = Values.columnOfKept(value.attribute(), image.values[value.attribute().place()]);
+            queue.set(source.number(), value.attribute().member(), column).about(source);
+        }
+    }
+
+    private void giveUnfit(Push.Unfit value) {
+        boolean isCopied = sources.containsKey(value.entry());
+        Entry image = isCopied ? images.get(value.entry()) : value.entry();
+        boolean isOverwritten = !isCopied && !direct.containsKey(image) && images.containsValue(image);
+        if (value.attribute() != null && !isOverwritten) {
+            value.attribute().set(image.instance(), value.value());
         }
     }
 

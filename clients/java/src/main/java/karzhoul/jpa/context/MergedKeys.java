@@ -105,7 +105,7 @@ final class MergedKeys {
     }
 
     /** Has the program persist the image of a new one alone, which gives it its key. */
-    private Entry persistAhead(Entry source) {
+    Entry persistAhead(Entry source) {
         EntityModel model = source.model();
         Object copy = Merge.copy(model, source.instance());
         Attribute part = model.key().parts().get(0);

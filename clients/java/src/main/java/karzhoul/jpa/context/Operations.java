@@ -165,7 +165,7 @@ final class Operations {
     void refresh(Object instance) {
         Entry entry = managed(instance, "refreshed");
         if (entry.isHollow()) {
-            new Fill(context).proxy(entry);
+            new Fill(context).anew(entry);
             return;
         }
         int from = queue.count();

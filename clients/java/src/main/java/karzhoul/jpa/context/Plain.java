@@ -1,5 +1,6 @@
 package karzhoul.jpa.context;
 
+import jakarta.persistence.PersistenceException;
 import java.io.Serializable;
 import java.util.List;
 
@@ -13,6 +14,11 @@ final class Plain {
             return known;
         }
         if (entry.isHollow() && entry.context() == null) {
+            Written lost = entry.written();
+            if (lost != null) {
+                throw new PersistenceException(entry + " wasn't read before it was detached, and its " + lost.paths()
+                    + " was written since: it can't be serialized with that");
+            }
             return new Key(entry.model().javaClass(), entry.key());
         }
         if (entry.isHollow()) {
@@ -25,9 +31,35 @@ final class Plain {
     }
 
     /** A detached proxy that wasn't read: it is one again where it is read back, and leads to what has this key. */
-    record Key(Class<?> entity, List<Object> parts) implements Serializable {
+    static final class Key implements Serializable {
+        private static final long serialVersionUID = 0;       // as that of the record that it was
+
+        private final Class<?> entity;
+        private final List<Object> parts;
+        private transient Object twin;
+
+        Key(Class<?> entity, List<Object> parts) {
+            this.entity = entity;
+            this.parts = parts;
+        }
+
+        Class<?> entity() {
+            return entity;
+        }
+
+        List<Object> parts() {
+            return parts;
+        }
+
+        /** An instance that has in its fields what the proxy had as it was read back. */
+        Object twin() {
+            return twin;
+        }
+
         private Object readResolve() {
-            return Proxies.ofKey(this);
+            Object proxy = Proxies.ofKey(this);
+            twin = Proxies.twin(proxy);
+            return proxy;
         }
     }
 }

@@ -11,10 +11,12 @@ import java.io.Serializable;
 import java.lang.invoke.MethodHandle;
 import java.lang.invoke.MethodHandles;
 import java.lang.invoke.MethodType;
+import java.lang.reflect.Field;
 import java.lang.reflect.Method;
 import java.lang.reflect.Modifier;
 import java.util.List;
 import java.util.Optional;
+import java.util.function.Supplier;
 import karzhoul.jpa.model.Attribute;
 import karzhoul.jpa.model.EntityModel;
 import net.bytebuddy.ByteBuddy;
@@ -86,8 +88,21 @@ public final class Proxies {
         for (int i = 0; i < parts.size(); i++) {
             parts.get(i).set(made, parts.get(i).codec().toAttribute(entry.key().get(i)));
         }
-        ((Proxied) made).karzhoul$entry(entry);     // only now, so that a setter reads nothing
+        entry.blank(Blank.of(entry.model(), made));
+        ((Proxied) made).karzhoul$entry(entry);     // only now, so that a setter and a getter read nothing
         return made;
+    }
+
+    /** Does something while the methods of a proxy read nothing. */
+    static <T> T asleep(Object proxy, Supplier<T> done) {
+        Proxied proxied = (Proxied) proxy;
+        Object known = proxied.karzhoul$entry();
+        proxied.karzhoul$entry(null);
+        try {
+            return done.get();
+        } finally {
+            proxied.karzhoul$entry(known);
+        }
     }
 
     /** A detached proxy of what has this key. */
@@ -95,6 +110,28 @@ public final class Proxies {
         Object made = make(key.entity());
         ((Proxied) made).karzhoul$entry(key);
         return made;
+    }
+
+    /** An instance of the same class with the same in its fields, as far as they can be set. */
+    static Object twin(Object proxy) {
+        Object twin = make(proxy.getClass().getSuperclass());
+        for (Class<?> at = proxy.getClass().getSuperclass(); at != Object.class; at = at.getSuperclass()) {
+            for (Field field : at.getDeclaredFields()) {
+                if (!Modifier.isStatic(field.getModifiers()) && !Modifier.isFinal(field.getModifiers())) {
+                    copy(field, proxy, twin);
+                }
+            }
+        }
+        return twin;
+    }
+
+    private static void copy(Field field, Object from, Object to) {
+        try {
+            MethodHandles.Lookup lookup = MethodHandles.privateLookupIn(field.getDeclaringClass(), MethodHandles.lookup());
+            lookup.unreflectSetter(field).invoke(to, lookup.unreflectGetter(field).invoke(from));
+        } catch (Throwable e) {
+            System.getLogger("karzhoul").log(System.Logger.Level.DEBUG, field + " can't be copied", e);
+        }
     }
 
     /** What the door knows of a proxy: an {@link Entry} or a {@link Plain.Key}; null of any other instance. */

@@ -15,12 +15,21 @@ import karzhoul.jpa.model.Callbacks;
 import karzhoul.jpa.model.EntityModel;
 import karzhoul.jpa.model.KeyModel;
 import karzhoul.jpa.model.Relation;
+import karzhoul.jpa.model.UnkeptElements;
 
 /**
  * Tells the program what instances have that it doesn't: a line for each value, link and member that changed. A value
- * is judged by its codec before any line; what is refused there leaves nothing half told. One for each operation.
+ * is judged by its codec before its line; one that doesn't fit is refused, or waits for callbacks that may make it fit.
+ * One for each operation.
  */
 class Push {
+    /**
+     * A value that can't be kept, and wasn't told.
+     *
+     * @param attribute null of a collection of values
+     */
+    record Unfit(Entry entry, Attribute attribute, Object value, PersistenceException refusal) {}
+
     private final Context context;
     private final Identities identities;
     private final Lines queue;
@@ -30,7 +39,9 @@ class Push {
     private Map<Object, Entry> images = Map.of();
     private Map<Entry, Object> direct = Map.of();
     private Map<Entry, Object> told = Map.of();
+    private final List<Unfit> unfit = new ArrayList<>();
     private boolean isMerging;
+    private boolean waits;
 
     Push(Context context) {
         this.context = context;
@@ -49,6 +60,23 @@ class Push {
         isMerging = true;
         images = imagesOf;
         direct = directly;
+    }
+
+    /** From now on a value that can't be kept isn't refused, since callbacks are still to run; but one of a key is. */
+    final void waits() {
+        waits = true;
+    }
+
+    /** What wasn't told, since it can't be kept. */
+    final List<Unfit> unfit() {
+        return unfit;
+    }
+
+    private void refuse(Unfit value) {
+        if (!waits || value.attribute() != null && value.attribute().role() == Attribute.Role.KEY) {
+            throw value.refusal();
+        }
+        unfit.add(value);
     }
 
     /** Tells these images the state of their instances in place of their own, and what they lead to. */
@@ -108,10 +136,11 @@ class Push {
     private void tellValues(Entry entry, Object instance) {
         for (Attribute attribute : entry.model().attributes()) {
             if (attribute.role() != Attribute.Role.VERSION) {
+                Object now = attribute.get(instance);
                 try {
-                    value(entry, attribute, attribute.get(instance));
+                    value(entry, attribute, now);
                 } catch (Unkept unkept) {
-                    throw unkept.of(entry);
+                    refuse(new Unfit(entry, attribute, now, unkept.of(entry)));
                 }
             }
         }
@@ -124,7 +153,11 @@ class Push {
         Object instance = told.getOrDefault(entry, entry.instance());
         for (Relation relation : entry.model().relations()) {
             if (relation.isMany()) {
-                collection(entry, relation, relation.get(instance));
+                try {
+                    collection(entry, relation, relation.get(instance));
+                } catch (UnkeptElements unkept) {
+                    refuse(new Unfit(entry, null, null, unkept));
+                }
             } else {
                 link(entry, relation, relation.get(instance));
             }
@@ -341,7 +374,10 @@ class Push {
     /** Has the program persist a new one with its values, before what it leads to is told: others are to have its key. */
     final void alone(Entry entry) {
         context.runAhead(Callbacks.Event.PrePersist, entry);
+        boolean waited = waits;
+        waits = false;
         tellValues(entry, entry.instance());
+        waits = waited;
         new Keys(context).persistAlone(entry);
         Persist.manage(context, List.of(entry));
     }

@@ -77,7 +77,7 @@ final class ChannelPipe implements Pipe {
         while (selector.selectNow() == 0) {
             long left = until.left();
             if (left <= 0) {
-                throw new IOException("nothing came in time");
+                throw new Unanswered(until);
             } else if (Thread.currentThread().isInterrupted()) {
                 throw new InterruptedIOException("interrupted");
             }

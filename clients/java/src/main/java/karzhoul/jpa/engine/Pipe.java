@@ -19,14 +19,14 @@ sealed interface Pipe permits ChannelPipe, TlsPipe {
      * Waits until something can be read, or the end.
      *
      * @throws InterruptedIOException where the thread is interrupted
-     * @throws IOException where the time is over
+     * @throws Unanswered where the time is over
      */
     void await(Deadline until) throws IOException;
 
     /**
      * As {@link #await}, also where the thread is interrupted: it stays so.
      *
-     * @throws IOException where the time is over
+     * @throws Unanswered where the time is over
      */
     default void awaitAlways(Deadline until) throws IOException {
         boolean isInterrupted = Thread.interrupted();

@@ -48,7 +48,7 @@ final class ServerConnection implements Transport {
      * Connects, and hears what is served.
      *
      * @param until how long the server is waited for
-     * @throws NotServed where nobody serves there, or answers in this time
+     * @throws NotServed where nobody serves there, or who does doesn't answer in this time
      * @throws PersistenceException where the server doesn't want this one, or this one doesn't trust it
      */
     ServerConnection(ServerWay way, Deadline until) {
@@ -62,7 +62,8 @@ final class ServerConnection implements Transport {
         } catch (IOException | RuntimeException e) {
             pipe.close();
             throw e instanceof PersistenceException refused ? refused
-                : new NotServed("nobody serves at " + address + ": " + e.getMessage() + way.hint(), e);
+                : new NotServed((e instanceof Unanswered ? "who serves at " + address + " doesn't answer: "
+                    : "nobody serves at " + address + ": ") + e.getMessage() + way.hint(), e);
         }
     }
 

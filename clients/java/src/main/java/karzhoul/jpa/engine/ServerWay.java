@@ -2,6 +2,7 @@ package karzhoul.jpa.engine;
 
 import jakarta.persistence.PersistenceException;
 import java.io.IOException;
+import java.net.SocketTimeoutException;
 import java.net.UnknownHostException;
 import java.nio.file.Files;
 import java.nio.file.Path;
@@ -54,6 +55,8 @@ record ServerWay(ServerAddress address, Path tokenFile, Trust trust) {
             pipe = new ChannelPipe(address.connected(until));
         } catch (UnknownHostException e) {
             throw new NotServed("nobody serves at " + address + ": its host isn't known", e);
+        } catch (SocketTimeoutException e) {
+            throw new NotServed("nobody answers at " + address + ": no connection within " + until, e);
         } catch (IOException | RuntimeException e) {
             throw new NotServed("nobody serves at " + address + ": " + (e.getMessage() == null ? e : e.getMessage()), e);
         }
@@ -65,6 +68,9 @@ record ServerWay(ServerAddress address, Path tokenFile, Trust trust) {
         } catch (SSLException e) {
             pipe.close();
             throw new PersistenceException(refused(e), e);
+        } catch (Unanswered e) {
+            pipe.close();
+            throw new NotServed("who serves at " + address + " doesn't agree upon TLS: " + e.getMessage(), e);
         } catch (IOException e) {
             pipe.close();
             throw new NotServed("nobody speaks TLS at " + address + ": " + e.getMessage(), e);

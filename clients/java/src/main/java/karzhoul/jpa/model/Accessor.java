@@ -65,6 +65,11 @@ final class Accessor {
         return isProperty;
     }
 
+    /** What reads it of an instance: it takes and answers an Object. */
+    MethodHandle reader() {
+        return reader;
+    }
+
     Object get(Object instance) {
         try {
             return (Object) reader.invokeExact(instance);

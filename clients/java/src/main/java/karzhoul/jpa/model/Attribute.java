@@ -30,6 +30,12 @@ public interface Attribute {
     /** The value in an instance, of the attribute's Java type; null also where an embeddable on the way is null. */
     Object get(Object instance);
 
+    /**
+     * The embeddable in whose field it stands; null where it stands in the instance itself, where there is none, and
+     * where a getter on the way may answer a copy.
+     */
+    Object holder(Object instance);
+
     /** Sets it, and makes embeddables on the way; a null of a primitive is its zero. */
     void set(Object instance, Object value);
 }

@@ -1,5 +1,6 @@
 package karzhoul.jpa.model;
 
+import java.lang.invoke.MethodHandle;
 import java.util.ArrayList;
 import java.util.Collection;
 import java.util.List;
@@ -63,6 +64,31 @@ final class ElementPlace implements Place, Elements, ElementView.Maker {
         }
         memory.keep(instance, now);
         return now;
+    }
+
+    @Override
+    public Object held(Object instance) {
+        return where.get(instance);
+    }
+
+    @Override
+    public boolean isOfFields() {
+        return where.isOfFields();
+    }
+
+    @Override
+    public MethodHandle reader() {
+        return where.reader();
+    }
+
+    @Override
+    public Object holder(Object instance) {
+        return where.holder(instance);
+    }
+
+    @Override
+    public void hold(Object instance, Object held) {
+        where.set(instance, held);
     }
 
     @Override

@@ -1,6 +1,5 @@
 package karzhoul.jpa.model;
 
-import jakarta.persistence.PersistenceException;
 import java.lang.invoke.MethodHandle;
 import java.nio.ByteBuffer;
 import java.util.ArrayDeque;
@@ -114,8 +113,8 @@ final class ElementShape {
 
     private ElementRow row(Object at, Object element) {
         if (at == null || element == null && constructor != null) {
-            throw new PersistenceException(path + (at == null ? " has a key that is null"
-                    : " has a member that is null, and these are embeddables"));
+            throw new UnkeptElements(path + (at == null ? " has a key that is null"
+                    : " has a member that is null, and these are embeddables"), null);
         }
         ElementRow row = (ElementRow) rows.newInstance();
         try {
@@ -149,8 +148,8 @@ final class ElementShape {
         return row.content();
     }
 
-    private PersistenceException unkept(RuntimeException wrong) {
-        return new PersistenceException(path + " can't be stored: " + wrong.getMessage(), wrong);
+    private UnkeptElements unkept(RuntimeException wrong) {
+        return new UnkeptElements(path + " can't be stored: " + wrong.getMessage(), wrong);
     }
 
     private static Object comparable(Object column) {

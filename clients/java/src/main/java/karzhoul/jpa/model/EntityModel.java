@@ -46,6 +46,15 @@ public interface EntityModel {
     /** What the collection of values has, of whose rows this is; empty of an entity of the application. */
     Optional<Elements> rowsOf();
 
+    /**
+     * What the fields of an instance have: the values of {@link #attributes()}, and then what {@link #relations()} hold;
+     * null where one of these is a property, which its getter alone tells.
+     */
+    Object[] fieldsOf(Object instance);
+
+    /** Whether an attribute or a relation of it stands in an embeddable. */
+    boolean hasEmbeddables();
+
     /** A new instance by the constructor without parameters. */
     Object newInstance();
 

@@ -1,6 +1,7 @@
 package karzhoul.jpa.model;
 
 import jakarta.persistence.PersistenceException;
+import java.lang.invoke.MethodHandle;
 import java.util.ArrayList;
 import java.util.LinkedHashMap;
 import java.util.List;
@@ -43,6 +44,31 @@ final class MapPlace implements Place, ElementView.Maker {
             throw new PersistenceException(path + " has a member under the key " + key + ", and @MapKey says that it is "
                     + own + ": it would come back under that");
         }
+    }
+
+    @Override
+    public Object held(Object instance) {
+        return where.get(instance);
+    }
+
+    @Override
+    public boolean isOfFields() {
+        return where.isOfFields();
+    }
+
+    @Override
+    public MethodHandle reader() {
+        return where.reader();
+    }
+
+    @Override
+    public Object holder(Object instance) {
+        return where.holder(instance);
+    }
+
+    @Override
+    public void hold(Object instance, Object held) {
+        where.set(instance, held);
     }
 
     @Override

@@ -54,6 +54,10 @@ final class PlainAttribute implements Attribute {
         return isUnique;
     }
 
+    Place where() {
+        return where;
+    }
+
     void stands(int place) {
         this.place = place;
     }
@@ -101,6 +105,11 @@ final class PlainAttribute implements Attribute {
     @Override
     public Object get(Object instance) {
         return where.get(instance);
+    }
+
+    @Override
+    public Object holder(Object instance) {
+        return where.holder(instance);
     }
 
     @Override

@@ -32,6 +32,8 @@ final class PlainEntity implements EntityModel {
     private PlainAttribute version;
     private Callbacks callbacks;
     private MethodHandle constructor;
+    private volatile Optional<Fields> fields;
+    private boolean hasEmbeddables;
     private Elements elements;
     private String declaredAt;
     private Sequence sequence;
@@ -143,6 +145,7 @@ final class PlainEntity implements EntityModel {
         copies = Stream.concat(above == null ? Stream.empty() : above.copies.stream(), ownCopies.stream()).toList();
         attributes = List.copyOf(all);
         relations = List.copyOf(leading);
+        hasEmbeddables = places().stream().anyMatch(place -> place != null && place.reader() == null);
     }
 
     PlainEntity above() {
@@ -302,6 +305,25 @@ final class PlainEntity implements EntityModel {
     @Override
     public Callbacks callbacks() {
         return callbacks;
+    }
+
+    @Override
+    public Object[] fieldsOf(Object instance) {
+        if (fields == null) {
+            List<Place> places = places();
+            fields = Optional.of(places).filter(all -> all.stream().allMatch(place -> place != null && place.isOfFields())).map(Fields::new);
+        }
+        return fields.isEmpty() ? null : fields.get().of(instance);
+    }
+
+    private List<Place> places() {
+        Stream<Place> ofAttributes = attributes.stream().map(each -> ((PlainAttribute) each).where());
+        return Stream.concat(ofAttributes, relations.stream().map(each -> ((PlainRelation) each).where())).toList();
+    }
+
+    @Override
+    public boolean hasEmbeddables() {
+        return hasEmbeddables;
     }
 
     @Override

@@ -73,6 +73,10 @@ final class PlainRelation implements Relation {
         listOrder = order;
     }
 
+    Place where() {
+        return where;
+    }
+
     void stands(int place) {
         this.place = place;
     }
@@ -170,6 +174,21 @@ final class PlainRelation implements Relation {
     @Override
     public void set(Object instance, Object value) {
         where.set(instance, value);
+    }
+
+    @Override
+    public Object held(Object instance) {
+        return where.held(instance);
+    }
+
+    @Override
+    public Object holder(Object instance) {
+        return where.holder(instance);
+    }
+
+    @Override
+    public void hold(Object instance, Object held) {
+        where.hold(instance, held);
     }
 
     @Override

@@ -79,4 +79,13 @@ public interface Relation {
     Object get(Object instance);
 
     void set(Object instance, Object value);
+
+    /** What the application has there: the other instance, its own collection or map, or null. */
+    Object held(Object instance);
+
+    /** As that of an attribute. */
+    Object holder(Object instance);
+
+    /** Puts there what the application had there. */
+    void hold(Object instance, Object held);
 }

@@ -16,6 +16,11 @@ record Through(Place outer, MethodHandle constructor, Place inner) implements Pl
     }
 
     @Override
+    public boolean isOfFields() {
+        return outer.isOfFields() && inner.isOfFields();
+    }
+
+    @Override
     public void set(Object instance, Object value) {
         Object at = outer.get(instance);
         if (at == null) {

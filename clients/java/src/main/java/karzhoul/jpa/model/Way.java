@@ -42,6 +42,25 @@ final class Way implements Place {
     }
 
     @Override
+    public boolean isOfFields() {
+        return !last.isProperty() && steps.stream().noneMatch(step -> step.accessor().isProperty());
+    }
+
+    @Override
+    public MethodHandle reader() {
+        return steps.isEmpty() ? last.reader() : null;
+    }
+
+    @Override
+    public Object holder(Object instance) {
+        Object at = steps.isEmpty() ? null : instance;
+        for (int i = 0; i < steps.size() && at != null; i++) {
+            at = steps.get(i).accessor().isProperty() ? null : steps.get(i).accessor().get(at);
+        }
+        return at;
+    }
+
+    @Override
     public void set(Object instance, Object value) {
         set(instance, 0, value);
     }

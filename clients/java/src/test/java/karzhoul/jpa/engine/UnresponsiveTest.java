@@ -30,6 +30,7 @@ import org.junit.jupiter.api.io.TempDir;
 @Timeout(60)
 class UnresponsiveTest {
     private static final long PATIENCE = 700;
+    private static final String SILENT = "who serves at it doesn't answer: nothing came within ";
 
     /** Within which a server on a busy machine agrees upon TLS. */
     private static final long MORE = 8_000;
@@ -82,7 +83,7 @@ class UnresponsiveTest {
                 one.connect(full.getLocalSocketAddress());
                 queue.add(one);
             }
-            assertEquals("nobody serves at it: Connect timed out", refused(full.getLocalPort(), null, PATIENCE));
+            assertEquals("nobody answers at it: no connection within 700 milliseconds", refused(full.getLocalPort(), null, PATIENCE));
             for (SocketChannel one : queue) {
                 one.close();
             }
@@ -91,21 +92,21 @@ class UnresponsiveTest {
 
     @Test
     void whoSaysNothing() throws Exception {
-        assertEquals("nobody serves at it: nothing came in time; where it speaks TLS, the property karzhoul.tls.ca names"
-            + " the file with the certificates to trust", refused(one -> { }, null));
+        assertEquals(SILENT + "700 milliseconds; where it speaks TLS, the property karzhoul.tls.ca names the file with the"
+            + " certificates to trust", refused(one -> { }, null));
         Path certificate = Certificates.of(folder, "server", "IP:127.0.0.1");
-        assertEquals("nobody speaks TLS at it: nothing came in time", refused(one -> { }, certificate));
+        assertEquals("who serves at it doesn't agree upon TLS: nothing came within 700 milliseconds", refused(one -> { }, certificate));
     }
 
     @Test
     void whoSaysHalfOfIt() throws Exception {
         String half = "{\"ok\":{\"serve\":";
         String said = refused(one -> one.getOutputStream().write(half.getBytes(StandardCharsets.US_ASCII)), null);
-        assertTrue(said.startsWith("nobody serves at it: nothing came in time; "), said);
+        assertTrue(said.startsWith(SILENT + "700 milliseconds; "), said);
         Path certificate = Certificates.of(folder, "server", "IP:127.0.0.1");
         byte[] beginning = {22, 3, 3, 64, 0, 2};                    // of a record that would have 16 KB
         said = refused(one -> one.getOutputStream().write(beginning), certificate);
-        assertEquals("nobody speaks TLS at it: nothing came in time", said);
+        assertEquals("who serves at it doesn't agree upon TLS: nothing came within 700 milliseconds", said);
     }
 
     @Test
@@ -119,8 +120,8 @@ class UnresponsiveTest {
             }
         };
         Path certificate = Certificates.of(folder, "server", "IP:127.0.0.1");
-        assertEquals("nobody speaks TLS at it: nothing came in time", refused(host, certificate));
-        assertTrue(refused(host, null).startsWith("nobody serves at it: nothing came in time; "));
+        assertEquals("who serves at it doesn't agree upon TLS: nothing came within 700 milliseconds", refused(host, certificate));
+        assertTrue(refused(host, null).startsWith(SILENT + "700 milliseconds; "));
     }
 
     @Test
@@ -155,7 +156,7 @@ class UnresponsiveTest {
             while (!line.equals("ACCEPT")) {
                 line = server.inputReader().readLine();
             }
-            assertEquals("nobody serves at it: nothing came in time", refused(port, certificate, MORE));
+            assertEquals(SILENT + "8 seconds", refused(port, certificate, MORE));
         } finally {
             server.destroyForcibly().waitFor();
         }

@@ -79,7 +79,7 @@ class DeadServerTest {
                 assertTrue(waiting.stream().noneMatch(CompletableFuture::isDone), "it let go without waiting for them");
                 for (CompletableFuture<String> each : waiting) {
                     String said = each.get(120, TimeUnit.SECONDS);
-                    assertTrue(said.startsWith("nobody serves at tcp:127.0.0.1:" + port + ": nothing came in time"), said);
+                    assertTrue(said.startsWith("who serves at tcp:127.0.0.1:" + port + " doesn't answer: nothing came within "), said);
                 }
                 assertTrue(System.nanoTime() - start < TimeUnit.SECONDS.toNanos(25), "they waited for each other");
                 first.close();
