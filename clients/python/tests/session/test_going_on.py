@@ -6,6 +6,7 @@ import contextlib
 import threading
 import time
 import unittest
+from functools import partial
 from typing import Any, Callable, Dict, List
 from unittest import mock
 
@@ -25,27 +26,33 @@ class GoesOn(test_runs.RunsTest):
     def calls(self) -> Dict[str, Callable[[karzhoul.EntityManager], Any]]:
         """Each call that a manager can begin with, which says of itself that it was done."""
 
+        def done(call: Callable[[karzhoul.EntityManager], Any]) -> Callable[[karzhoul.EntityManager], bool]:
+            return lambda em: call(em) is None
+
+        def names(entity: Any) -> Any:
+            return entity.name
+
         def begun(manager: karzhoul.EntityManager) -> bool:
             with manager.transaction() as transaction:
                 return transaction.is_active
 
         return {
             "find": lambda em: present(em, "Person", 1).name == "Ada",
-            "find of a class": lambda em: em.find(self.Person, 1).name == "Ada",
+            "find of a class": lambda em: names(em.find(self.Person, 1)) == "Ada",
             "find_many": lambda em: em.find_many("Person", [1, 9])[1] is None,
-            "get_reference": lambda em: em.get_reference("Person", 2).name == "Bob",
+            "get_reference": lambda em: names(em.get_reference("Person", 2)) == "Bob",
             "query": lambda em: em.query("SELECT p.name FROM Person p") == list(NAMES),
             "query_single": lambda em: em.query_single("SELECT COUNT(p) FROM Person p") == 4,
             "page": lambda em: len(em.page("SELECT p FROM Person p", 1, 3, total=True)) == 3,
             "iterate": lambda em: len(list(em.iterate("SELECT p FROM Person p", 3))) == 4,
             "contains": lambda em: em.contains(self.Person(name="Eve")) is False,
-            "clear": lambda em: em.clear() is None,
-            "set_flush_mode": lambda em: em.set_flush_mode(karzhoul.FlushModeType.COMMIT) is None,
+            "clear": done(lambda em: em.clear()),
+            "set_flush_mode": done(lambda em: em.set_flush_mode(karzhoul.FlushModeType.COMMIT)),
             "begin": begun,
-            "persist": lambda em: em.persist(self.Person(name="Eve")) is None,
-            "persist_all": lambda em: em.persist_all(iter([self.Person(name="Eve")])) is None,
+            "persist": done(lambda em: em.persist(self.Person(name="Eve"))),
+            "persist_all": done(lambda em: em.persist_all(iter([self.Person(name="Eve")]))),
             "merge": lambda em: em.merge(self.Person(name="Eve")).name == "Eve",
-            "close": lambda em: em.close() is None,
+            "close": done(lambda em: em.close()),
         }
 
     def setUp(self) -> None:
@@ -90,12 +97,16 @@ class GoesOn(test_runs.RunsTest):
                 present(manager, "Person", 1).name = "Eve"
                 transaction.set_rollback_only()
 
+        def cleared(manager: karzhoul.EntityManager) -> None:
+            manager.find("Person", 1)
+            manager.clear()
+
         def not_found(manager: karzhoul.EntityManager) -> None:
             with contextlib.suppress(karzhoul.EntityNotFound):
                 manager.get_reference("Person", 9)
 
         ways: List[Callable[[karzhoul.EntityManager], Any]] = [
-            lambda em: (em.find("Person", 1), em.clear()),
+            cleared,
             rolled_back,
             refused,
             not_found,
@@ -130,7 +141,10 @@ class GoesOn(test_runs.RunsTest):
             manager = self.app.create_entity_manager()
             way(manager)
             self.app.restart()
-            for call in (manager.transaction().begin, lambda: manager.find("Person", 1)):
+            calls: List[Callable[[], Any]] = [
+                manager.transaction().begin, partial(manager.find, "Person", 1)
+            ]
+            for call in calls:
                 with self.assertRaisesRegex(Restarted, "of before a restart: create another one"):
                     call()
         self.assertEqual(self.names(), list(NAMES))
