@@ -65,13 +65,16 @@ class Orphans(ClassesTest):
             ada, bob = self.it.Member(name="Ada"), self.it.Member(name="Bob")
             manager.persist_all([ada, bob, self.it.Loan(member=ada)])
 
+    def members(self, manager: karzhoul.EntityManager) -> List[Any]:
+        return list(manager.find_many("Member", [1, 2]))
+
     def loans(self) -> List[Any]:
         with self.app.begin() as manager:
             return list(manager.query("SELECT l.member.name FROM Loan l"))
 
     def test_by_remove_and_append_it_is_removed(self) -> None:
         with self.app.begin() as manager:
-            ada, bob = manager.find_many("Member", [1, 2])
+            ada, bob = self.members(manager)
             loan = ada.loans[0]
             ada.loans.remove(loan)
             bob.loans.append(loan)
@@ -81,7 +84,7 @@ class Orphans(ClassesTest):
     def test_by_its_own_side_it_moves(self) -> None:
         for is_read in (False, True):
             with self.app.begin() as manager:
-                ada, bob = manager.find_many("Member", [1, 2])
+                ada, bob = self.members(manager)
                 if is_read:
                     self.assertEqual((len(ada.loans), len(bob.loans)), (0, 1))
                 manager.get_reference("Loan", 1).member = ada if is_read else bob

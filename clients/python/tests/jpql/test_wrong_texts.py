@@ -14,7 +14,7 @@ from typing import Any, Dict, List, Mapping, Tuple, Union
 import karzhoul
 from karzhoul.explain.limits import kind_of
 from karzhoul.jpql import statements as jpql
-from karzhoul.jpql.check import INT, TEXT, Kind, Kinds, check
+from karzhoul.jpql.check import INT, TEXT, Kinds, check
 from karzhoul.mapping.unit import entities_of
 
 from ..support import PROGRAM, TOP
@@ -98,7 +98,7 @@ OTHERS: List[Tuple[str, str, str, str]] = [
     ("ORDER BY COUNT(p)", TYPING, "8: p.id", "stands neither in GROUP BY nor within COUNT, SUM, MIN or MAX"),
 ]
 VALUES: Mapping[str, Union[int, List[int], List[str]]] = {"n": 1, "ns": [1, 2], "ts": ["a"]}
-KINDS: Dict[str, Union[Kind, List[Kind]]] = {"n": INT, "ns": [INT, INT], "ts": [TEXT]}
+KINDS: Dict[str, Any] = {"n": INT, "ns": [INT, INT], "ts": [TEXT]}
 
 
 def _texts() -> List[Tuple[str, str, str, str]]:

@@ -1,0 +1,217 @@
+"""Managers that hold nothing go on in a new run of the program."""
+
+from __future__ import annotations
+
+import contextlib
+import threading
+import time
+import unittest
+from functools import partial
+from typing import Any, Callable, Dict, List
+from unittest import mock
+
+import karzhoul
+from karzhoul import LifecycleEvent, Restarted
+
+from ..steps import interrupted_at_step
+from ..support import needs_program, present
+from . import test_runs
+from .test_runs import NAMES
+
+
+@needs_program
+class GoesOn(test_runs.RunsTest):
+    """A manager that has no object and no open transaction goes on in the next run."""
+
+    def calls(self) -> Dict[str, Callable[[karzhoul.EntityManager], Any]]:
+        """Each call that a manager can begin with, which says of itself that it was done."""
+
+        def done(call: Callable[[karzhoul.EntityManager], Any]) -> Callable[[karzhoul.EntityManager], bool]:
+            return lambda em: call(em) is None
+
+        def names(entity: Any) -> Any:
+            return entity.name
+
+        def begun(manager: karzhoul.EntityManager) -> bool:
+            with manager.transaction() as transaction:
+                return transaction.is_active
+
+        return {
+            "find": lambda em: present(em, "Person", 1).name == "Ada",
+            "find of a class": lambda em: names(em.find(self.Person, 1)) == "Ada",
+            "find_many": lambda em: em.find_many("Person", [1, 9])[1] is None,
+            "get_reference": lambda em: names(em.get_reference("Person", 2)) == "Bob",
+            "query": lambda em: em.query("SELECT p.name FROM Person p") == list(NAMES),
+            "query_single": lambda em: em.query_single("SELECT COUNT(p) FROM Person p") == 4,
+            "page": lambda em: len(em.page("SELECT p FROM Person p", 1, 3, total=True)) == 3,
+            "iterate": lambda em: len(list(em.iterate("SELECT p FROM Person p", 3))) == 4,
+            "contains": lambda em: em.contains(self.Person(name="Eve")) is False,
+            "clear": done(lambda em: em.clear()),
+            "set_flush_mode": done(lambda em: em.set_flush_mode(karzhoul.FlushModeType.COMMIT)),
+            "begin": begun,
+            "persist": done(lambda em: em.persist(self.Person(name="Eve"))),
+            "persist_all": done(lambda em: em.persist_all(iter([self.Person(name="Eve")]))),
+            "merge": lambda em: em.merge(self.Person(name="Eve")).name == "Eve",
+            "close": done(lambda em: em.close()),
+        }
+
+    def setUp(self) -> None:
+        super().setUp()
+        warnings = mock.patch("warnings.warn")  # Of what a close loses.
+        warnings.start()
+        self.addCleanup(warnings.stop)
+
+    def test_each_call_after_a_restart(self) -> None:
+        for name, call in self.calls().items():
+            with self.subTest(name):
+                with self.app.create_entity_manager() as manager:
+                    self.app.restart()
+                    self.assertIs(call(manager), True)
+        self.assertEqual(self.names(), list(NAMES))
+
+    def test_each_call_that_waits_while_another_thread_restarts(self) -> None:
+        """Its line is spelled for the run before."""
+        for name, call in self.calls().items():
+            if name in ("contains", "persist", "persist_all", "merge"):
+                continue  # Of an object of before.
+            with self.subTest(name):
+                with self.app.create_entity_manager() as manager:
+                    told: List[Any] = []
+                    thread = threading.Thread(target=lambda: told.append(call(manager)))
+                    with self.app._lock:
+                        thread.start()
+                        time.sleep(0.05)  # So that it has spelled its line, and waits.
+                        self.app.restart()
+                    thread.join()
+                    self.assertEqual(told, [True])
+        self.assertEqual(self.names(), list(NAMES))
+
+    def test_what_has_no_object_any_more(self) -> None:
+        def rolled_back(manager: karzhoul.EntityManager) -> None:
+            with contextlib.suppress(ZeroDivisionError), manager.transaction():
+                present(manager, "Person", 1).name = "Eve"
+                raise ZeroDivisionError
+
+        def refused(manager: karzhoul.EntityManager) -> None:
+            with contextlib.suppress(karzhoul.Rollback), manager.transaction() as transaction:
+                present(manager, "Person", 1).name = "Eve"
+                transaction.set_rollback_only()
+
+        def cleared(manager: karzhoul.EntityManager) -> None:
+            manager.find("Person", 1)
+            manager.clear()
+
+        def not_found(manager: karzhoul.EntityManager) -> None:
+            with contextlib.suppress(karzhoul.EntityNotFound):
+                manager.get_reference("Person", 9)
+
+        ways: List[Callable[[karzhoul.EntityManager], Any]] = [
+            cleared,
+            rolled_back,
+            refused,
+            not_found,
+            lambda em: em.find("Person", 9),
+            lambda em: em.find_many("Person", [8, 9]),
+            lambda em: em.query("SELECT p.name, p.id FROM Person p"),
+            lambda em: em.query("SELECT p FROM Person p WHERE p.id > 9"),
+            lambda em: em.transaction().begin().commit(),
+        ]
+        for way in ways:
+            with self.app.create_entity_manager() as manager:
+                way(manager)
+                self.app.restart()
+                with manager.transaction():
+                    self.assertEqual(present(manager, "Person", 1).name, "Ada")
+
+    def test_what_has_one_is_of_before(self) -> None:
+        ways: List[Callable[[karzhoul.EntityManager], Any]] = [
+            lambda em: em.find("Person", 1),
+            lambda em: em.find_many("Person", [9, 1]),
+            lambda em: em.get_reference("Person", 1),
+            lambda em: em.query("SELECT p FROM Person p WHERE p.id = 1"),
+            lambda em: em.query("SELECT p.name, p FROM Person p"),
+            lambda em: em.persist(self.Person(name="Eve")),
+            lambda em: em.persist_all([self.Person(name="Eve")]),
+            lambda em: em.merge(self.Person(name="Eve")),
+            lambda em: em.transaction().begin(),
+            lambda em: em.transaction().begin() and em.find("Person", 1),
+            lambda em: em.close(),
+        ]
+        for way in ways:
+            manager = self.app.create_entity_manager()
+            way(manager)
+            self.app.restart()
+            calls: List[Callable[[], Any]] = [
+                manager.transaction().begin, partial(manager.find, "Person", 1)
+            ]
+            for call in calls:
+                with self.assertRaisesRegex(Restarted, "of before a restart: create another one"):
+                    call()
+        self.assertEqual(self.names(), list(NAMES))
+
+    def test_several_restarts(self) -> None:
+        with self.app.create_entity_manager() as manager:
+            for _ in range(3):
+                self.app.restart()
+                self.app.restart()
+                with manager.transaction():
+                    pass
+            manager.persist(self.Person(name="Eve"))
+            with manager.transaction():
+                pass
+        self.assertEqual(self.names(), [*NAMES, "Eve"])
+
+    def test_its_flush_mode(self) -> None:
+        with self.app.create_entity_manager() as manager:
+            manager.set_flush_mode(karzhoul.FlushModeType.COMMIT)
+            self.app.restart()
+            with manager.transaction():
+                manager.persist(self.Person(name="Eve"))
+                self.assertEqual(manager.query_single("SELECT COUNT(p) FROM Person p"), 4)
+        self.assertEqual(self.names(), [*NAMES, "Eve"])
+
+    def test_a_program_that_is_started_again(self) -> None:
+        with self.app.create_entity_manager() as manager:
+            self.app.program.kill()
+            self.app.reopen()
+            self.assertEqual(present(manager, "Person", 1).name, "Ada")
+
+    def test_a_callback_that_restarts(self) -> None:
+        """What was found before it is of before."""
+        done: List[int] = []
+
+        def callback(event: karzhoul.Event) -> None:
+            if not done:
+                done.append(1)
+                self.app.restart()
+
+        self.app.listen(callback, LifecycleEvent.POST_LOAD)
+        manager = self.app.create_entity_manager()
+        manager.find("Person", 1)
+        with self.assertRaises(Restarted):
+            manager.find("Person", 1)
+
+    def test_an_interrupt_at_any_step(self) -> None:
+        """The manager goes on, or is of before as one whose find may have loaded something; and
+        none is left open."""
+        gone_on = 0
+        for step in range(1, 400):
+            with self.app.create_entity_manager() as manager:
+                self.app.restart()
+                was_interrupted = interrupted_at_step(step, lambda: manager.find("Person", 9))
+                with contextlib.suppress(Restarted):
+                    self.assertIsNone(manager.find("Person", 9))
+                    gone_on += 1
+            managers = [self.app.create_entity_manager() for _ in range(16)]
+            for each in managers:
+                each.close()
+            if not was_interrupted:
+                break
+        else:
+            self.fail("a call that goes on has more steps")
+        self.assertGreater(step, 20)
+        self.assertGreater(gone_on, 10)
+
+
+if __name__ == "__main__":
+    unittest.main()
