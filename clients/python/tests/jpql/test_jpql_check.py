@@ -40,14 +40,17 @@ class Worked(unittest.TestCase):
     def test_which_texts_are_statements(self) -> None:
         count = 0
         for head, *lines in blocks("queries"):
-            language: LanguageName = "wide" if head.startswith("wide ") else "profile"
+            kind = head.split(" ")[0]
+            language: LanguageName = "wide" if kind in ("wide", "repeated-wide") else "profile"
+            lists = [line[2:].split(" ") for line in lines if kind == "wide" and line[:1] == "="]
+            given: Dict[str, Optional[Kind]] = {name: [None] * int(count) for name, count in lists}
             texts = list(pairs(lines))
-            if head.startswith("repeated "):
+            if kind in ("repeated", "repeated-wide"):
                 front, again, back = (unescaped(line) for line in lines if line[:1] == ">")
                 texts = [(front + int(lines[0][2:]) * again + back, lines[-1][2:])]
             for text, answer in texts:
                 count += 1
-                found = check(text, {}, {}, language)
+                found = check(text, {}, given, language)
                 told = found[0].refusal if found else None
                 with self.subTest(head, text=text):
                     if answer in ("syntax", "limit"):
