@@ -43,7 +43,7 @@ class Worked(unittest.TestCase):
             kind = head.split(" ")[0]
             language: LanguageName = "wide" if kind in ("wide", "repeated-wide") else "profile"
             lists = [line[2:].split(" ") for line in lines if kind == "wide" and line[:1] == "="]
-            given: Dict[str, Optional[Kind]] = {name: [None] * int(count) for name, count in lists}
+            given: Kinds = {name: [None] * int(size) for name, size in lists}
             texts = list(pairs(lines))
             if kind in ("repeated", "repeated-wide"):
                 front, again, back = (unescaped(line) for line in lines if line[:1] == ">")
