@@ -176,7 +176,7 @@ UNREAD = [
     "TRIM('x' n.t)", "TRIM('x' FROM)", "TRIM(BOTH LEADING FROM n.t)", "TRIM('x' LEADING FROM n.t)",
     "TRIM(n.u FROM n.t)", "TRIM(LEADING n.u FROM n.t)", "TRIM(7 FROM n.t)", "TRIM(UPPER('x') FROM n.t)",
     "TRIM(('x') FROM n.t)", "TRIM('x' 'y' FROM n.t)", "TRIM(NULL FROM n.t)", "TRIM(:a :b FROM n.t)",
-    "TRIM('x' FROM n.t, n.u)", "LEADING(n.t)", "CASE WHEN n.id = 1 THEN 1 ELSE 2 END", "n.t AS trim", "n.t end",
+    "TRIM('x' FROM n.t, n.u)", "LEADING(n.t)", "CASE WHEN n.id = 1 THEN 1 END", "n.t AS trim", "n.t end",
 ]
 UNREAD_TEXTS = [
     "SELECT n.id FROM Note n GROUP BY UPPER(n.t)", "SELECT n.id FROM Note n ORDER BY UPPER(n.t",
