@@ -144,6 +144,14 @@ final class Flush {
                 new Operations(context).remove(orphan);
             }
         }
+        if (unfit.stream().anyMatch(value -> isRemoved(value.entry()))) {
+            Set<Entry> revived = Revived.of(context);
+            unfit = unfit.stream().filter(value -> !isRemoved(value.entry()) || revived.contains(value.entry())).toList();
+        }
+    }
+
+    private static boolean isRemoved(Entry entry) {
+        return entry.state() == Entry.State.REMOVED;
     }
 
     /** Asks which callbacks are due, and runs those that didn't; answers whether there were any. */
