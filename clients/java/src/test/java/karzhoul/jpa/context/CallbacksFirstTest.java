@@ -44,6 +44,7 @@ class CallbacksFirstTest {
         @Transient int heard;
         @Transient boolean isLeft;
         @Transient Plain also;
+        @Transient Bill other;
 
         static Bill of(String amount) {
             Bill bill = new Bill();
@@ -69,6 +70,9 @@ class CallbacksFirstTest {
             words.removeIf(LONG::equals);
             if (also != null) {
                 also.amount = new BigDecimal("9.00");
+            }
+            if (other != null) {
+                other.amount = new BigDecimal("7.777");
             }
         }
     }
@@ -359,5 +363,22 @@ class CallbacksFirstTest {
             line.amount = new BigDecimal("2.005");
         });
         assertEquals("Line 1.amount can't be stored: 2.005", words.substring(0, 36));
+    }
+
+    @Test
+    void whoIsGivenAValueByACallbackOfAnotherOneHearsItsOwn() {
+        commit(() -> manager.persist(Bill.of("1.00")));
+        for (boolean isRead : new boolean[] {true, false}) {
+            Bill bill = stored();
+            Bill other = isRead ? manager.find(Bill.class, 2L) : manager.getReference(Bill.class, 2L);
+            commit(() -> {
+                bill.other = other;
+                bill.title = "with " + isRead;
+            });
+            assertEquals(1, other.heard);
+            manager.clear();
+            assertEquals(new BigDecimal("7.77"), manager.find(Bill.class, 2L).amount);
+            commit(() -> manager.find(Bill.class, 2L).amount = BigDecimal.ONE);
+        }
     }
 }
