@@ -44,6 +44,7 @@ final class Fill {
     private final Set<Long> merged = new HashSet<>();
     private final List<Entry> copying = new ArrayList<>();
     private final Map<Entry, Written> written = new LinkedHashMap<>();
+    private final Set<Entry> wereHollow = new HashSet<>();
     private List<Told> unread = new ArrayList<>();
 
     Fill(Context context) {
@@ -65,12 +66,13 @@ final class Fill {
             return null;
         }
         long number = replies[0].number();
-        if (number == next[0] && !replies[1].isRefused()) {
-            take(number, (Shown) replies[1].list().get(0));
-        } else {
-            want(number);
-        }
-        complete();
+        complete(() -> {
+            if (number == next[0] && !replies[1].isRefused()) {
+                take(number, (Shown) replies[1].list().get(0));
+            } else {
+                want(number);
+            }
+        });
         return entry(number);
     }
 
@@ -90,20 +92,24 @@ final class Fill {
 
     /** As {@link #entries(List)}, where the object of a number was shown already; null where none was. */
     List<Entry> entries(List<?> refs, long number, Shown shown) {
-        if (shown != null && refs.contains(new Ref(number)) && identities.of(number) == null) {
-            take(number, shown);
-        }
-        return entries(refs);
+        boolean isNew = shown != null && refs.contains(new Ref(number)) && identities.of(number) == null;
+        return entries(refs, isNew ? () -> take(number, shown) : () -> {});
     }
 
     /** The entries of these objects, each filled; null for null. */
     List<Entry> entries(List<?> refs) {
-        for (Object ref : refs) {
-            if (ref != null) {
-                want(((Ref) ref).number());
+        return entries(refs, () -> {});
+    }
+
+    private List<Entry> entries(List<?> refs, Runnable first) {
+        complete(() -> {
+            first.run();
+            for (Object ref : refs) {
+                if (ref != null) {
+                    want(((Ref) ref).number());
+                }
             }
-        }
-        complete();
+        });
         List<Entry> entries = new ArrayList<>(refs.size());
         for (Object ref : refs) {
             entries.add(ref == null ? null : entry(((Ref) ref).number()));
@@ -232,12 +238,53 @@ final class Fill {
 
     /** Asks for what is wanted until nothing is, and gives all its relations; then PostLoad runs. */
     private void complete() {
+        complete(() -> {});
+    }
+
+    /** As that, after this; what was written to proxies is written again also where reading them fails. */
+    private void complete(Runnable first) {
+        Throwable failed = null;
         try {
+            first.run();
             readAll();
+        } catch (RuntimeException | Error e) {
+            failed = e;
+            if (isHalf()) {
+                context.marked(e);
+            }
+            throw e;
         } finally {
-            Map<Entry, Written> now = new LinkedHashMap<>(written);
-            written.clear();
-            now.forEach((entry, over) -> over.over(entry.instance()));
+            wereHollow.clear();
+            writeAgain(failed);
+        }
+    }
+
+    /** Whether something is read in part. */
+    private boolean isHalf() {
+        return !links.isEmpty() || !collections.isEmpty() || !loaded.isEmpty() || !wereHollow.isEmpty();
+    }
+
+    /** One that throws, as a setter may, doesn't keep the others from it. */
+    private void writeAgain(Throwable failed) {
+        Map<Entry, Written> now = new LinkedHashMap<>(written);
+        written.clear();
+        RuntimeException first = null;
+        for (Map.Entry<Entry, Written> each : now.entrySet()) {
+            try {
+                each.getValue().over(each.getKey().instance());
+            } catch (RuntimeException e) {
+                context.marked(e);
+                if (failed != null) {
+                    failed.addSuppressed(e);
+                } else if (first == null) {
+                    first = e;
+                } else {
+                    first.addSuppressed(e);
+                }
+            }
+        }
+        if (first != null) {
+            throw first;
         }
     }
 
@@ -296,6 +343,7 @@ final class Fill {
     private void take(long number, Shown shown) {
         EntityModel model = context.factory().mapped(shown.entity());
         Object[] values = shown.values();
+        Object[] converted = converted(model, values);      // a converter that throws leaves all as it was
         List<Object> key = List.of(Arrays.copyOf(values, model.key().parts().size()));
         Entry entry = entryFor(number, model, key);
         if (entry.isHollow()) {
@@ -305,7 +353,7 @@ final class Fill {
             entry.stored(true);
             entry.clean();
         }
-        values(entry, values);
+        values(entry, values, converted);
         List<Relation> relations = model.relations();
         for (int i = 0; i < relations.size(); i++) {
             relation(entry, relations.get(i), shown.relations()[i]);
@@ -323,6 +371,7 @@ final class Fill {
         Written over = proxy.written();
         proxy.blank(null);
         proxy.hollow(false);
+        wereHollow.add(proxy);
         if (over != null) {
             written.put(proxy, over);
         }
@@ -370,11 +419,20 @@ final class Fill {
         return entry;
     }
 
-    private static void values(Entry entry, Object[] columns) {
+    private static Object[] converted(EntityModel model, Object[] columns) {
+        List<Attribute> attributes = model.attributes();
+        Object[] converted = new Object[columns.length];
+        for (int i = 0; i < columns.length; i++) {
+            converted[i] = attributes.get(i).codec().toAttribute(columns[i]);
+        }
+        return converted;
+    }
+
+    private static void values(Entry entry, Object[] columns, Object[] converted) {
         List<Attribute> attributes = entry.model().attributes();
         for (int i = 0; i < columns.length; i++) {
             Attribute attribute = attributes.get(i);
-            Object value = attribute.codec().toAttribute(columns[i]);
+            Object value = converted[i];
             attribute.set(entry.instance(), value);
             // null has become the zero of a primitive, which is no change
             entry.values[i] = columns[i] == null ? Values.kept(attribute, attribute.get(entry.instance()))
@@ -393,11 +451,16 @@ final class Fill {
     }
 
     private void collection(Entry entry, Relation relation, Object told) {
+        boolean wasHollow = wereHollow.contains(entry);
         if (told != Shown.UNREAD) {
+            if (wasHollow) {
+                relation.set(entry.instance(), Lazy.of(entry, relation));
+            }
             read(new Told(entry, relation, told));
             return;
         }
-        if (relation.get(entry.instance()) instanceof Lazy lazy && lazy.owner() == entry) {
+        // what was written to a proxy is not judged as it is read: callbacks may make it fit
+        if (!wasHollow && relation.get(entry.instance()) instanceof Lazy lazy && lazy.owner() == entry) {
             lazy.forget();
             entry.unread(relation, lazy);
         } else {

@@ -108,7 +108,7 @@ final class Flush {
             }
             int before = queue.count();
             push();
-            if (queue.count() == before) {
+            if (queue.count() == before && unfit.stream().noneMatch(value -> isToHear(value.entry()))) {
                 break;
             }
         }
@@ -124,13 +124,18 @@ final class Flush {
         boolean isNew = false;
         for (Push.Unfit value : unfit) {
             Entry entry = value.entry();
-            boolean isDue = entry.isManaged() && entry.isStored() && entry.model().callbacks().hears(Callbacks.Event.PreUpdate);
-            if (isDue && unfitHeard.add(entry)) {
+            if (isToHear(entry)) {
+                unfitHeard.add(entry);
                 isNew = true;
                 context.runAhead(Callbacks.Event.PreUpdate, entry);
             }
         }
         return isNew;
+    }
+
+    private boolean isToHear(Entry entry) {
+        return entry.isManaged() && entry.isStored() && entry.model().callbacks().hears(Callbacks.Event.PreUpdate)
+            && !unfitHeard.contains(entry);
     }
 
     private void push() {
@@ -144,6 +149,14 @@ final class Flush {
                 new Operations(context).remove(orphan);
             }
         }
+        if (unfit.stream().anyMatch(value -> isRemoved(value.entry()))) {
+            Set<Entry> revived = Revived.of(context);
+            unfit = unfit.stream().filter(value -> !isRemoved(value.entry()) || revived.contains(value.entry())).toList();
+        }
+    }
+
+    private static boolean isRemoved(Entry entry) {
+        return entry.state() == Entry.State.REMOVED;
     }
 
     /** Asks which callbacks are due, and runs those that didn't; answers whether there were any. */

@@ -2,6 +2,7 @@ package karzhoul.jpa.context;
 
 import static org.junit.jupiter.api.Assertions.assertEquals;
 import static org.junit.jupiter.api.Assertions.assertInstanceOf;
+import static org.junit.jupiter.api.Assertions.assertNull;
 import static org.junit.jupiter.api.Assertions.assertThrows;
 
 import jakarta.persistence.CascadeType;
@@ -43,6 +44,7 @@ class CallbacksFirstTest {
         @Transient int heard;
         @Transient boolean isLeft;
         @Transient Plain also;
+        @Transient Bill other;
 
         static Bill of(String amount) {
             Bill bill = new Bill();
@@ -68,6 +70,9 @@ class CallbacksFirstTest {
             words.removeIf(LONG::equals);
             if (also != null) {
                 also.amount = new BigDecimal("9.00");
+            }
+            if (other != null) {
+                other.amount = new BigDecimal("7.777");
             }
         }
     }
@@ -301,5 +306,79 @@ class CallbacksFirstTest {
     void persistCallsThemFirstAsBefore() {
         commit(() -> manager.persist(Bill.of("2.005")));
         assertEquals(new BigDecimal("2.00"), manager.find(Bill.class, 2L).amount);
+    }
+
+    @Test
+    void whatIsRemovedIsNotJudged() {
+        commit(() -> {
+            stored().add(1, "1.00");
+            manager.persist(Bill.of("1.00"));
+            manager.persist(Bill.of("1.00"));
+        });
+        commit(() -> {
+            Bill bill = stored();
+            bill.amount = new BigDecimal("2.005");
+            bill.lines.get(0).amount = new BigDecimal("2.005");
+            manager.remove(bill);
+            manager.flush();
+            Bill second = manager.find(Bill.class, 2L);
+            manager.remove(second);
+            second.isLeft = true;
+            second.amount = new BigDecimal("2.005");
+            second.title = null;
+            Bill third = Bill.of("2.005");
+            third.id = 3L;
+            third.title = "third";
+            manager.remove(manager.merge(third));
+            Plain plain = manager.find(Plain.class, 1L);
+            plain.amount = new BigDecimal("2.005");
+            manager.remove(plain);
+        });
+        manager.clear();
+        assertEquals(List.of(), manager.createQuery("SELECT b FROM Bill b", Bill.class).getResultList());
+        assertEquals(List.of(), manager.createQuery("SELECT l FROM Line l", Line.class).getResultList());
+        assertEquals(List.of(), manager.createQuery("SELECT p FROM Plain p", Plain.class).getResultList());
+    }
+
+    @Test
+    void whatIsRemovedBesideAnUnreadList() {
+        commit(() -> stored().add(1, "1.00"));
+        manager.clear();
+        commit(() -> {
+            manager.find(Bill.class, 1L);
+            Line line = manager.find(Line.class, 1L);
+            line.amount = new BigDecimal("2.005");
+            manager.remove(line);
+        });
+        manager.clear();
+        assertNull(manager.find(Line.class, 1L));
+    }
+
+    @Test
+    void whatIsRemovedAndLedToIsJudged() {
+        commit(() -> stored().add(1, "1.00"));
+        String words = refused(() -> {
+            Line line = stored().lines.get(0);
+            manager.remove(line);
+            line.amount = new BigDecimal("2.005");
+        });
+        assertEquals("Line 1.amount can't be stored: 2.005", words.substring(0, 36));
+    }
+
+    @Test
+    void whoIsGivenAValueByACallbackOfAnotherOneHearsItsOwn() {
+        commit(() -> manager.persist(Bill.of("1.00")));
+        for (boolean isRead : new boolean[] {true, false}) {
+            Bill bill = stored();
+            Bill other = isRead ? manager.find(Bill.class, 2L) : manager.getReference(Bill.class, 2L);
+            commit(() -> {
+                bill.other = other;
+                bill.title = "with " + isRead;
+            });
+            assertEquals(1, other.heard);
+            manager.clear();
+            assertEquals(new BigDecimal("7.77"), manager.find(Bill.class, 2L).amount);
+            commit(() -> manager.find(Bill.class, 2L).amount = BigDecimal.ONE);
+        }
     }
 }

@@ -12,10 +12,13 @@ import static org.junit.jupiter.api.Assertions.assertTrue;
 import jakarta.persistence.Access;
 import jakarta.persistence.AccessType;
 import jakarta.persistence.AssociationOverride;
+import jakarta.persistence.AttributeConverter;
 import jakarta.persistence.AttributeOverride;
 import jakarta.persistence.Basic;
 import jakarta.persistence.CascadeType;
 import jakarta.persistence.Column;
+import jakarta.persistence.Convert;
+import jakarta.persistence.Converter;
 import jakarta.persistence.ElementCollection;
 import jakarta.persistence.Embeddable;
 import jakarta.persistence.Entity;
@@ -39,6 +42,7 @@ import java.io.ObjectInputStream;
 import java.io.ObjectOutputStream;
 import java.io.Serializable;
 import java.math.BigDecimal;
+import java.math.RoundingMode;
 import java.util.ArrayList;
 import java.util.Date;
 import java.util.HashMap;
@@ -149,12 +153,64 @@ class WrittenProxyTest {
         }
     }
 
+    @Embeddable
+    static class Home {
+        @Column(precision = 12, scale = 2) BigDecimal rent;
+
+        protected Home() {}
+
+        Home(String rent) {
+            this.rent = new BigDecimal(rent);
+        }
+    }
+
+    @Converter
+    static class Fails implements AttributeConverter<String, String> {
+        static boolean isNext;
+
+        @Override
+        public String convertToDatabaseColumn(String text) {
+            return text;
+        }
+
+        @Override
+        public String convertToEntityAttribute(String text) {
+            if (isNext) {
+                isNext = false;
+                throw new IllegalStateException("converter");
+            }
+            return text;
+        }
+    }
+
+    @Entity
+    static class Person {
+        @Id Long id;
+        @Version int version;
+        String name = "init";
+        int age;
+        @Convert(converter = Fails.class) String motto;
+        String zone;
+        @ElementCollection List<Home> homes = new ArrayList<>();
+        @ElementCollection List<String> words = new ArrayList<>();
+        @Transient boolean rounds;
+
+        String getName() {
+            return name;
+        }
+
+        @PreUpdate
+        void update() {
+            homes.forEach(home -> home.rent = rounds ? home.rent.setScale(2, RoundingMode.HALF_UP) : home.rent);
+        }
+    }
+
     private Factory factory;
     private Manager manager;
 
     @BeforeEach
     void open() {
-        factory = Units.over("karzhoul:memory", Part.class, Owned.class);
+        factory = Units.over("karzhoul:memory", Part.class, Owned.class, Person.class);
         manager = (Manager) factory.createEntityManager();
         Part one = new Part(1);
         one.number = 5;
@@ -183,6 +239,25 @@ class WrittenProxyTest {
             manager.persist(owned);
         });
         manager.clear();
+    }
+
+    /** A reference to a person that is stored, of which nothing was read. */
+    private Person person() {
+        Person person = new Person();
+        person.id = 1L;
+        person.name = "row";
+        person.age = 33;
+        person.motto = "m";
+        person.zone = "z";
+        person.homes.add(new Home("1.00"));
+        person.words.add("l");
+        commit(() -> manager.persist(person));
+        manager.clear();
+        return manager.getReference(Person.class, 1L);
+    }
+
+    private static List<String> rents(Person person) {
+        return person.homes.stream().map(home -> home.rent.toString()).toList();
     }
 
     @AfterEach
@@ -553,5 +628,118 @@ class WrittenProxyTest {
         assertEquals("by hand", owned.getName());
         assertEquals(List.of("w"), owned.getWords());
         assertTrue(LoadStates.isRead(owned));
+    }
+
+    @Test
+    void besideAnElementThatDoesNotFit() {
+        Person person = person();
+        Home home = new Home("2.999");
+        commit(() -> {
+            person.name = "written";
+            person.homes.add(home);
+            assertEquals("written", person.getName(), "what is read isn't judged");
+            home.rent = new BigDecimal("3.00");
+        });
+        manager.clear();
+        Person stored = manager.find(Person.class, 1L);
+        assertEquals("written", stored.name);
+        assertEquals(33, stored.age);
+        assertEquals(List.of("1.00", "3.00"), rents(stored));
+    }
+
+    @Test
+    void anElementThatDoesNotFitIsRefusedByTheFlush() {
+        Person person = person();
+        Throwable cause = refused(() -> {
+            person.name = "written";
+            person.homes.add(new Home("2.999"));
+            person.getName();
+        });
+        assertEquals("Person.homes can't be stored", cause.getMessage().substring(0, 28));
+        assertEquals("written", person.name);
+    }
+
+    @Test
+    void anElementThatPreUpdateMakesFit() {
+        Person person = person();
+        commit(() -> {
+            person.rounds = true;
+            person.homes = new ArrayList<>(List.of(new Home("2.999")));
+        });
+        manager.clear();
+        Person again = manager.getReference(Person.class, 1L);
+        commit(() -> {
+            again.rounds = true;
+            again.homes.add(new Home("4.999"));
+        });
+        manager.clear();
+        assertEquals(List.of("3.00", "5.00"), rents(manager.find(Person.class, 1L)));
+    }
+
+    @Test
+    void aConverterThatThrowsLeavesIt() {
+        for (boolean isIn : new boolean[] {true, false}) {
+            Person person = isIn ? person() : manager.getReference(Person.class, 1L);
+            String written = "written" + isIn;
+            if (isIn) {
+                manager.getTransaction().begin();
+            }
+            person.name = written;
+            person.zone = written;
+            person.words.add(written);
+            Fails.isNext = true;
+            assertThrows(PersistenceException.class, person::getName);
+            assertFalse(LoadStates.isRead(person));
+            assertEquals(written, person.name);
+            if (isIn) {
+                manager.getTransaction().commit();
+            } else {
+                commit(() -> {});
+            }
+            manager.clear();
+            Person stored = manager.find(Person.class, 1L);
+            assertEquals(written, stored.name);
+            assertEquals(written, stored.zone);
+            assertEquals(written, stored.words.get(stored.words.size() - 1));
+            assertEquals("m", stored.motto);
+            assertEquals(33, stored.age);
+            manager.clear();
+        }
+    }
+
+    @Test
+    void outsideOfATransactionBesideAnElementThatDoesNotFit() {
+        person();
+        List<Runnable> reads = List.of(() -> manager.getReference(Person.class, 1L).getName(),
+            () -> manager.find(Person.class, 1L),
+            () -> manager.createQuery("SELECT p FROM Person p WHERE p.id = 1", Person.class).getResultList(),
+            () -> {});
+        for (int i = 0; i < reads.size(); i++) {
+            manager.clear();
+            Person person = manager.getReference(Person.class, 1L);
+            person.zone = "written " + i;
+            person.words = new ArrayList<>(List.of("w" + i));
+            person.homes = new ArrayList<>(List.of(new Home("2.999")));
+            reads.get(i).run();
+            assertEquals("2.999", person.homes.get(0).rent.toString());
+            person.homes.get(0).rent = new BigDecimal(i + ".00");
+            commit(() -> {});
+            manager.clear();
+            Person stored = manager.find(Person.class, 1L);
+            assertEquals("written " + i, stored.zone);
+            assertEquals("row", stored.name);
+            assertEquals(List.of("w" + i), List.copyOf(stored.words));
+            assertEquals(List.of(i + ".00"), rents(stored));
+        }
+    }
+
+    @Test
+    void refreshLetsGoOfAnElementThatDoesNotFit() {
+        Person person = person();
+        commit(() -> {
+            person.homes.add(new Home("2.999"));
+            manager.refresh(person);
+        });
+        assertEquals(List.of("1.00"), rents(person));
     }
 }
