@@ -166,6 +166,7 @@ class Reader:
                 self._check_part(scope[words[0]], found.member, each.value)
             if each.value is not None:
                 self._alike([each.value], scope, target)
+                self._check_set(each.value, target, scope)
                 self._within(each.value, scope)
         self._within(statement.where, scope)
 
@@ -280,6 +281,41 @@ class Reader:
                 f"an UPDATE sets {entity}.{part.said}, and {whole} may be None, of which it is no "
                 f"part: assign a whole {name} to the objects, as it.{name} = it.{name}.replace(..)"
             )
+
+    def _check_set(self, value: Node, target: Typed, scope: Scope) -> None:
+        """Refuses that an UPDATE stores what may be none of an attribute's type. What is of a scale
+        is whole numbers, which arithmetic of that scale gives too."""
+        if target is None or target[0].is_plain or isinstance(target[0], _SCALED):
+            return
+        part = self._unsure(value, target[0], scope)
+        if part is None:
+            return
+        other = self._type(part, scope) if part.sort == "path" else None
+        computed = f"{cut(self._text[part.at : part.end])}, which the query computes"
+        given = computed if other is None else f"{other[1]}, {other[0].what}"
+        raise WrongValue(
+            f"an UPDATE sets {target[1]}, {target[0].what}, to {given}: what is stored of that may "
+            "be none of its type, so hand it in as a parameter, or take an attribute of its type"
+        )
+
+    def _unsure(self, node: Node, kind: StoredType, scope: Scope) -> Optional[Node]:
+        """The first part of a value that may be none of a type which has no arithmetic. Literals
+        and parameters are converted; a path that ends in no value is the program's to refuse."""
+        if node.sort in ("literal", "parameter"):
+            return None
+        if node.sort == "signed" and node.parts[0].sort == "literal":
+            return None
+        if node.sort == "path":
+            other = self._type(node, scope)
+            return None if other is None or kind.reads(other[0]) else node
+        results: Sequence[Node] = (
+            jpql.branches_of(node).results if node.sort == "case"
+            else node.parts if node.sort == "call" and node.said == "COALESCE"
+            else node.parts[:1] if node.sort == "call" and node.said == "NULLIF" else ()
+        )
+        if not results:
+            return node
+        return next((it for it in (self._unsure(each, kind, scope) for each in results) if it), None)
 
     def _present(self, node: Node, scope: Scope) -> bool:
         """Whether a path is that of an embedded value of which a part is there where it is."""
