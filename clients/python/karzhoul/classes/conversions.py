@@ -165,8 +165,7 @@ class Reader:
             if found is not None:
                 self._check_part(scope[words[0]], found.member, each.value)
             if each.value is not None:
-                self._alike([each.value], scope, target)
-                self._check_set(each.value, target, scope)
+                self._set(each.value, target, scope)
                 self._within(each.value, scope)
         self._within(statement.where, scope)
 
@@ -282,9 +281,15 @@ class Reader:
                 f"part: assign a whole {name} to the objects, as it.{name} = it.{name}.replace(..)"
             )
 
-    def _check_set(self, value: Node, target: Typed, scope: Scope) -> None:
-        """Refuses that an UPDATE stores what may be none of an attribute's type. What is of a scale
-        is whole numbers, which arithmetic of that scale gives too."""
+    def _set(self, value: Node, target: Typed, scope: Scope) -> None:
+        """What an UPDATE sets. Refused is what may be none of the attribute's type. What is of a
+        scale is whole numbers, which arithmetic of that scale gives too; and any text or number is
+        one of an attribute that is stored as it is."""
+        kinds = [it[0] for it in (target, self._type(value, scope)) if it is not None]
+        is_scaled = any(isinstance(it, _SCALED) for it in kinds)
+        is_mixed = len(kinds) == 2 and _differ(*kinds) and any(it.is_plain for it in kinds)
+        if is_scaled or not is_mixed:
+            self._alike([value], scope, target)
         if target is None or target[0].is_plain or isinstance(target[0], _SCALED):
             return
         part = self._unsure(value, target[0], scope)
@@ -363,21 +368,18 @@ class Reader:
         operand, whens, results = jpql.branches_of(node)
         if operand is not None:
             self._alike([operand, *whens], scope)
-        self._alike(results, scope)
         kinds = [(part, self._type(part, scope)) for part in results]
         typed = [kind for _, kind in kinds if kind is not None and not kind[0].is_plain]
+        for _, other in kinds if typed else ():
+            if other is not None and other[0].form != typed[0][0].form and not any(
+                isinstance(it[0], _SCALED) for it in (other, typed[0])
+            ):
+                raise _mixed(typed[0], f"{other[1]}, {other[0].what}")
+        self._alike(results, scope)
         for part, other in kinds if typed else ():
-            known = typed[0]
             if other is None and _is_computed(part):
-                given = f"{cut(self._text[part.at : part.end])}, which the query computes"
-            elif other is not None and other[0].form != known[0].form:
-                given = f"{other[1]}, {other[0].what}"
-            else:
-                continue
-            raise WrongValue(
-                f"a CASE gives {known[1]}, {known[0].what}, or {given}: what it gave can't be told, "
-                "so let all behind THEN and ELSE be of one type, or select each by itself"
-            )
+                computed = cut(self._text[part.at : part.end])
+                raise _mixed(typed[0], f"{computed}, which the query computes")
 
     def _alike(self, parts: Sequence[Node], scope: Scope, known: Typed = None) -> None:
         """Values that are of one type."""
@@ -533,6 +535,15 @@ def _is_computed(node: Node) -> bool:
     return node.sort in ("call", "arithmetic", "aggregate", "size")
 
 
+def _mixed(known: Typed, other: str) -> WrongValue:
+    """Why a CASE gives no value of one type."""
+    assert known is not None
+    return WrongValue(
+        f"a CASE gives {known[1]}, {known[0].what}, or {other}: what it gave can't be told, "
+        "so let all behind THEN and ELSE be of one type, or select each by itself"
+    )
+
+
 def _is_whole(node: Node) -> bool:
     """Whether what a query computes is a whole number, and no text."""
     is_number = node.sort != "call" or node.said in ("LENGTH", "LOCATE", "ABS", "MOD")
@@ -543,6 +554,5 @@ def _differ(one: StoredType, other: StoredType) -> bool:
     """Whether what is stored of the two means different things."""
     if one.form == other.form:
         return False
-    if isinstance(one, _SCALED) or isinstance(other, _SCALED):
-        return True
-    return not isinstance(one, Plainly) and not isinstance(other, Plainly)
+    # Of a text beside a whole number the program tells.
+    return not (isinstance(one, Plainly) and isinstance(other, Plainly))
