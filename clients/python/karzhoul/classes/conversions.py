@@ -14,7 +14,7 @@ from ..queries.rewriting import Edits, is_list
 from .binding import embedded_of
 from .checks import chain, member_of
 from .declared import OWN_ID, Member, Model
-from .types import Iso, Money, Plainly, Span, StoredType, Unfit
+from .types import Iso, Listed, Money, Plainly, Span, StoredType, Truth, Unfit
 from .values import WrongValue, from_stored, to_stored
 
 Typed = Optional[Tuple[StoredType, str]]
@@ -22,6 +22,7 @@ _BOOLS = {"TRUE": 1, "FALSE": 0}
 _SCALED = (Money, Span)
 # Calls of what is of one type, which give that type.
 _OF_ONE_TYPE = ("COALESCE", "NULLIF", "ABS", "MOD")
+_OF_NUMBERS = ("ABS", "MOD")
 
 
 @dataclass
@@ -320,7 +321,8 @@ class Reader:
         )
         if not results:
             return node
-        return next((it for it in (self._unsure(each, kind, scope) for each in results) if it), None)
+        found = (self._unsure(each, kind, scope) for each in results)
+        return next((it for it in found if it is not None), None)
 
     def _present(self, node: Node, scope: Scope) -> bool:
         """Whether a path is that of an embedded value of which a part is there where it is."""
@@ -347,6 +349,8 @@ class Reader:
         if node.sort == "null" or node.sort == "aggregate" and node.said == "COUNT":
             if self._present(node.parts[0], scope):
                 return
+        if node.sort in ("arithmetic", "signed") or node.said in _OF_NUMBERS:
+            self._check_numbers(node, scope)
         if node.sort in ("compare", "between", "in") or (
             node.sort == "arithmetic" and self._is_sum(node)
         ) or (node.sort == "call" and node.said in _OF_ONE_TYPE):
@@ -361,6 +365,16 @@ class Reader:
             self._one_type([(value, scope), (block.items[0].value, inner)])
         for part in node.parts:
             self._within(part, scope)
+
+    def _check_numbers(self, node: Node, scope: Scope) -> None:
+        """Refuses to compute with what is stored as a whole number and is none."""
+        kinds = [it for it in (self._type(part, scope) for part in node.parts) if it is not None]
+        for kind, what in kinds:
+            if isinstance(kind, (Truth, Listed)) and kind.stored == "int":
+                raise WrongValue(
+                    f"{what} is {kind.what}, and no number to compute with: compare it, or let a "
+                    "CASE give a number for each, as CASE WHEN .. THEN 1 ELSE 0 END"
+                )
 
     def _case(self, node: Node, scope: Scope) -> None:
         """A CASE: a value behind it and those behind its WHENs are of one type, and so is all that

@@ -134,6 +134,21 @@ class Computed(unittest.TestCase):
         ):
             self.assertTrue(self.found(test, **given), test)
 
+    def test_what_is_no_number(self) -> None:
+        """Beside it a literal that is none of it is told of first."""
+        for test in (
+            "f.rank * 5 > 1", "f.rank + 4 = 5", "-f.rank < 0", "ABS(f.rank) = 5", "MOD(f.rank, 2) = 1", "f.paid + 1 > 0", "ABS(f.paid) = 0",
+            "f.count + f.rank > 1", "f.price * f.rank > 1", "f.count * COALESCE(f.rank, 1) > 1", "f.count - f.paid > 1", "MOD(f.count, f.rank) = 1",
+        ):
+            with self.subTest(test), self.assertRaisesRegex(WrongValue, r"Fare\.(rank|paid) is .*, and (no number to compute with: compare it, or let a CASE|. is none of Rank)"):
+                self.found(test)
+        with self.app.begin() as manager:
+            for item in ("f.rank * 5", "ABS(f.rank)", "-f.paid", "SUM(f.rank * 2)"):
+                with self.subTest(item), self.assertRaisesRegex(WrongValue, "no number to compute with"):
+                    manager.query(f"SELECT {item} FROM Fare f")
+            self.assertEqual(manager.query("SELECT f.rank, MAX(f.rank), SUM(f.paid) FROM Fare f GROUP BY f.rank"), [[Rank.MID, Rank.MID, 0]])
+        self.assertTrue(self.found("f.rank = COALESCE(f.rank, 1)"))
+
     def test_an_update(self) -> None:
         with self.app.begin() as manager:
             with self.assertRaises(WrongValue):
