@@ -14,7 +14,7 @@ from ..queries.rewriting import Edits, is_list
 from .binding import embedded_of
 from .checks import chain, member_of
 from .declared import OWN_ID, Member, Model
-from .types import Iso, Money, Plainly, Span, StoredType, Unfit
+from .types import Iso, Listed, Money, Plainly, Span, StoredType, Truth, Unfit
 from .values import WrongValue, from_stored, to_stored
 
 Typed = Optional[Tuple[StoredType, str]]
@@ -22,6 +22,7 @@ _BOOLS = {"TRUE": 1, "FALSE": 0}
 _SCALED = (Money, Span)
 # Calls of what is of one type, which give that type.
 _OF_ONE_TYPE = ("COALESCE", "NULLIF", "ABS", "MOD")
+_OF_NUMBERS = ("ABS", "MOD")
 
 
 @dataclass
@@ -165,7 +166,7 @@ class Reader:
             if found is not None:
                 self._check_part(scope[words[0]], found.member, each.value)
             if each.value is not None:
-                self._alike([each.value], scope, target)
+                self._set(each.value, target, scope)
                 self._within(each.value, scope)
         self._within(statement.where, scope)
 
@@ -281,6 +282,48 @@ class Reader:
                 f"part: assign a whole {name} to the objects, as it.{name} = it.{name}.replace(..)"
             )
 
+    def _set(self, value: Node, target: Typed, scope: Scope) -> None:
+        """What an UPDATE sets. Refused is what may be none of the attribute's type. What is of a
+        scale is whole numbers, which arithmetic of that scale gives too; and any text or number is
+        one of an attribute that is stored as it is."""
+        kinds = [it[0] for it in (target, self._type(value, scope)) if it is not None]
+        is_scaled = any(isinstance(it, _SCALED) for it in kinds)
+        is_mixed = len(kinds) == 2 and _differ(*kinds) and any(it.is_plain for it in kinds)
+        if is_scaled or not is_mixed:
+            self._alike([value], scope, target)
+        if target is None or target[0].is_plain or isinstance(target[0], _SCALED):
+            return
+        part = self._unsure(value, target[0], scope)
+        if part is None:
+            return
+        other = self._type(part, scope) if part.sort == "path" else None
+        computed = f"{cut(self._text[part.at : part.end])}, which the query computes"
+        given = computed if other is None else f"{other[1]}, {other[0].what}"
+        raise WrongValue(
+            f"an UPDATE sets {target[1]}, {target[0].what}, to {given}: what is stored of that may "
+            "be none of its type, so hand it in as a parameter, or take an attribute of its type"
+        )
+
+    def _unsure(self, node: Node, kind: StoredType, scope: Scope) -> Optional[Node]:
+        """The first part of a value that may be none of a type which has no arithmetic. Literals
+        and parameters are converted; a path that ends in no value is the program's to refuse."""
+        if node.sort in ("literal", "parameter"):
+            return None
+        if node.sort == "signed" and node.parts[0].sort == "literal":
+            return None
+        if node.sort == "path":
+            other = self._type(node, scope)
+            return None if other is None or kind.reads(other[0]) else node
+        results: Sequence[Node] = (
+            jpql.branches_of(node).results if node.sort == "case"
+            else node.parts if node.sort == "call" and node.said == "COALESCE"
+            else node.parts[:1] if node.sort == "call" and node.said == "NULLIF" else ()
+        )
+        if not results:
+            return node
+        found = (self._unsure(each, kind, scope) for each in results)
+        return next((it for it in found if it is not None), None)
+
     def _present(self, node: Node, scope: Scope) -> bool:
         """Whether a path is that of an embedded value of which a part is there where it is."""
         found = self._walk([it.said for it in node.words], scope) if node.sort == "path" else None
@@ -306,6 +349,8 @@ class Reader:
         if node.sort == "null" or node.sort == "aggregate" and node.said == "COUNT":
             if self._present(node.parts[0], scope):
                 return
+        if node.sort in ("arithmetic", "signed") or node.said in _OF_NUMBERS:
+            self._check_numbers(node, scope)
         if node.sort in ("compare", "between", "in") or (
             node.sort == "arithmetic" and self._is_sum(node)
         ) or (node.sort == "call" and node.said in _OF_ONE_TYPE):
@@ -321,27 +366,34 @@ class Reader:
         for part in node.parts:
             self._within(part, scope)
 
+    def _check_numbers(self, node: Node, scope: Scope) -> None:
+        """Refuses to compute with what is stored as a whole number and is none."""
+        kinds = [it for it in (self._type(part, scope) for part in node.parts) if it is not None]
+        for kind, what in kinds:
+            if isinstance(kind, (Truth, Listed)) and kind.stored == "int":
+                raise WrongValue(
+                    f"{what} is {kind.what}, and no number to compute with: compare it, or let a "
+                    "CASE give a number for each, as CASE WHEN .. THEN 1 ELSE 0 END"
+                )
+
     def _case(self, node: Node, scope: Scope) -> None:
         """A CASE: a value behind it and those behind its WHENs are of one type, and so is all that
         it gives."""
         operand, whens, results = jpql.branches_of(node)
         if operand is not None:
             self._alike([operand, *whens], scope)
-        self._alike(results, scope)
         kinds = [(part, self._type(part, scope)) for part in results]
         typed = [kind for _, kind in kinds if kind is not None and not kind[0].is_plain]
+        for _, other in kinds if typed else ():
+            if other is not None and other[0].form != typed[0][0].form and not any(
+                isinstance(it[0], _SCALED) for it in (other, typed[0])
+            ):
+                raise _mixed(typed[0], f"{other[1]}, {other[0].what}")
+        self._alike(results, scope)
         for part, other in kinds if typed else ():
-            known = typed[0]
             if other is None and _is_computed(part):
-                given = f"{cut(self._text[part.at : part.end])}, which the query computes"
-            elif other is not None and other[0].form != known[0].form:
-                given = f"{other[1]}, {other[0].what}"
-            else:
-                continue
-            raise WrongValue(
-                f"a CASE gives {known[1]}, {known[0].what}, or {given}: what it gave can't be told, "
-                "so let all behind THEN and ELSE be of one type, or select each by itself"
-            )
+                computed = cut(self._text[part.at : part.end])
+                raise _mixed(typed[0], f"{computed}, which the query computes")
 
     def _alike(self, parts: Sequence[Node], scope: Scope, known: Typed = None) -> None:
         """Values that are of one type."""
@@ -497,6 +549,15 @@ def _is_computed(node: Node) -> bool:
     return node.sort in ("call", "arithmetic", "aggregate", "size")
 
 
+def _mixed(known: Typed, other: str) -> WrongValue:
+    """Why a CASE gives no value of one type."""
+    assert known is not None
+    return WrongValue(
+        f"a CASE gives {known[1]}, {known[0].what}, or {other}: what it gave can't be told, "
+        "so let all behind THEN and ELSE be of one type, or select each by itself"
+    )
+
+
 def _is_whole(node: Node) -> bool:
     """Whether what a query computes is a whole number, and no text."""
     is_number = node.sort != "call" or node.said in ("LENGTH", "LOCATE", "ABS", "MOD")
@@ -507,6 +568,5 @@ def _differ(one: StoredType, other: StoredType) -> bool:
     """Whether what is stored of the two means different things."""
     if one.form == other.form:
         return False
-    if isinstance(one, _SCALED) or isinstance(other, _SCALED):
-        return True
-    return not isinstance(one, Plainly) and not isinstance(other, Plainly)
+    # Of a text beside a whole number the program tells.
+    return not (isinstance(one, Plainly) and isinstance(other, Plainly))

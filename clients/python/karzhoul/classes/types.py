@@ -65,6 +65,10 @@ class StoredType:
         """Whether values are stored as they are."""
         return False
 
+    def reads(self, other: StoredType) -> bool:
+        """Whether all that is stored of the other type is of this one too."""
+        return self.form == other.form
+
 
 class Plainly(StoredType):
     """int, str and bytes."""
@@ -335,6 +339,11 @@ class OwnType(StoredType):
             return self._plain.to_stored(stored)
         except Unfit as fault:
             raise Unfit(f"is stored as {shown(stored)}, which {fault}") from None
+
+    def reads(self, other: StoredType) -> bool:
+        return isinstance(other, OwnType) and (
+            (self.form, self._to, self._back) == (other.form, other._to, other._back)
+        )
 
     def from_stored(self, stored: Any) -> Any:
         try:

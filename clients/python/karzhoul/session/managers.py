@@ -16,7 +16,7 @@ from ..objects.fetching import fetched
 from ..objects.misfits import misfit
 from ..queries.queries import Queries
 from ..refusals import (
-    EntityNotFound, KarzhoulError, NoResult, NoSuchManager, ProgramEnded, Refused, Restarted,
+    KarzhoulError, NoSuchManager, ProgramEnded, Refused, Restarted,
 )
 from ..wire.lines import (
     GREATEST, LEAST, FlushModeType, LifecycleEvent, LockModeType, line_of, spelled, text_spelled,
@@ -150,9 +150,10 @@ class EntityManager(Queries, AbstractContextManager["EntityManager"]):
         if self._mode is not FlushModeType.AUTO:
             self._tell_mode(self._mode)
 
-    def _done(self, call: Callable[[], T], loads: bool = True) -> T:
+    def _done(self, call: Callable[[], T], loads: bool = True, keeps: bool = False) -> T:
         """What a call answers, which spells its lines: again where another run began meanwhile, and
-        the manager is free. With whether it may load objects."""
+        the manager is free. With whether it may load objects, and whether it may keep some that are
+        made, even where it is refused."""
         while True:
             run, held, holding = self._run, self._holding, object()
             made = run.made
@@ -166,19 +167,21 @@ class EntityManager(Queries, AbstractContextManager["EntityManager"]):
                 if not self._goes_on(run):
                     raise
                 continue
-            except (EntityNotFound, NoResult):
-                self._has_found_none(held, holding, run, made)
+            except (Refused, TypeError, ValueError):
+                # One that a handler of a signal raised may leave the call under way.
+                is_over = self.factory._calls is None and run.made == made
+                if held is None and is_over and not keeps:
+                    self._has_found_none(holding, run)
                 raise
-            self._has_found_none(held, holding, run, made)
+            # Other managers may have made objects meanwhile.
+            if held is None and (run.made == made or not _has_objects(answer)):
+                self._has_found_none(holding, run)
             return answer
 
-    def _has_found_none(
-        self, held: Optional[object], holding: object, run: Run, made: int
-    ) -> None:
-        """It still holds nothing where its call made no object of the run, and where no callback
-        had it do more meanwhile."""
-        is_over = run is not self.factory._run
-        if held is None and self._holding is holding and run.made == made and not is_over:
+    def _has_found_none(self, holding: object, run: Run) -> None:
+        """It still holds nothing, as before its call, where no callback had it do more
+        meanwhile."""
+        if self._holding is holding and run is self.factory._run:
             self._holding = None
 
     # ---- objects by key
@@ -259,7 +262,7 @@ class EntityManager(Queries, AbstractContextManager["EntityManager"]):
         """Makes new objects managed, as `persist` each of them, sent together. The first refusal is
         raised, with the others as its `later`."""
         told = list(objects)
-        self._done(lambda: self._tell_to_persist(told))
+        self._done(lambda: self._tell_to_persist(told), keeps=True)
 
     def _tell_to_persist(self, objects: List[Entity]) -> None:
         front, number = f'{{"call":"persist","em":{self._em},"object":', self._run.number
@@ -313,7 +316,7 @@ class EntityManager(Queries, AbstractContextManager["EntityManager"]):
         where there is none, and is the answer; the object itself stays as it is. What the object
         leads to goes along where MERGE cascades. `OptimisticLock` where its version isn't the
         one that stands."""
-        return self._done(lambda: self._merged(entity))
+        return self._done(lambda: self._merged(entity), keeps=True)
 
     def _merged(self, entity: E) -> E:
         self._concern.has_merged = True
@@ -484,3 +487,10 @@ class EntityManager(Queries, AbstractContextManager["EntityManager"]):
         """Does a call of this manager, whose members are JSON, and gives its answer."""
         line = line_of(call, {"em": self._em, **members})
         return self.factory.ask_lines(self._run, [line])[0]
+
+
+def _has_objects(answer: Any) -> bool:
+    """Whether objects are in an answer, as all are that a call has found."""
+    if isinstance(answer, (list, tuple)):
+        return any(map(_has_objects, answer))
+    return isinstance(answer, Entity)

@@ -5,12 +5,23 @@ from __future__ import annotations
 import unittest
 from datetime import date, datetime, timedelta
 from decimal import Decimal
+from enum import Enum
 from typing import Any
+from uuid import UUID
 
 import karzhoul
-from karzhoul import Entity, key, money, naive
+from karzhoul import Entity, by_value, key, money, naive
 from karzhoul.classes.values import WrongValue
 from ..support import needs_program
+
+
+class State(Enum):
+    OPEN = 1
+
+
+class Rank(Enum):
+    LOW = 1
+    MID = 5
 
 
 class Fare(Entity):
@@ -20,6 +31,11 @@ class Fare(Entity):
     lasts: timedelta
     until: date | None = None
     sold: datetime | None = naive(default=None)
+    name: str = ""
+    state: State = State.OPEN
+    rank: Rank = by_value(default=Rank.MID)
+    ticket: UUID = UUID(int=5)
+    paid: bool = False
 
 
 @needs_program
@@ -94,6 +110,44 @@ class Computed(unittest.TestCase):
             "f.until = COALESCE(f.until, '2026-01-03')", "f.until = (SELECT MAX(g.until) FROM Fare g)",
         ):
             self.assertTrue(self.found(test), test)
+
+    def test_an_attribute_without_a_form_of_its_own(self) -> None:
+        """What is stored of the two means different things, as a number of a bool and a count."""
+        for test in (
+            "f.name > f.sold", "f.until = f.name", "f.name < f.state", "f.ticket = f.name", "f.count = f.rank", "f.paid <> f.count",
+            "f.name BETWEEN f.until AND 'x'", "f.until BETWEEN '2026-01-01' AND f.name", "f.name IN ('a', f.state)", "f.rank IN (f.count, 5)",
+            "COALESCE(f.until, f.name) IS NOT NULL", "NULLIF(f.name, f.state) IS NULL", "f.name = ANY (SELECT g.state FROM Fare g)",
+            "(SELECT MAX(g.name) FROM Fare g) = f.until",
+        ):
+            with self.subTest(test), self.assertRaisesRegex(
+                WrongValue, r"Fare\.\w+ is (a|one|True).*, and Fare\.\w+ .*: what is stored of the one is not of the other's kind"
+            ):
+                self.found(test)
+        with self.app.begin() as manager:
+            for item in ("COALESCE(f.until, f.name)", "NULLIF(f.count, f.paid)"):
+                with self.subTest(item), self.assertRaisesRegex(WrongValue, "they can't be compared"):
+                    manager.query(f"SELECT {item} FROM Fare f")
+        for test, given in (
+            ("f.state = 'OPEN'", {}), ("f.rank = 5", {}), ("f.name LIKE '%'", {}), ("f.state LIKE 'O%'", {}), ("f.paid = FALSE", {}),
+            ("CONCAT(f.name, f.state) = 'OPEN'", {}), ("f.name = COALESCE(f.name, :x)", {"x": "a"}), ("f.count >= f.id", {}), ("f.rank >= :r", {"r": Rank.MID}),
+            ("f.state IN (f.state, :s)", {"s": State.OPEN}), ("(SELECT COUNT(g) FROM Fare g) < f.count", {}), ("LENGTH(f.state) < f.count", {}),
+        ):
+            self.assertTrue(self.found(test, **given), test)
+
+    def test_what_is_no_number(self) -> None:
+        """Beside it a literal that is none of it is told of first."""
+        for test in (
+            "f.rank * 5 > 1", "f.rank + 4 = 5", "-f.rank < 0", "ABS(f.rank) = 5", "MOD(f.rank, 2) = 1", "f.paid + 1 > 0", "ABS(f.paid) = 0",
+            "f.count + f.rank > 1", "f.price * f.rank > 1", "f.count * COALESCE(f.rank, 1) > 1", "f.count - f.paid > 1", "MOD(f.count, f.rank) = 1",
+        ):
+            with self.subTest(test), self.assertRaisesRegex(WrongValue, r"Fare\.(rank|paid) is .*, and (no number to compute with: compare it, or let a CASE|. is none of Rank)"):
+                self.found(test)
+        with self.app.begin() as manager:
+            for item in ("f.rank * 5", "ABS(f.rank)", "-f.paid", "SUM(f.rank * 2)"):
+                with self.subTest(item), self.assertRaisesRegex(WrongValue, "no number to compute with"):
+                    manager.query(f"SELECT {item} FROM Fare f")
+            self.assertEqual(manager.query("SELECT f.rank, MAX(f.rank), SUM(f.paid) FROM Fare f GROUP BY f.rank"), [[Rank.MID, Rank.MID, 0]])
+        self.assertTrue(self.found("f.rank = COALESCE(f.rank, 1)"))
 
     def test_an_update(self) -> None:
         with self.app.begin() as manager:

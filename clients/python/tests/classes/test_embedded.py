@@ -234,6 +234,9 @@ class Asked(ClassesTest):
         self.assertEqual(self.ask("SELECT m.home.since, m.home.street FROM Member m "
                                   "WHERE m.home.city = 'Ghent'"),
                          [[self.it.date(2027, 1, 1), None]] * 2)
+        with self.assertRaisesRegex(WrongValue, r"sets Member\.home\.since, a date, to Member\.home\.city"):
+            with self.app.begin() as manager:
+                manager.execute_update("UPDATE Member m SET m.home.since = m.home.city")
 
     def test_an_update_sets_no_part_of_one_that_may_be_none(self) -> None:
         for said in ("m.work.city = NULL", "m.work.city = :it", "m.work.street = 'a'",

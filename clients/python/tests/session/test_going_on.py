@@ -115,6 +115,13 @@ class GoesOn(test_runs.RunsTest):
             lambda em: em.query("SELECT p.name, p.id FROM Person p"),
             lambda em: em.query("SELECT p FROM Person p WHERE p.id > 9"),
             lambda em: em.transaction().begin().commit(),
+            self.is_refused("SELECT p FORM Person p"),
+            self.is_refused("SELECT p FROM Person p WHERE p.nam = 'a'"),
+            self.is_refused("SELECT p FROM Person p WHERE p.name = :n"),
+            self.is_refused("SELECT p.id + 9223372036854775807 FROM Person p"),
+            self.is_refused("SELECT p FROM Person p WHERE p.name = :n", n=1.5),
+            lambda em: self.assertRaises(karzhoul.TransactionRequired, em.execute_update, "DELETE FROM Person"),
+            lambda em: self.assertRaises(karzhoul.NoResult, em.one, "SELECT p FROM Person p WHERE p.id > 9"),
         ]
         for way in ways:
             with self.app.create_entity_manager() as manager:
@@ -122,6 +129,62 @@ class GoesOn(test_runs.RunsTest):
                 self.app.restart()
                 with manager.transaction():
                     self.assertEqual(present(manager, "Person", 1).name, "Ada")
+
+    @staticmethod
+    def is_refused(text: str, **given: Any) -> Callable[[karzhoul.EntityManager], None]:
+        def ask(manager: karzhoul.EntityManager) -> None:
+            with contextlib.suppress(karzhoul.Refused, TypeError):
+                manager.query(text, params=given)
+                raise AssertionError(text)
+
+        return ask
+
+    def test_another_thread_makes_objects_meanwhile(self) -> None:
+        """They are none of the manager's."""
+        ways: List[Callable[[karzhoul.EntityManager], Any]] = [
+            lambda em: em.find("Person", 9),
+            lambda em: em.find_many("Person", [8, 9]),
+            lambda em: em.query("SELECT p.name, p.id FROM Person p"),
+            lambda em: em.one("SELECT COUNT(p) FROM Person p"),
+            lambda em: em.query("SELECT p FROM Person p WHERE p.id > 9"),
+        ]
+        for way in ways:
+            with self.app.create_entity_manager() as manager:
+                self.while_others_make(lambda: way(manager))
+                self.assertTrue(manager.is_free)
+                self.app.restart()
+                self.assertIsNone(manager.find("Person", 9))
+        for way in (lambda em: em.find("Person", 1), lambda em: em.query("SELECT p.name, p FROM Person p")):
+            with self.app.create_entity_manager() as manager:
+                self.while_others_make(lambda: way(manager))
+                self.assertFalse(manager.is_free)
+
+    def while_others_make(self, ask: Callable[[], Any]) -> None:
+        """Asks, and an object is made before the call is over."""
+        asks = self.app.ask_lines
+
+        def made(*given: Any, **more: Any) -> Any:
+            self.Person(name="Eve")
+            return asks(*given, **more)
+
+        with mock.patch.object(self.app, "ask_lines", made), mock.patch.object(self.app, "ask_found", self.found_by(made)):
+            ask()
+
+    @staticmethod
+    def found_by(made: Callable[..., Any]) -> Callable[..., Any]:
+        return lambda run, line, kind, _: made(run, [line], kind.__name__)[0]
+
+    def test_a_refused_call_that_keeps_objects(self) -> None:
+        """Those before the refused one are managed."""
+        manager = self.app.create_entity_manager()
+        with self.assertRaises(karzhoul.Refused):
+            manager.persist_all([self.Person(name="Eve"), self.gone()])
+        self.assertFalse(manager.is_free)
+
+    def gone(self) -> Any:
+        """An object that can't be persisted, as it is detached."""
+        with self.app.create_entity_manager() as manager:
+            return present(manager, "Person", 1)
 
     def test_what_has_one_is_of_before(self) -> None:
         ways: List[Callable[[karzhoul.EntityManager], Any]] = [
