@@ -287,12 +287,15 @@ class Reader:
         scale is whole numbers, which arithmetic of that scale gives too; and any text or number is
         one of an attribute that is stored as it is."""
         kinds = [it[0] for it in (target, self._type(value, scope)) if it is not None]
-        is_scaled = any(isinstance(it, _SCALED) for it in kinds)
-        is_mixed = len(kinds) == 2 and _differ(*kinds) and any(it.is_plain for it in kinds)
-        if is_scaled or not is_mixed:
-            self._alike([value], scope, target)
-        if target is None or target[0].is_plain or isinstance(target[0], _SCALED):
+        if target is not None and not target[0].is_plain and not isinstance(target[0], _SCALED):
+            self._check_set(value, target, scope)
+        elif target is not None and len(kinds) == 2 and _differ(*kinds) and not any(
+            isinstance(it, _SCALED) for it in kinds
+        ):
             return
+        self._alike([value], scope, target)
+
+    def _check_set(self, value: Node, target: Tuple[StoredType, str], scope: Scope) -> None:
         part = self._unsure(value, target[0], scope)
         if part is None:
             return

@@ -6,7 +6,7 @@ import unittest
 from datetime import date, datetime, timedelta
 from decimal import Decimal
 from enum import Enum
-from typing import Any
+from typing import Any, Dict, Tuple
 from uuid import UUID
 
 import karzhoul
@@ -127,11 +127,12 @@ class Computed(unittest.TestCase):
             for item in ("COALESCE(f.until, f.name)", "NULLIF(f.count, f.paid)"):
                 with self.subTest(item), self.assertRaisesRegex(WrongValue, "they can't be compared"):
                     manager.query(f"SELECT {item} FROM Fare f")
-        for test, given in (
+        rights: Tuple[Tuple[str, Dict[str, Any]], ...] = (
             ("f.state = 'OPEN'", {}), ("f.rank = 5", {}), ("f.name LIKE '%'", {}), ("f.state LIKE 'O%'", {}), ("f.paid = FALSE", {}),
             ("CONCAT(f.name, f.state) = 'OPEN'", {}), ("f.name = COALESCE(f.name, :x)", {"x": "a"}), ("f.count >= f.id", {}), ("f.rank >= :r", {"r": Rank.MID}),
             ("f.state IN (f.state, :s)", {"s": State.OPEN}), ("(SELECT COUNT(g) FROM Fare g) < f.count", {}), ("LENGTH(f.state) < f.count", {}),
-        ):
+        )
+        for test, given in rights:
             self.assertTrue(self.found(test, **given), test)
 
     def test_what_is_no_number(self) -> None:

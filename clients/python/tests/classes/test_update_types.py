@@ -91,6 +91,10 @@ class Sets(unittest.TestCase):
         ):
             self.refuse(sets, rf"an UPDATE sets Thing\..*, to {named}.*, which the query computes: what is stored of that")
 
+    def test_a_parameter_that_is_of_what_it_stands_beside(self) -> None:
+        for value in ("NULLIF(:x, t.label)", "NULLIF('2026-1-5', t.label)", "COALESCE(NULLIF('x', t.label), t.due)"):
+            self.refuse(f"t.due = {value}", "")
+
     def test_what_is_right(self) -> None:
         cases: Tuple[Tuple[str, Dict[str, Any], str, Any], ...] = (
             ("t.due = t.until", {}, "due", date(2026, 2, 1)), ("t.due = :d", {"d": date(2026, 3, 1)}, "due", date(2026, 3, 1)),
