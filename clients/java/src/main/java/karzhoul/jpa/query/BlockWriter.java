@@ -20,6 +20,7 @@ final class BlockWriter {
     BlockWriter(UnitModel unit, boolean isExact) {
         this.values = new ValueWriter(names, isExact);
         this.conditions = new ConditionWriter(unit, values, this);
+        values.writesBy(new CaseWriter(values, conditions));
     }
 
     /** FROM with its joins. */

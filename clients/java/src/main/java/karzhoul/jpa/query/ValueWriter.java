@@ -7,6 +7,7 @@ import karzhoul.jpa.model.Codec;
 import karzhoul.jpa.query.Tree.Aggregate;
 import karzhoul.jpa.query.Tree.Arithmetic;
 import karzhoul.jpa.query.Tree.Call;
+import karzhoul.jpa.query.Tree.Case;
 import karzhoul.jpa.query.Tree.Literal;
 import karzhoul.jpa.query.Tree.Now;
 import karzhoul.jpa.query.Tree.Parameter;
@@ -48,11 +49,17 @@ final class ValueWriter {
 
     private final Names names;
     private final boolean isExact;
+    private CaseWriter cases;
 
     /** One that takes parameters among decimals as such of so many places, or none, where the door is to compute exactly. */
     ValueWriter(Names names, boolean isExact) {
         this.names = names;
         this.isExact = isExact;
+    }
+
+    /** Writes CASE by this. */
+    void writesBy(CaseWriter writer) {
+        cases = writer;
     }
 
     /**
@@ -76,6 +83,8 @@ final class ValueWriter {
             return call(call, beside);
         } else if (value instanceof Aggregate aggregate) {
             return aggregate(aggregate);
+        } else if (value instanceof Case choice) {
+            return cases.written(choice, beside.isDecimal() ? new Whole(beside.places()) : null);
         } else if (Binding.isConstant(value)) {
             return constant(value, unitOf(value));
         }
@@ -84,7 +93,7 @@ final class ValueWriter {
 
     /** The same beside what has this unit. */
     Written beside(Value value, Unit unit) {
-        return value(value, Beside.of(unit));
+        return value instanceof Case choice ? cases.written(choice, unit) : value(value, Beside.of(unit));
     }
 
     /** A value in this unit: a constant in any unit that has its equal. */
@@ -129,7 +138,7 @@ final class ValueWriter {
         if (value instanceof Arithmetic arithmetic) {
             return "\"" + arithmetic.sign() + "\"";
         }
-        return value instanceof Tree.Case ? "CASE" : value instanceof Aggregate aggregate ? aggregate.kind().name()
+        return value instanceof Case ? "CASE" : value instanceof Aggregate aggregate ? aggregate.kind().name()
                 : value instanceof Tree.Scalar ? "this subquery" : value instanceof Parameter ? "the parameter " + value
                         : value instanceof Reference ? "\"" + value + "\"" : "this value";
     }

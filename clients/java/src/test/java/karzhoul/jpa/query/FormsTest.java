@@ -169,7 +169,7 @@ class FormsTest extends OverShop {
                 => [Long 2]
 
                 SELECT DISTINCT CONCAT(p.address.city, CASE WHEN p.age > 0 THEN '!' ELSE '' END) AS c FROM Person p ORDER BY c DESC
-                -> SELECT p.address__city AS c0, p.age AS c1 FROM Person p
+                -> SELECT DISTINCT CONCAT(p.address__city, CASE WHEN p.age > 0 THEN '!' ELSE '' END) AS c0 FROM Person p ORDER BY c0 DESC
                 => [Paris!, London!, null]
 
                 SELECT UPPER(p.name), LOWER(p.address.city) FROM Person p WHERE UPPER(p.name) LIKE 'A%' AND p.age > 30
@@ -193,7 +193,7 @@ class FormsTest extends OverShop {
                 => [[Ada, Ada, Ada, Ada]]
 
                 SELECT TRIM(SUBSTRING(p.name, 1, 1) FROM p.name), UPPER(CASE WHEN p.age > 40 THEN 'old' ELSE p.name END) FROM Person p WHERE p.name = 'Ada'
-                -> SELECT SUBSTRING(p.name, 1, 1), p.name, p.age FROM Person p WHERE p.name = 'Ada'
+                -> SELECT SUBSTRING(p.name, 1, 1), p.name, UPPER(CASE WHEN p.age > 40 THEN 'old' ELSE p.name END) FROM Person p WHERE p.name = 'Ada'
                 => [[da, ADA]]
 
                 SELECT o.number, p.name FROM Order o LEFT JOIN o.person p ON UPPER(p.name) = 'ADA' WHERE o.number > 10
@@ -205,7 +205,7 @@ class FormsTest extends OverShop {
                 => [Long 2, Long 4]
 
                 SELECT CASE WHEN p.age > 40 THEN 'old' WHEN p.name IS NULL THEN 'none' ELSE p.name END FROM Person p
-                -> SELECT p.age, p.name FROM Person p
+                -> SELECT CASE WHEN p.age > 40 THEN 'old' WHEN p.name IS NULL THEN 'none' ELSE p.name END FROM Person p
                 => [Ada, Bob, none, old]
 
                 SELECT o.number FROM Order o WHERE o.amount > ALL (SELECT x.amount FROM Order x WHERE x.number < o.number)
