@@ -51,7 +51,7 @@ class NumberTypesTest extends OverShop {
     void aParameterIsOfTheTypeOfItsBranches() {
         String text = "SELECT CASE WHEN p.id = 1 THEN p.age ELSE :d END FROM Person p WHERE p.id = 3";
         assertEquals("[Integer 7]", Told.rows(manager.createQuery(text).setParameter("d", 7L).getResultList(), true));
-        assertEquals("CASE: 2.5 is no Integer", assertThrows(IllegalArgumentException.class,
+        assertEquals("the parameter :d: 2.5 is no whole number, as is computed with there", assertThrows(IllegalArgumentException.class,
                 () -> manager.createQuery(text).setParameter("d", 2.5).getResultList()).getMessage());
     }
 
