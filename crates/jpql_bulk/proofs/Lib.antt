@@ -1,4 +1,3 @@
 pub mod Each
 pub mod Found
 pub mod Made
-pub mod Named

@@ -21,4 +21,3 @@ pub mod Standing
 pub mod ByLink
 pub mod Fronts
 pub mod ValueFronts
-pub mod Ready
