@@ -1,14 +1,12 @@
--- An index of values keeps what it has of objects through more entries, and through one column more.
-use Rattle.std.specs.Prelude.{◌≡◌, ℕ, ◌<◌, true, List, [], ◌∷◌, ◌++◌, Result, Ok, Err, OnOk, OnErr, All}
+-- An index of values keeps what it has of objects through more entries.
+use Rattle.std.specs.Prelude.{◌≡◌, ℕ, ◌<◌, true, List, All}
 use Rattle.std.proofs.Common.{sym, subst, get_or}
-use Rattle.std.proofs.lemmas.List.Elements.{All-push}
-use Rattle.jpa_value.specs.declared.refusal.Cause.{Cause}
 use Rattle.jpa_model.specs.declared.unit.PersistenceUnit.{PersistenceUnit}
 use Rattle.jpa_model.specs.Chains.{is_kind_of}
 use Rattle.jpa_stored.specs.Sets.{StoredSet}
 use Rattle.jpa_ordered.specs.declared.column.Column.{Column}
 use Rattle.jpa_ordered.specs.Values.{Indexed, HasEntry, KeepsAll, has_column, valued, at_object}
-use Rattle.jpa_open.specs.Holding.{HoldsOf, HaveEntries, KeepsEntries}
+use Rattle.jpa_open.specs.Holding.{HaveEntries, KeepsEntries}
 
 pub keeps_entries : (old new : Indexed) → new.columns ≡ old.columns → KeepsAll old.entries new.entries → KeepsEntries old new
 keeps_entries old new same keeps id x all =
@@ -17,18 +15,6 @@ keeps_entries old new same keeps id x all =
 -- what an index has of each object of a set, one that keeps all entries has too
 pub have_later : (old new : Indexed) (s : StoredSet) → KeepsEntries old new → HaveEntries s old → HaveEntries s new
 have_later old new s keeps have id x found = keeps id x (have id x found)
-
--- one column more, of which each object has its entry
-one_column : (v : Indexed) (c : Column) (s : StoredSet) → HoldsOf (λ id x. HasEntry v.entries id x c) s → HaveEntries s v → HaveEntries s (record v { columns = v.columns ++ c ∷ [] })
-one_column v c s one have id x found = All-push (HasEntry v.entries id x) v.columns c (have id x found) (one id x found)
-
--- the same, whether there was memory for the column or not
-pub with_column : (r : Result (Unit {0}) Cause) (old v new : Indexed) (c : Column) (s : StoredSet) → v.columns ≡ old.columns → KeepsAll old.entries v.entries →
-    HoldsOf (λ id x. HasEntry v.entries id x c) s → OnOk r (new ≡ record v { columns = v.columns ++ c ∷ [] }) → OnErr r (new ≡ v) → HaveEntries s old → HaveEntries s new
-with_column (Ok u) old v new c s same keeps one ok err have =
-    subst (HaveEntries s) (sym ok) (one_column v c s one (have_later old v s (keeps_entries old v same keeps) have))
-with_column (Err e) old v new c s same keeps one ok err have =
-    subst (HaveEntries s) (sym err) (have_later old v s (keeps_entries old v same keeps) have)
 
 -- each class before this one that is of the kind of the column's class has a column of its number and member
 abbrev pub HaveBelow : PersistenceUnit → List Column → Column → ℕ → Type 0

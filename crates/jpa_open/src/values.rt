@@ -1,5 +1,5 @@
 //! What an index of values has of the objects of a set.
-ghost use Rattle.std.specs.Prelude.{◌≡◌, ◌<◌, ◌++◌, ◌∷◌, [], length, OnOk, IfErr, IfOk};
+ghost use Rattle.std.specs.Prelude.{◌≡◌, ◌<◌, length, OnOk, IfErr, IfOk};
 ghost use Rattle.jpa_value.specs.declared.refusal.Cause.{Cause};
 ghost use Rattle.jpa_ordered.specs.Values.{HaveColumns};
 ghost use Rattle.jpa_open.specs.Holding.{HaveEntries, KeepsEntries};
@@ -7,7 +7,7 @@ ghost use Rattle.jpa_open.specs.Holding.{HaveEntries, KeepsEntries};
 use crate::index::most_references;
 use crate::shared::Shared;
 use jpa_model::Metamodel;
-use jpa_ordered::{Column, Values};
+use jpa_ordered::{Column, Valued, Values, list_each};
 use jpa_stored::Stored;
 use jpa_value::{Cause, Identity};
 use std::alloc::Global;
@@ -28,67 +28,65 @@ pub(crate) fn add_values(
     Ok(())
 }
 
-/// One column more, with an entry of each of these objects that is of its class.
-fn add_column(
-    values: &mut Values,
-    column: Column,
-    objects: &[Shared<(Identity, Stored)>],
-) -> Result<(), Cause>
-    ensures all { HaveEntries objects.now values.old → HaveEntries objects.now values.new }
-    ensures columns { OnOk result (values.new.columns ≡ values.old.columns ++ column ∷ []) }
-    ensures err { IfErr result (λ cause. cause ≡ Cause.OutOfMemory) }
-{
-    for object in objects {
-        values.add_for(column, object.get())?;
-    }
-    values.add_column(column)
-}
-
-/// A column of the same number and member for each class that is this column's or below it, with
-/// the entries of these objects.
-pub(crate) fn add_columns(
-    values: &mut Values,
+/// These columns and, behind them, one of this number and member for each class that is this
+/// column's or below it.
+pub(crate) fn columns_with(
+    alloc: Global,
     metamodel: &Metamodel,
+    columns: &[Column],
     column: Column,
-    objects: &[Shared<(Identity, Stored)>],
-) -> Result<(), Cause>
+) -> Result<Vec<Column>, Cause>
     requires { column.class < length metamodel.now.entities }
-    ensures all { HaveEntries objects.now values.old → HaveEntries objects.now values.new }
-    ensures columns { OnOk result (HaveColumns metamodel.now values.new.columns column.class
+    ensures columns { IfOk result (λ all. HaveColumns metamodel.now all.items column.class
         column.member column.number) }
     ensures err { IfErr result (λ cause. cause ≡ Cause.OutOfMemory) }
 {
+    let mut all = Vec::from_slice(alloc, columns)?;
     for class in 0..metamodel.entities().len() {
         if metamodel.is_kind_of(class, column.class) {
-            add_column(values, Column { class, ..column }, objects)?;
+            all.push(Column { class, ..column })?;
         }
     }
-    Ok(())
+    Ok(all)
+}
+
+/// The entries of these objects, one for each of these columns that is of its class.
+fn entries_of(
+    alloc: Global,
+    columns: &[Column],
+    objects: &[Shared<(Identity, Stored)>],
+) -> Result<Vec<Valued>, Cause>
+    ensures all { IfOk result (λ entries. HaveEntries objects.now
+        (record { columns = columns.now; entries = entries.items })) }
+    ensures err { IfErr result (λ cause. cause ≡ Cause.OutOfMemory) }
+{
+    let mut entries = Vec::new(alloc);
+    for object in objects {
+        list_each(&mut entries, columns, object.get())?;
+    }
+    Ok(entries)
 }
 
 /// An index of these columns alone, with the entries of these objects.
 pub(crate) fn values_of(
-    alloc: Global,
-    columns: &[Column],
+    columns: Vec<Column>,
     objects: &[Shared<(Identity, Stored)>],
 ) -> Result<Values, Cause>
-    ensures columns { IfOk result (λ values. values.columns ≡ columns.now) }
+    ensures columns { IfOk result (λ values. values.columns ≡ columns.items) }
     ensures all { IfOk result (λ values. HaveEntries objects.now values) }
     ensures err { IfErr result (λ cause. cause ≡ Cause.OutOfMemory) }
 {
-    let mut values = Values::new(alloc);
-    for column in columns {
-        values.add_column(*column)?;
-    }
-    add_values(&mut values, objects)?;
+    let entries = entries_of(*columns.allocator(), columns.as_slice(), objects)?;
+    let mut values = Values::made(columns, entries)?;
     let most = most_references(values.len(), objects.len());
     values.allow(most);
     Ok(values)
 }
 
-/// A number that none of these columns has.
-pub(crate) fn next_number(columns: &[Column]) -> u32 {
-    let mut next: u32 = 0;
+/// A number that none of these columns has, as long as one is left. Where columns share one, who asks
+/// by it looks at the entries of both.
+pub(crate) fn next_number(columns: &[Column]) -> u16 {
+    let mut next: u16 = 0;
     for column in columns {
         next = next.max(column.number.saturating_add(1));
     }

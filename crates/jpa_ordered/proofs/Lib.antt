@@ -1,3 +1,4 @@
 pub mod Examples
 pub mod Known
+pub mod Listed
 pub mod Ordered

@@ -19,7 +19,7 @@ use Rattle.jpa_value.proofs.Orders.{both_equal, value_exact, identity_exact, ide
 use Rattle.jpa_ordered.specs.declared.cut.Cut.{Cut}
 use Rattle.jpa_ordered.specs.declared.cut.Span.{Span}
 use Rattle.jpa_ordered.specs.declared.valued.Valued.{Valued}
-use Rattle.jpa_ordered.specs.Values.{cut_cmp, valued_cmp, same_valued, valued, least, has_begun, goes_on, covers, any_covers, start_of, end_before, end_of, is_within, within, owners_of, owners_in, lent_ids, IsIn}
+use Rattle.jpa_ordered.specs.Values.{cut_cmp, valued_cmp, same_valued, at_of, valued, least, has_begun, goes_on, covers, any_covers, start_of, end_before, end_of, is_within, within, owners_of, owners_in, lent_ids, IsIn}
 
 -- ---- only the same place and the same entry tie
 
@@ -42,8 +42,8 @@ pub valued_exact : IsAntisymmetric valued_cmp
 valued_exact a b e =
     let both = both_equal _ _ e in
     let n = nat_cmp-IsAntisymmetric a.number b.number both.0 in
-    let p = cut_exact a.at b.at both.1 in
-    λ i. record { number = n i; at = p i }
+    let p = cut_exact (at_of a) (at_of b) both.1 in
+    λ i. valued (n i) (p i)
 
 pub equal : (o : Ordering) → is_eq o ≡ true → o ≡ Equal
 equal Less e = absurd cc
@@ -106,19 +106,19 @@ module _ (number : ℕ) where
 
   -- the end stands before the entries of a higher number, or is the first of them
   passed : (to : Option Cut) (v : Valued) → number < v.number → not (is_le (valued_cmp (end_before number to) v)) ≡ false
-  passed None v h = ap not (number_le (number + 1) v.number (cut_cmp least v.at) (omega arith) (least_lowest v.at))
-  passed (Some to) v h = ap (λ o. not (is_le (ordering_then o (cut_cmp to v.at)))) (sym (nat_cmp_is number v.number Less h))
+  passed None v h = ap not (number_le (number + 1) v.number (cut_cmp least (at_of v)) (omega arith) (least_lowest (at_of v)))
+  passed (Some to) v h = ap (λ o. not (is_le (ordering_then o (cut_cmp to (at_of v))))) (sym (nat_cmp_is number v.number Less h))
 
   pub bounded : (span : Span) (v : Valued) →
       range_contains valued_cmp (Included (start_of number span)) (Excluded (end_of number span)) v ≡ is_within number span v
   bounded span v = elim (cases_lt number v.number) [
     | inl above ↦
         and_false (is_le (valued_cmp (start_of number span) v)) (not (is_le (valued_cmp (end_of number span) v))) (passed span.to v above)
-        ∙ sym (ap (λ b. b && covers span v.at) (ne_eqb v.number number (λ e. apart e above)))
+        ∙ sym (ap (λ b. b && covers span (at_of v)) (ne_eqb v.number number (λ e. apart e above)))
     | inr up ↦ elim (cases_lt v.number number) [
       | inl below ↦
-          ap (λ o. is_le (ordering_then o (cut_cmp (unwrap_or span.from least) v.at)) && not (is_le (valued_cmp (end_of number span) v))) (sym (nat_cmp_is number v.number Greater below))
-          ∙ sym (ap (λ b. b && covers span v.at) (ne_eqb v.number number (λ e. apart (sym e) below)))
+          ap (λ o. is_le (ordering_then o (cut_cmp (unwrap_or span.from least) (at_of v))) && not (is_le (valued_cmp (end_of number span) v))) (sym (nat_cmp_is number v.number Greater below))
+          ∙ sym (ap (λ b. b && covers span (at_of v)) (ne_eqb v.number number (λ e. apart (sym e) below)))
       | inr down ↦ same (omega arith)
     ]
   ]
@@ -135,7 +135,7 @@ module _ (number : ℕ) where
 
       same : number ≡ v.number →
           range_contains valued_cmp (Included (start_of number span)) (Excluded (end_of number span)) v ≡ is_within number span v
-      same e = subst (λ (n : ℕ). range_contains valued_cmp (Included (start_of number span)) (Excluded (end_of number span)) (valued n v.at) ≡ is_within number span (valued n v.at)) e (here v.at)
+      same e = subst (λ (n : ℕ). range_contains valued_cmp (Included (start_of number span)) (Excluded (end_of number span)) (valued n (at_of v)) ≡ is_within number span (valued n (at_of v))) e (here (at_of v))
 
 -- the entries between the bounds are those in the span
 pub between_bounds : (number : ℕ) (span : Span) (entries : List Valued) →
@@ -183,9 +183,9 @@ module _ {K : Type 0} {R : K → K → Ordering} (o : IsTotalOrder R) where
 
 -- ---- the owner of each entry that lies in a span is among the owners
 
-any_owner : (q : Identity) (vs : List Valued) → list_any (same_identity q) (owners_of vs) ≡ list_any (λ (v : Valued). same_identity q (v.at).owner) vs
+any_owner : (q : Identity) (vs : List Valued) → list_any (same_identity q) (owners_of vs) ≡ list_any (λ (v : Valued). same_identity q v.owner) vs
 any_owner q [] = refl
-any_owner q (v ∷ vs) = ap (λ b. same_identity q (v.at).owner || b) (any_owner q vs)
+any_owner q (v ∷ vs) = ap (λ b. same_identity q v.owner || b) (any_owner q vs)
 
 implied : (f g : Valued → Bool) → ((v : Valued) → g v ≡ true → f v ≡ true) → (vs : List Valued) → list_any g vs ≡ true → list_any f vs ≡ true
 implied f g k [] h = h
@@ -203,14 +203,14 @@ module _ (entries : List Valued) (number : ℕ) (at : Cut) (there : IsIn entries
   in_span : (span : Span) → covers span at ≡ true → list_any (same_identity at.owner) (owners_of (within entries number span)) ≡ true
   in_span span covered =
       any_owner at.owner (within entries number span)
-      ∙ implied (λ (v : Valued). same_identity at.owner (v.at).owner) (same_valued (valued number at)) owned (within entries number span)
+      ∙ implied (λ (v : Valued). same_identity at.owner v.owner) (same_valued (valued number at)) owned (within entries number span)
       (any-filter_same (same_valued (valued number at)) (is_within number span) true lies entries ∙ there)
     where
       is_it : (v : Valued) → same_valued (valued number at) v ≡ true → valued number at ≡ v
       is_it v t = valued_exact (valued number at) v (equal (valued_cmp (valued number at) v) t)
 
-      owned : (v : Valued) → same_valued (valued number at) v ≡ true → same_identity at.owner (v.at).owner ≡ true
-      owned v t = ap (λ (x : Valued). same_identity at.owner (x.at).owner) (sym (is_it v t)) ∙ ap is_eq (tied_itself identity_total at.owner)
+      owned : (v : Valued) → same_valued (valued number at) v ≡ true → same_identity at.owner v.owner ≡ true
+      owned v t = ap (λ (x : Valued). same_identity at.owner x.owner) (sym (is_it v t)) ∙ ap is_eq (tied_itself identity_total at.owner)
 
       lies : (v : Valued) → same_valued (valued number at) v ≡ true → is_within number span v ≡ true
       lies v t = ap (is_within number span) (sym (is_it v t)) ∙ ap (λ b. b && covers span at) (eq-eqb number number refl) ∙ covered
@@ -246,6 +246,6 @@ pub one_left : (found old : List (Bor Identity)) (ys rest all : List Valued) (v 
 one_left found old ys rest all v e split =
     let parts = sym (length_mapped _ found) ∙ ap length e ∙ length-append (lent_ids old) (owners_of ys) in
     let before = length_mapped (λ (id : Bor Identity). id.now) old in
-    let so_far = length_mapped (λ (v : Valued). (v.at).owner) ys in
+    let so_far = length_mapped (λ (v : Valued). v.owner) ys in
     let whole = sym (ap length split) ∙ length-append ys (v ∷ rest) in
     omega (arith, parts, before, so_far, whole)

@@ -79,14 +79,18 @@ lies_in_any member spans e = list_any (λ span. lies_in member span e) spans
 
 -- ---- entries
 
+-- where an entry stands
+abbrev pub at_of : Valued → Cut
+at_of v = record { value = v.value; behind = v.behind; owner = v.owner }
+
 -- by the number of the index, then by place
 abbrev pub valued_cmp : Valued → Valued → Ordering
-valued_cmp a b = ordering_then (nat_cmp a.number b.number) (cut_cmp a.at b.at)
+valued_cmp a b = ordering_then (nat_cmp a.number b.number) (cut_cmp (at_of a) (at_of b))
 
 -- the order of entries is total
 pub valued_total : IsTotalOrder valued_cmp
 valued_total =
-    then_total (on_total (λ (v : Valued). v.number) nat_cmp_total) (on_total (λ (v : Valued). v.at) cut_total)
+    then_total (on_total (λ (v : Valued). v.number) nat_cmp_total) (on_total at_of cut_total)
 
 -- whether two entries are the same
 abbrev pub same_valued : Valued → Valued → Bool
@@ -94,7 +98,7 @@ same_valued a b = is_eq (valued_cmp a b)
 
 -- the entry of a place in the index of this number
 abbrev pub valued : ℕ → Cut → Valued
-valued number at = record { number = number; at = at }
+valued number at = record { number = number; behind = at.behind; value = at.value; owner = at.owner }
 
 -- it is among these
 abbrev pub IsIn : List Valued → Valued → Type 0
@@ -119,7 +123,7 @@ end_of number span = end_before number span.to
 
 -- whether an entry is of this number and in this span
 abbrev pub is_within : ℕ → Span → Valued → Bool
-is_within number span v = (v.number == number) && covers span v.at
+is_within number span v = (v.number == number) && covers span (at_of v)
 
 -- those of a number in a span, in their order
 abbrev pub within : List Valued → ℕ → Span → List Valued
@@ -132,7 +136,7 @@ IsLast (Some v) entries = (before : List Valued) × (entries ≡ before ++ v ∷
 
 -- the identities of these
 abbrev pub owners_of : List Valued → List Identity
-owners_of entries = map (λ (v : Valued). (v.at).owner) entries
+owners_of entries = map (λ (v : Valued). v.owner) entries
 
 -- the owners of those of a number in these spans, span by span
 abbrev pub owners_in : List Valued → ℕ → List Span → List Identity

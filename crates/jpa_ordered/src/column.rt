@@ -11,7 +11,7 @@ pub struct Column {
     /// The place of the class among the entities of the persistence unit.
     pub class: usize,
     pub member: Member,
-    pub number: u32,
+    pub number: u16,
 }
 
 /// Whether two members are the same.
@@ -35,7 +35,7 @@ pub(crate) fn is_of(column: &Column, class: usize, member: Member) -> bool
 }
 
 /// Whether a class and a member have a column of this number.
-pub(crate) fn has_column(columns: &[Column], class: usize, member: Member, number: u32) -> bool
+pub(crate) fn has_column(columns: &[Column], class: usize, member: Member, number: u16) -> bool
     ensures { result ≡ places.has_column columns.now class member number }
 {
     for column in columns {

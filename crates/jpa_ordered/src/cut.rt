@@ -38,15 +38,6 @@ impl TryCopy for Cut {
     }
 }
 
-/// The order of two places.
-pub(crate) fn order_cuts(a: &Cut, b: &Cut) -> Ordering
-    ensures { result ≡ places.cut_cmp a.now b.now }
-{
-    order_values(&a.value, &b.value)
-        .then(a.behind.cmp(&b.behind))
-        .then(order_identities(&a.owner, &b.owner))
-}
-
 /// The place before all objects. Takes no memory.
 pub(crate) fn least(alloc: Global) -> Cut
     ensures { result ≡ places.least }

@@ -5,7 +5,7 @@ ghost use Rattle.jpa_ordered.specs.Values.{IsIn, KeepsAll, HasEntry, valued, at_
 
 use crate::column::Column;
 use crate::cut::at_object;
-use crate::valued::Valued;
+use crate::valued::{Valued, placed};
 use jpa_model::Member;
 use jpa_stored::Stored;
 use jpa_value::{Cause, Identity};
@@ -14,7 +14,7 @@ use std::collections::BTreeSet;
 /// An entry of this number for an object, by a member.
 fn add_entry(
     entries: &mut BTreeSet<Valued>,
-    number: u32,
+    number: u16,
     member: Member,
     entry: &(Identity, Stored),
 ) -> Result<(), Cause>
@@ -24,15 +24,12 @@ fn add_entry(
     ensures err { IfErr result (λ cause. cause ≡ Cause.OutOfMemory) }
 {
     let at = at_object(member, entry)?;
-    entries.insert(Valued {
-        number: u64::from(number),
-        at,
-    })?;
+    entries.insert(placed(number, at))?;
     Ok(())
 }
 
 /// An entry of a column for an object, if it is of the column's class.
-pub(crate) fn add_for(
+fn add_for(
     entries: &mut BTreeSet<Valued>,
     column: Column,
     entry: &(Identity, Stored),
@@ -60,6 +57,51 @@ pub(crate) fn add_each(
 {
     for column in columns {
         add_for(entries, *column, entry)?;
+    }
+    Ok(())
+}
+
+/// One entry more behind those of a list.
+fn list_entry(entries: &mut Vec<Valued>, entry: Valued) -> Result<(), Cause>
+    ensures kept { KeepsAll entries.old.items entries.new.items }
+    ensures added { OnOk result (IsIn entries.new.items entry) }
+    ensures err { IfErr result (λ cause. cause ≡ Cause.OutOfMemory) }
+{
+    entries.push(entry)?;
+    Ok(())
+}
+
+/// An entry of a column for an object, if it is of the column's class, behind those of a list.
+fn list_for(
+    entries: &mut Vec<Valued>,
+    column: Column,
+    entry: &(Identity, Stored),
+) -> Result<(), Cause>
+    ensures kept { KeepsAll entries.old.items entries.new.items }
+    ensures added { OnOk result (HasEntry entries.new.items entry.now.0 entry.now.1 column) }
+    ensures err { IfErr result (λ cause. cause ≡ Cause.OutOfMemory) }
+{
+    if column.class != entry.1.class {
+        return Ok(());
+    }
+    let at = at_object(column.member, entry)?;
+    list_entry(entries, placed(column.number, at))
+}
+
+/// Puts an entry of each of these columns for an object that is of the column's class behind those
+/// of a list, of which an index is to be made. `OutOfMemory` is the only refusal.
+pub fn list_each(
+    entries: &mut Vec<Valued>,
+    columns: &[Column],
+    entry: &(Identity, Stored),
+) -> Result<(), Cause>
+    ensures kept { KeepsAll entries.old.items entries.new.items }
+    ensures added { OnOk result
+        (All (HasEntry entries.new.items entry.now.0 entry.now.1) columns.now) }
+    ensures err { IfErr result (λ cause. cause ≡ Cause.OutOfMemory) }
+{
+    for column in columns {
+        list_for(entries, *column, entry)?;
     }
     Ok(())
 }

@@ -15,5 +15,6 @@ mod values;
 
 pub use column::Column;
 pub use cut::{Cut, Span, at_object, lies_in_any};
+pub use entries::list_each;
 pub use valued::Valued;
 pub use values::Values;

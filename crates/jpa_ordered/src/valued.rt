@@ -5,18 +5,47 @@ ghost use Rattle.jpa_value.specs.declared.refusal.Cause.{Cause};
 ghost use Rattle.jpa_ordered.specs.Values as places;
 ghost use Rattle.jpa_ordered.specs.Values.{valued_cmp, valued_total, same_valued};
 
-use crate::cut::{Cut, Span, least, order_cuts};
-use jpa_value::{Cause, TryCopy};
+use crate::cut::{Cut, Span, least};
+use jpa_value::{Cause, Identity, TryCopy, Value, order_identities, order_values};
 use std::alloc::Global;
 use std::cmp::Ordering;
 
 /// That an object stood at a place among the values of an index. Who looks for objects tests each
-/// against the set.
+/// against the set. The parts of the place lie here one by one, so that number and `behind` share a
+/// word.
 #[derive(Drop)]
 pub struct Valued {
-    /// The number of the index.
-    pub number: u64,
-    pub at: Cut,
+    /// The number of the index. Each number of a column has one behind it.
+    pub number: u32,
+    pub behind: bool,
+    pub value: Value,
+    pub owner: Identity,
+}
+
+/// The entry of a place in the index of a number.
+pub(crate) fn placed(number: u16, at: Cut) -> Valued
+    ensures { result ≡ places.valued number at }
+{
+    Valued {
+        number: u32::from(number),
+        behind: at.behind,
+        value: at.value,
+        owner: at.owner,
+    }
+}
+
+impl Valued {
+    /// The place where it stands. A text is shared. `OutOfMemory` is the only refusal.
+    pub fn at(&self) -> Result<Cut, Cause>
+        ensures ok { IfOk result (λ at. at ≡ places.at_of self.now) }
+        ensures err { IfErr result (λ cause. cause ≡ Cause.OutOfMemory) }
+    {
+        Ok(Cut {
+            value: self.value.try_copy()?,
+            behind: self.behind,
+            owner: self.owner.try_copy()?,
+        })
+    }
 }
 
 impl PartialEq for Valued {
@@ -53,14 +82,15 @@ impl Ord for Valued {
     ghost matches_eq = { λ x y. refl };
 
     fn cmp(&self, other: &Valued) -> Ordering {
-        self.number
-            .cmp(&other.number)
-            .then(order_cuts(&self.at, &other.at))
+        let places = order_values(&self.value, &other.value)
+            .then(self.behind.cmp(&other.behind))
+            .then(order_identities(&self.owner, &other.owner));
+        self.number.cmp(&other.number).then(places)
     }
 }
 
 /// What no entry of this number that lies in the span stands before.
-pub(crate) fn start_of(alloc: Global, number: u32, span: &Span) -> Result<Valued, Cause>
+pub(crate) fn start_of(alloc: Global, number: u16, span: &Span) -> Result<Valued, Cause>
     ensures ok { IfOk result (λ start. start ≡ places.start_of number span.now) }
     ensures err { IfErr result (λ cause. cause ≡ Cause.OutOfMemory) }
 {
@@ -68,25 +98,20 @@ pub(crate) fn start_of(alloc: Global, number: u32, span: &Span) -> Result<Valued
         None => least(alloc),
         Some(from) => from.try_copy()?,
     };
-    Ok(Valued {
-        number: u64::from(number),
-        at,
-    })
+    Ok(placed(number, at))
 }
 
 /// What each entry of this number that lies in the span stands before.
-pub(crate) fn end_of(alloc: Global, number: u32, span: &Span) -> Result<Valued, Cause>
+pub(crate) fn end_of(alloc: Global, number: u16, span: &Span) -> Result<Valued, Cause>
     ensures ok { IfOk result (λ end. end ≡ places.end_of number span.now) }
     ensures err { IfErr result (λ cause. cause ≡ Cause.OutOfMemory) }
 {
     match &span.to {
-        None => Ok(Valued {
-            number: u64::from(number) + 1,
-            at: least(alloc),
-        }),
-        Some(to) => Ok(Valued {
-            number: u64::from(number),
-            at: to.try_copy()?,
-        }),
+        None => {
+            let mut end = placed(number, least(alloc));
+            end.number = u32::from(number) + 1;
+            Ok(end)
+        }
+        Some(to) => Ok(placed(number, to.try_copy()?)),
     }
 }

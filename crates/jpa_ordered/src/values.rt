@@ -1,11 +1,11 @@
 //! An index of values.
-ghost use Rattle.std.specs.Prelude.{◌≡◌, ◌<◌, ◌++◌, ◌∷◌, ◌↔◌, [], true, length, IsTrue, OnOk, OnErr, IfOk, IfErr, IfSome, IfNone, All};
+ghost use Rattle.std.specs.Prelude.{◌≡◌, ◌<◌, ◌↔◌, true, length, IsTrue, OnOk, IfOk, IfErr, IfSome, IfNone, All};
 ghost use Rattle.jpa_value.specs.declared.refusal.Cause.{Cause};
 ghost use Rattle.jpa_ordered.specs.Values as places;
-ghost use Rattle.jpa_ordered.specs.Values.{KeepsAll, HasEntry, HasEntries, HaveColumns, is_of as is_column_of};
+ghost use Rattle.jpa_ordered.specs.Values.{KeepsAll, HasEntries, HaveColumns, is_of as is_column_of};
 
 use crate::column::{Column, has_column, is_of};
-use crate::entries::{add_each, add_for};
+use crate::entries::add_each;
 use crate::valued::Valued;
 use jpa_model::{Member, Metamodel};
 use jpa_stored::Stored;
@@ -50,7 +50,25 @@ impl Values {
         }
     }
 
-    /// The columns, in the order in which they were added.
+    /// An index of these columns with these entries, as many as it may have until `allow` says more.
+    /// They are put in order at once, so that the index takes less memory than one of which each
+    /// entry was added. `OutOfMemory` is the only refusal.
+    pub fn made(columns: Vec<Column>, entries: Vec<Valued>) -> Result<Values, Cause>
+        ensures columns { IfOk result (λ made. made.columns ≡ columns.items) }
+        ensures kept { IfOk result (λ made. KeepsAll entries.items made.entries) }
+        ensures err { IfErr result (λ cause. cause ≡ Cause.OutOfMemory) }
+    {
+        let alloc = *columns.allocator();
+        let entries: BTreeSet<Valued> = entries.into_iter().collect(alloc)?;
+        let most = entries.len();
+        Ok(Values {
+            columns,
+            entries,
+            most,
+        })
+    }
+
+    /// The columns, in the order in which they were handed in.
     pub fn columns(&self) -> &[Column]
         ensures { result.now ≡ self.now.columns }
     {
@@ -77,18 +95,6 @@ impl Values {
         self.most = most;
     }
 
-    /// Adds the entry of an object for a column, if the object is of the column's class. The column
-    /// need not be one of the index's yet. `OutOfMemory` is the only refusal, and leaves entries
-    /// that nothing asks.
-    pub fn add_for(&mut self, column: Column, entry: &(Identity, Stored)) -> Result<(), Cause>
-        ensures columns { self.new.columns ≡ self.old.columns }
-        ensures kept { KeepsAll self.old.entries self.new.entries }
-        ensures added { OnOk result (HasEntry self.new.entries entry.now.0 entry.now.1 column) }
-        ensures err { IfErr result (λ cause. cause ≡ Cause.OutOfMemory) }
-    {
-        add_for(&mut self.entries, column, entry)
-    }
-
     /// Adds the entries of an object, one for each column of its class: O(log n) comparisons each
     /// where there are n. `OutOfMemory` is the only refusal, and leaves entries that nothing asks.
     pub fn add(&mut self, entry: &(Identity, Stored)) -> Result<(), Cause>
@@ -100,21 +106,8 @@ impl Values {
         add_each(&mut self.entries, self.columns.as_slice(), entry)
     }
 
-    /// Adds a column. That the objects of its class have their entries is up to who adds it. For
-    /// want of memory, which is the only refusal, the index stays as it was.
-    pub fn add_column(&mut self, column: Column) -> Result<(), Cause>
-        ensures ok { OnOk result (self.new ≡ record self.old {
-          columns = self.old.columns ++ column ∷ [];
-        }) }
-        ensures unchanged { OnErr result (self.new ≡ self.old) }
-        ensures err { IfErr result (λ cause. cause ≡ Cause.OutOfMemory) }
-    {
-        self.columns.push(column)?;
-        Ok(())
-    }
-
     /// Whether each class that is this one or below it has a column of this number for a member.
-    fn have_columns(&self, metamodel: &Metamodel, class: usize, member: Member, number: u32) -> bool
+    fn have_columns(&self, metamodel: &Metamodel, class: usize, member: Member, number: u16) -> bool
         requires { class < length metamodel.now.entities }
         ensures { IsTrue result
             ↔ (HaveColumns metamodel.now self.now.columns class member number) }
@@ -131,7 +124,7 @@ impl Values {
 
     /// A number by which each class that is this one or below it has a column for a member; none
     /// where this class has no such column, so that objects of a subclass are never left out.
-    pub fn column_of(&self, metamodel: &Metamodel, class: usize, member: Member) -> Option<u32>
+    pub fn column_of(&self, metamodel: &Metamodel, class: usize, member: Member) -> Option<u16>
         requires { class < length metamodel.now.entities }
         ensures found { IfSome result (HaveColumns metamodel.now self.now.columns class member) }
         ensures none { IfNone result (All (λ c. is_column_of class member c ≡ true

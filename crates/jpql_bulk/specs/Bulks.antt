@@ -9,13 +9,17 @@ use Rattle.jpql_eval.specs.declared.datum.Datum.{Datum}
 use Rattle.jpql_eval.specs.Answers.{Answer}
 use Rattle.jpql_plan.specs.Bulk as bulk
 use Rattle.jpql_plan.specs.Meaning.{alone, kept, drops_any, truth_of_any}
-use Rattle.jpql_plan.specs.Paths.{Entry, Tuple}
+use Rattle.jpql_plan.specs.Paths.{Entry, Tuple, object_at}
 use Rattle.jpql_run.specs.Runs.{any_condition, objects}
 use Rattle.jpql_run.specs.declared.run.Run.{Run}
 
 -- the tuple of an object, which has no variable where a DELETE leaves it out
 abbrev pub tuple_of : Run → Bool → Entry → Tuple
 tuple_of run is_named e = bulk.tuple_of run.metamodel.now (now run.set.now) run.parameters.now is_named e
+
+-- the object of a tuple's first variable
+abbrev pub first_object : Tuple → Option Entry
+first_object t = object_at t 0
 
 -- whether a tuple has a null step in what is assigned
 abbrev pub set_drops : Run → List TypedAssignment → Tuple → Bool

@@ -32,3 +32,7 @@ pub mod Outside
 pub mod Alike
 pub mod InFront
 pub mod ByOrder
+pub mod AloneParts
+pub mod AmongRows
+pub mod Readied
+pub mod Decided

@@ -21,3 +21,4 @@ pub mod Standing
 pub mod ByLink
 pub mod Fronts
 pub mod ValueFronts
+pub mod Ready

@@ -4,6 +4,7 @@
 //! what the definitions of jpql_plan say: the same tuples in the same order, or the same Overflow.
 #![tactic(auto)]
 
+mod alone;
 mod asking;
 mod block;
 mod bounds;
@@ -24,6 +25,7 @@ mod finding;
 mod from;
 mod fronts;
 mod gathering;
+mod hardest;
 mod holding;
 mod indexed;
 mod indexes;
@@ -38,6 +40,9 @@ mod object;
 mod passing;
 mod paths;
 mod prints;
+mod ready;
+mod row_index;
+mod rows_told;
 mod run;
 mod simple;
 mod spans;

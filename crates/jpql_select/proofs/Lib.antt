@@ -10,4 +10,6 @@ pub mod Once
 pub mod Sorted
 pub mod Behind
 pub mod InParts
+pub mod Best
+pub mod Aggregated
 pub mod Tallied

@@ -119,7 +119,7 @@ struct Groups<'a> {
 }
 
 /// A group; that of nothing has no variables.
-fn case_of<'t, 'a>(nothing: &'t Tuple<'a>, group: &'t [Tuple<'a>]) -> Case<'t, 'a>
+pub(crate) fn case_of<'t, 'a>(nothing: &'t Tuple<'a>, group: &'t [Tuple<'a>]) -> Case<'t, 'a>
     requires nothing { nothing.now ≡ [] }
     ensures { case_in result ≡ selection.case_of group.now }
 {

@@ -12,6 +12,7 @@
 mod case;
 mod distinct;
 mod groups;
+mod joining;
 mod key;
 mod order;
 mod own;

@@ -7,7 +7,7 @@ ghost use Rattle.jpql_select.specs.Tables.{rows_in};
 
 use crate::case::rows_for;
 use crate::table::{Table, ordered};
-use crate::tallies::counted;
+use crate::tallies::tallied;
 use crate::tuples::selected_tuples;
 use jpa_model::Metamodel;
 use jpa_open::OpenSet;
@@ -44,7 +44,7 @@ pub fn select<'a>(
         set,
         parameters,
     };
-    if let Some(table) = counted(alloc, &run, statement)? {
+    if let Some(table) = tallied(alloc, &run, statement)? {
         return Ok(table);
     }
     let tuples = selected_tuples(alloc, &run, statement)?;

@@ -1,8 +1,9 @@
 -- What the functions of the language take and give, as a table (chapters 4.7.2, 4.7.3 and 4.7.4).
-use Rattle.std.specs.Prelude.{ℕ, nat_le, length, Bool, true, false, ◌&&◌, List, [], ◌∷◌, Option, Some, None}
-use Rattle.std.specs.Prelude.{if◌then◌else◌}
+use Rattle.std.specs.Prelude.{◌≡◌, IfSome, ℕ, nat_le, length, Bool, true, false, ◌&&◌, List, [], ◌∷◌}
+use Rattle.std.specs.Prelude.{if◌then◌else◌, Option, Some, None}
 use Rattle.jpql_tree.specs.declared.Function.{Function}
 use Rattle.jpql_tree.specs.declared.Function.TheVariants as f
+use Rattle.jpql_tree.specs.Calls.{takes}
 use Rattle.jpql_types.specs.declared.sort.Sort.{Sort}
 use Rattle.jpql_types.specs.Scope.{when}
 use Rattle.jpql_types.specs.Sorts as sorts
@@ -82,3 +83,11 @@ given_by kinds any all = sorts.joined_basic all
 -- what a call of a function of this shape is, where it is well typed
 abbrev pub call_by : Shape → List Sort → Option Sort
 call_by h all = if takes_by h (length all) then given_by h.arguments h.result all else None
+
+-- a function takes just as many arguments as its shape says
+abbrev pub IsCountedBy : Function → Type 0
+IsCountedBy f = (n : ℕ) → IfSome (shape f) (λ h. takes f n ≡ takes_by h n)
+
+-- a call of a function is of the sort that its shape gives, where that gives one
+abbrev pub IsTypedBy : Function → Type 0
+IsTypedBy f = (all : List Sort) → IfSome (shape f) (λ h. sorts.call_sort f all ≡ call_by h all)

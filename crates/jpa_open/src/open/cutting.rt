@@ -54,14 +54,14 @@ impl OpenSet {
         member: Member,
         entry: &Valued,
     ) -> Result<bool, Cause> {
-        match self.entry_of(&entry.at.owner) {
+        match self.entry_of(&entry.owner) {
             None => Ok(false),
             Some(seen) => {
                 if !is_kind_of(metamodel, seen.1.class, class) {
                     return Ok(false);
                 }
                 let at = at_object(member, seen)?;
-                Ok(order_values(&at.value, &entry.at.value).is_eq())
+                Ok(order_values(&at.value, &entry.value).is_eq())
             }
         }
     }
@@ -74,7 +74,7 @@ impl OpenSet {
         metamodel: &Metamodel,
         class: usize,
         member: Member,
-        number: u32,
+        number: u16,
         within: &Span,
         by_value: bool,
         count: usize,
@@ -83,12 +83,12 @@ impl OpenSet {
         let mut last = None;
         for entry in self.values.walk(alloc, number, within)? {
             if self.is_live(metamodel, class, member, entry)? {
-                if left == 0 && !(by_value && is_last(last, &entry.at.value)) {
-                    let cut = Some(entry.at.try_copy()?);
+                if left == 0 && !(by_value && is_last(last, &entry.value)) {
+                    let cut = Some(entry.at()?);
                     return Ok(Counted { cut, left });
                 }
                 left = left.saturating_sub(1);
-                last = Some(&entry.at.value);
+                last = Some(&entry.value);
             }
         }
         Ok(Counted { cut: None, left })
@@ -102,7 +102,7 @@ impl OpenSet {
         metamodel: &Metamodel,
         class: usize,
         member: Member,
-        number: u32,
+        number: u16,
         within: &Span,
         by_value: bool,
         count: usize,
@@ -119,7 +119,7 @@ impl OpenSet {
                 return Ok(Counted { cut: None, left });
             };
             let of_value = Span {
-                from: Some(before_value(alloc, &last.at.value)?),
+                from: Some(before_value(alloc, &last.value)?),
                 to,
             };
             let found = self.counted(

@@ -2,9 +2,8 @@
 ghost use Rattle.std.specs.Prelude.{◌≡◌, ◌<◌, length, IfErr};
 ghost use Rattle.jpa_value.specs.declared.refusal.Cause.{Cause};
 
-use crate::index::most_references;
 use crate::open::OpenSet;
-use crate::values::{add_columns, next_number, values_of};
+use crate::values::{columns_with, next_number, values_of};
 use jpa_model::{Member, Metamodel};
 use jpa_ordered::Column;
 use jpa_value::Cause;
@@ -75,14 +74,10 @@ impl OpenSet {
             member,
             number: next_number(self.values.columns()),
         };
-        add_columns(
-            &mut self.values,
-            metamodel,
-            column,
-            self.committed.as_slice(),
-        )?;
-        let most = most_references(self.values.len(), self.committed.len());
-        self.values.allow(most);
+        let alloc = *self.committed.allocator();
+        let columns = columns_with(alloc, metamodel, self.values.columns(), column)?;
+        let values = values_of(columns, self.committed.as_slice())?;
+        self.values = values;
         Ok(())
     }
 
@@ -96,11 +91,9 @@ impl OpenSet {
         if self.is_ready || !self.values.is_outgrown() {
             return Ok(());
         }
-        let values = values_of(
-            *self.committed.allocator(),
-            self.values.columns(),
-            self.committed.as_slice(),
-        )?;
+        let alloc = *self.committed.allocator();
+        let columns = Vec::from_slice(alloc, self.values.columns())?;
+        let values = values_of(columns, self.committed.as_slice())?;
         self.values = values;
         Ok(())
     }

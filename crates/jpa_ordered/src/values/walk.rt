@@ -23,7 +23,7 @@ impl Values {
     pub fn walk<'a>(
         &'a self,
         alloc: Global,
-        number: u32,
+        number: u16,
         span: &Span,
     ) -> Result<Range<'a, Valued>, Cause>
         ensures walk { IfOk result (λ entries. entries ≡ within self.now.entries number span.now) }
@@ -42,7 +42,7 @@ impl Values {
     fn with_owners<'a>(
         &'a self,
         found: Vec<&'a Identity>,
-        number: u32,
+        number: u16,
         span: &Span,
         most: usize,
     ) -> Result<Option<Vec<&'a Identity>>, Cause>
@@ -58,7 +58,7 @@ impl Values {
             if found.len() >= most {
                 return Ok(None);
             }
-            found.push(&entry.at.owner)?;
+            found.push(&entry.owner)?;
         }
         Ok(Some(found))
     }
@@ -72,7 +72,7 @@ impl Values {
     pub fn owners<'a>(
         &'a self,
         alloc: Global,
-        number: u32,
+        number: u16,
         spans: &[Span],
         most: usize,
     ) -> Result<Option<Vec<&'a Identity>>, Cause>
@@ -104,7 +104,7 @@ impl Values {
     pub fn next_from<'a>(
         &'a self,
         alloc: Global,
-        number: u32,
+        number: u16,
         from: Cut,
     ) -> Result<Option<&'a Valued>, Cause>
         ensures first { IfOk result (λ found. option_copied found ≡ slice_get
@@ -123,7 +123,7 @@ impl Values {
     pub fn last_before<'a>(
         &'a self,
         alloc: Global,
-        number: u32,
+        number: u16,
         to: Cut,
     ) -> Result<Option<&'a Valued>, Cause>
         ensures last { IfOk result (λ found. IsLast (option_copied found)

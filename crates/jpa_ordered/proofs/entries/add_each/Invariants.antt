@@ -1,4 +1,4 @@
-use Rattle.std.proofs.Common.{◌≡◌, ◌<◌, ℕ, get_or}
+use Rattle.std.proofs.Common.{◌<◌, ℕ, get_or}
 use Rattle.jpa_ordered.specs.declared.column.Column.{Column}
 use Rattle.jpa_ordered.specs.Values.{KeepsAll, HasEntry}
 use Rattle.jpa_ordered.proofs.entries.add_each.Given as goal
