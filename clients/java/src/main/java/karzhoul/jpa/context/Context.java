@@ -10,6 +10,7 @@ import java.util.BitSet;
 import java.util.EnumSet;
 import java.util.HashMap;
 import java.util.IdentityHashMap;
+import java.util.LinkedHashSet;
 import java.util.List;
 import java.util.Map;
 import java.util.Set;
@@ -52,12 +53,15 @@ final class Context {
     private final List<Entry> touched = new ArrayList<>();
     private final List<Entry> locked = new ArrayList<>();
     private final List<Entry> made = new ArrayList<>();
+    private final List<Push.Orphan> orphans = new ArrayList<>();
+    private final Set<Entry> takenOut = new LinkedHashSet<>();
     private final Map<Entry, Entry.Row> written = new IdentityHashMap<>();
     private final HiddenRows hiddenRows = new HiddenRows(this);
     private final UniqueValues uniques = new UniqueValues(this);
     private final ListOrders listOrders = new ListOrders(this);
     private final UnreadProxies unreadProxies = new UnreadProxies(this);
     private Session session;
+    private Reading reading;
     private int depth;
     private boolean isActive;
     private boolean hasBegun;
@@ -367,6 +371,16 @@ final class Context {
         touched.add(entry);
     }
 
+    /** What the next flush is to remove, if it is an orphan still. */
+    List<Push.Orphan> orphans() {
+        return orphans;
+    }
+
+    /** What left relations of which the program removes orphans, since the last flush. */
+    Set<Entry> takenOut() {
+        return takenOut;
+    }
+
     /** All that was told is written. */
     void cleanTouched() {
         for (Entry entry : touched) {
@@ -408,6 +422,10 @@ final class Context {
     /** Whether the program was told of a change since the last flush. */
     boolean isTouched() {
         return isTouched;
+    }
+
+    boolean hasRemoved() {
+        return hasRemoved;
     }
 
     void touched(boolean is) {
@@ -669,6 +687,20 @@ final class Context {
         lost.put(number, instance);
     }
 
+    /** The instance that was to be it was never given to anybody. */
+    void unlose(long number) {
+        lost.remove(number);
+    }
+
+    /** The reading whose callbacks run now; null where none do. */
+    Reading reading() {
+        return reading;
+    }
+
+    void reading(Reading now) {
+        reading = now;
+    }
+
     /** The program's object is a detached one of this instance. */
     void setDetached(long number, WeakReference<Object> instance) {
         detached.set((int) number);
@@ -702,6 +734,8 @@ final class Context {
         touched.clear();
         locked.clear();
         made.clear();
+        orphans.clear();
+        takenOut.clear();
         clear(written);
         forgetHidden();
         isTouched = false;

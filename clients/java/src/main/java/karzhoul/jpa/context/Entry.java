@@ -30,6 +30,7 @@ final class Entry {
     private boolean isHollow;
     private boolean isStored;
     private boolean isStale;
+    private boolean isComing;
     private List<Object> key;
     private LockModeType lock = LockModeType.NONE;
     private Object plain;
@@ -134,6 +135,15 @@ final class Entry {
 
     void stale(boolean is) {
         isStale = is;
+    }
+
+    /** Whether a reading made it that isn't done. */
+    boolean isComing() {
+        return isComing;
+    }
+
+    void coming(boolean is) {
+        isComing = is;
     }
 
     /** The parts of its key as they are kept, or null while it has none. */

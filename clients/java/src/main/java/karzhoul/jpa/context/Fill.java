@@ -45,7 +45,9 @@ final class Fill {
     private final List<Entry> copying = new ArrayList<>();
     private final Map<Entry, Written> written = new LinkedHashMap<>();
     private final Set<Entry> wereHollow = new HashSet<>();
+    private final Set<Entry> left = new HashSet<>();
     private List<Told> unread = new ArrayList<>();
+    private Reading reading;
 
     Fill(Context context) {
         this.context = context;
@@ -205,6 +207,7 @@ final class Fill {
         context.queue().get(owner.number(), relation.member()).about(owner + "." + relation.path());
         List<Object> refs = context.ask(from)[0].list();
         List<Entry> members = context.listOrders().sorted(owner, relation, entries(refs));
+        reading = context.reading();
         return Members.instances(keep(owner, relation, members), relation);
     }
 
@@ -244,18 +247,36 @@ final class Fill {
     /** As that, after this; what was written to proxies is written again also where reading them fails. */
     private void complete(Runnable first) {
         Throwable failed = null;
+        Reading outer = context.reading();
+        reading = new Reading(context);
+        context.reading(reading);
         try {
             first.run();
             readAll();
+            reading.isDone(outer);
         } catch (RuntimeException | Error e) {
             failed = e;
-            if (isHalf()) {
-                context.marked(e);
-            }
+            giveUp(e);
             throw e;
         } finally {
+            context.reading(outer);
             wereHollow.clear();
             writeAgain(failed);
+        }
+    }
+
+    /** What is read in part goes, but for what a merge has made: its transaction is rolled back. */
+    private void giveUp(Throwable failed) {
+        if (isHalf()) {
+            context.marked(failed);
+        }
+        if (merged.isEmpty()) {
+            links.clear();
+            collections.clear();
+            loaded.clear();
+            reading.takeBack(failed);
+        } else {
+            reading.isDone(null);
         }
     }
 
@@ -271,7 +292,7 @@ final class Fill {
         RuntimeException first = null;
         for (Map.Entry<Entry, Written> each : now.entrySet()) {
             try {
-                each.getValue().over(each.getKey().instance());
+                writeAgain(each.getKey(), each.getValue());
             } catch (RuntimeException e) {
                 context.marked(e);
                 if (failed != null) {
@@ -285,6 +306,17 @@ final class Fill {
         }
         if (first != null) {
             throw first;
+        }
+    }
+
+    private static void writeAgain(Entry proxy, Written over) {
+        if (proxy.isHollow()) {
+            Proxies.asleep(proxy.instance(), () -> {
+                over.over(proxy.instance());
+                return null;
+            });
+        } else {
+            over.over(proxy.instance());
         }
     }
 
@@ -346,7 +378,9 @@ final class Fill {
         Object[] converted = converted(model, values);      // a converter that throws leaves all as it was
         List<Object> key = List.of(Arrays.copyOf(values, model.key().parts().size()));
         Entry entry = entryFor(number, model, key);
-        if (entry.isHollow()) {
+        if (left.contains(entry)) {
+            return;
+        } else if (entry.isHollow()) {
             isRead(entry);
         }
         if (!merged.contains(number)) {
@@ -372,6 +406,7 @@ final class Fill {
         proxy.blank(null);
         proxy.hollow(false);
         wereHollow.add(proxy);
+        reading.wasProxy(proxy);
         if (over != null) {
             written.put(proxy, over);
         }
@@ -398,13 +433,17 @@ final class Fill {
             entry = new Entry(model, context, Entry.State.MANAGED);
             entry.key(key);
             entry.instance(model.newInstance());
+            reading.isNew(entry);
         }
         entry.number(number);
         identities.put(entry);
         return entry;
     }
 
-    /** What was detached may still stand in a collection of what is managed: the same instance, where it is there. */
+    /**
+     * What was detached may still stand in a collection of what is managed: the same instance, where it is there, as the
+     * application has left it.
+     */
     private Entry detached(long number, EntityModel model, List<Object> key) {
         Entry entry = new Entry(model, context, Entry.State.DETACHED);
         entry.letGo();
@@ -414,6 +453,9 @@ final class Fill {
         entry.instance(lost == null ? model.newInstance() : lost);
         if (lost == null) {
             context.lose(number, new WeakReference<>(entry.instance()));
+            reading.standsIn(number);
+        } else {
+            left.add(entry);
         }
         apart.put(number, entry);
         return entry;
@@ -502,7 +544,8 @@ final class Fill {
         link(told.owner(), told.relation(), entry(((Ref) told.told()).number()));
     }
 
-    private static void link(Entry owner, Relation relation, Entry target) {
+    private void link(Entry owner, Relation relation, Entry target) {
+        reading.leads(owner, relation);
         owner.relations[relation.place()] = target;
         relation.set(owner.instance(), target == null ? null : target.instance());
     }
@@ -535,7 +578,10 @@ final class Fill {
         Members.give(told.owner(), told.relation(), members);
     }
 
-    private static List<Entry> keep(Entry owner, Relation relation, List<Entry> members) {
+    private List<Entry> keep(Entry owner, Relation relation, List<Entry> members) {
+        if (reading != null) {
+            reading.leads(owner, relation);
+        }
         owner.relations[relation.place()] = members;
         return members;
     }

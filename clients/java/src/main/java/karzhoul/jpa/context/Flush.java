@@ -1,5 +1,6 @@
 package karzhoul.jpa.context;
 
+import jakarta.persistence.CascadeType;
 import jakarta.persistence.LockModeType;
 import jakarta.persistence.OptimisticLockException;
 import jakarta.persistence.PersistenceException;
@@ -15,6 +16,7 @@ import karzhoul.jpa.engine.Ref;
 import karzhoul.jpa.engine.Reply;
 import karzhoul.jpa.engine.StoreFault;
 import karzhoul.jpa.model.Callbacks;
+import karzhoul.jpa.model.Relation;
 
 /**
  * The flush (chapters 3.2.4 and 3.5). What changed is told, the program is asked which callbacks are due, and these
@@ -50,8 +52,12 @@ final class Flush {
      */
     void commit() {
         prepare();
-        if (hasChanged() && (context.factory().writesFirst(context.identities().models()) || !keyless().isEmpty())) {
+        if (hasChanged() && writesFirst()) {
             write();                    // nothing is asked behind the commit: an end there would tell as refused what stands
+            if (isReviving()) {
+                prepare();
+                write();
+            }
         }
         if (!context.isTouched() && !context.isBegunThere()) {
             context.committed();
@@ -67,6 +73,12 @@ final class Flush {
             }
         }
         context.committed();
+    }
+
+    /** What left one relation, and stands in another one, is removed by a flush and managed again by the next one. */
+    private boolean writesFirst() {
+        return !context.takenOut().isEmpty() || !keyless().isEmpty()
+            || context.factory().writesFirst(context.identities().models());
     }
 
     /** Whether there is something to store since the last flush: what is only read again or locked hears and writes nothing. */
@@ -89,6 +101,9 @@ final class Flush {
     /** Tells what changed, and runs what is due before the writes; what can't be kept then is refused. */
     private void prepare() {
         push();
+        if (isReviving()) {
+            context.storing();
+        }
         if ((hasChanged() || !unfit.isEmpty()) && context.factory().hearsBefore(context.identities().models())) {
             runBefore();
         }
@@ -97,6 +112,11 @@ final class Flush {
         } else if (context.hasStale()) {
             checkStale();
         }
+    }
+
+    /** Whether the next flush manages again what one has removed: that hears its callbacks before it is written. */
+    private boolean isReviving() {
+        return context.hasRemoved() && !Revived.of(context).isEmpty();
     }
 
     private void runBefore() {
@@ -143,16 +163,50 @@ final class Flush {
         Push push = context.push();
         push.waits();
         push.all();
+        context.takenOut().forEach(this::readWhole);
         unfit = push.unfit();
-        for (Entry orphan : push.orphans()) {
-            if (orphan.isManaged()) {
-                new Operations(context).remove(orphan);
-            }
-        }
+        removeOrphans();
         if (unfit.stream().anyMatch(value -> isRemoved(value.entry()))) {
             Set<Entry> revived = Revived.of(context);
             unfit = unfit.stream().filter(value -> !isRemoved(value.entry()) || revived.contains(value.entry())).toList();
         }
+        if (!unfit.isEmpty()) {
+            Set<Event> due = new HashSet<>(pending());
+            unfit = unfit.stream().filter(value -> !due.contains(removalOf(value.entry()))).toList();
+        }
+    }
+
+    /** What it hasn't read goes with its row; read before, it comes back with it where that is put back. */
+    private void readWhole(Entry entry) {
+        if (entry.isManaged() && entry.isStored()) {
+            for (Relation relation : entry.model().relations()) {
+                if (relation.isMany() && goesAlong(relation) && entry.isUnread(relation)) {
+                    new Targets(context).read(entry, relation);
+                }
+            }
+        }
+    }
+
+    private static boolean goesAlong(Relation relation) {
+        return relation.isOwner() || relation.removesOrphans() || relation.cascades().contains(CascadeType.REMOVE);
+    }
+
+    /** Those of calls before the flush too. */
+    private void removeOrphans() {
+        while (!context.orphans().isEmpty()) {
+            List<Push.Orphan> orphans = List.copyOf(context.orphans());
+            context.orphans().clear();
+            for (Push.Orphan orphan : orphans) {
+                if (orphan.isLeft()) {
+                    new Operations(context).remove(orphan.member());
+                }
+            }
+        }
+    }
+
+    /** What the program tells of an orphan that the flush is going to remove. */
+    private static Event removalOf(Entry entry) {
+        return new Event(Callbacks.Event.PreRemove, entry.number());
     }
 
     private static boolean isRemoved(Entry entry) {
@@ -161,9 +215,7 @@ final class Flush {
 
     /** Asks which callbacks are due, and runs those that didn't; answers whether there were any. */
     private boolean runDue(Set<Event> before) {
-        int from = queue.count();
-        queue.pending(context.manager());
-        List<Event> due = events(context.ask(from)[0].list());
+        List<Event> due = pending();
         boolean isNew = false;
         List<Object> unknown = new ArrayList<>();
         due.stream().filter(event -> context.identities().of(event.number()) == null)
@@ -182,6 +234,12 @@ final class Flush {
             }
         }
         return isNew;
+    }
+
+    private List<Event> pending() {
+        int from = queue.count();
+        queue.pending(context.manager());
+        return events(context.ask(from)[0].list());
     }
 
     private static List<Event> events(List<Object> told) {
@@ -224,6 +282,7 @@ final class Flush {
         take(events, true);
         context.uniques().settle();
         context.listOrders().settle();
+        context.takenOut().clear();
         after(events);
     }
 

@@ -10,6 +10,7 @@ import java.util.List;
 import java.util.Set;
 import java.util.function.Predicate;
 import karzhoul.jpa.model.Relation;
+import karzhoul.jpa.model.UnkeptElements;
 
 /** Walks instances along relations, as far as they were read; each instance once, the nearest first. */
 final class Graph {
@@ -67,10 +68,19 @@ final class Graph {
             }
             for (Relation relation : context.modelOf(instance).relations()) {
                 if (cascades.test(relation)) {
-                    along(instance, relation, work);
+                    alongWhatFits(instance, relation, work);
                 }
             }
         }
         return reached;
+    }
+
+    /** Elements that can't be kept are no objects of the program: nothing goes on to them. */
+    private void alongWhatFits(Object instance, Relation relation, Collection<Object> work) {
+        try {
+            along(instance, relation, work);
+        } catch (UnkeptElements unkept) {
+            System.getLogger("karzhoul").log(System.Logger.Level.TRACE, "they go with what the program has", unkept);
+        }
     }
 }

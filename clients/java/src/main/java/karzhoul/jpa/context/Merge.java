@@ -300,7 +300,7 @@ final class Merge {
             return false;
         }
         try {
-            source.model().attributes().forEach(each -> Values.column(each, each.get(source.instance())));
+            source.model().attributes().forEach(each -> Values.stored(each, each.get(source.instance())));
             return false;
         } catch (Unkept unkept) {
             return true;

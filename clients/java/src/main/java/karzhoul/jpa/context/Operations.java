@@ -90,17 +90,19 @@ final class Operations {
         Predicate<Relation> cascades =
             relation -> relation.cascades().contains(CascadeType.REMOVE) || relation.removesOrphans();
         Set<Entry> reached = new Graph(context).entries(entry, cascades);
-        context.push().relationsOf(reached);
+        Push push = context.push();
+        push.waits();           // what is removed isn't judged; what else doesn't fit is met by the flush
+        push.relationsOf(reached);
         int from = queue.count();
         queue.remove(context.manager(), entry.number()).about(entry);
         context.storing();
         removed(context.ask(from)[0].events()).forEach(this::removeJoined);
     }
 
-    /** A joined relation that removes orphans goes on with remove, of which the program doesn't know. */
+    /** A joined relation that removes orphans goes on with remove, of which the program doesn't know but for elements. */
     private void removeJoined(Entry owner) {
         for (Relation relation : owner.model().relations()) {
-            if (relation.isJoined() && relation.removesOrphans()) {
+            if (relation.isJoined() && relation.removesOrphans() && relation.elements().isEmpty()) {
                 Collection<?> members = (Collection<?>) relation.get(owner.instance());
                 for (Object member : members == null ? List.of() : List.copyOf(members)) {
                     Entry entry = context.entryOf(member);
@@ -167,6 +169,9 @@ final class Operations {
         if (entry.isHollow()) {
             new Fill(context).anew(entry);
             return;
+        }
+        if (context.isTouched()) {
+            new ToldElements(context).takeBack(entry);
         }
         int from = queue.count();
         queue.refresh(context.manager(), entry.number()).about(entry);

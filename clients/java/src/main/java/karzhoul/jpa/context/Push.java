@@ -30,12 +30,20 @@ class Push {
      */
     record Unfit(Entry entry, Attribute attribute, Object value, PersistenceException refusal) {}
 
+    /** What left a joined relation that removes orphans, which the program doesn't know as such. */
+    record Orphan(Entry owner, Relation relation, Entry member) {
+        /** Whether its owner, which may be removed itself, hasn't taken it in again, read its members anew, or was let go. */
+        boolean isLeft() {
+            return member.isManaged() && owner.state() != Entry.State.DETACHED
+                && owner.relations[relation.place()] instanceof List<?> members && !members.contains(member);
+        }
+    }
+
     private final Context context;
     private final Identities identities;
     private final Lines queue;
     private final Targets targets;
     private final Deque<Entry> work = new ArrayDeque<>();
-    private final List<Entry> orphans = new ArrayList<>();
     private Map<Object, Entry> images = Map.of();
     private Map<Entry, Object> direct = Map.of();
     private Map<Entry, Object> told = Map.of();
@@ -107,11 +115,6 @@ class Push {
         rest();
     }
 
-    /** What left a joined relation that removes orphans, which the program doesn't know as such. */
-    final List<Entry> orphans() {
-        return orphans;
-    }
-
     /** The entry of an instance, for which the program gets an object where it has none: its values are told too. */
     final Entry known(Object instance) {
         Entry entry = made(instance, true);
@@ -142,7 +145,19 @@ class Push {
                 } catch (Unkept unkept) {
                     refuse(new Unfit(entry, attribute, now, unkept.of(entry)));
                 }
+            } else if (instance == entry.instance()) {
+                checkVersion(entry, attribute);
             }
+        }
+    }
+
+    /** Applications don't change a version (chapter 3.4.2): it would be lost, since the program counts it. */
+    private static void checkVersion(Entry entry, Attribute version) {
+        Object now = version.get(entry.instance());
+        Object before = entry.values[version.place()];
+        if (entry.isManaged() && entry.isStored() && !Values.isSame(version, now, before)) {
+            throw new PersistenceException("the version of " + entry + " was changed: " + version.path() + " is " + now
+                + ", and its row has " + before + "; leave it to the provider, and find the entity again");
         }
     }
 
@@ -176,10 +191,18 @@ class Push {
         } else if (isUngiven(entry, attribute, now)) {
             return;
         }
-        Object column = Values.column(attribute, now);
+        Object column = column(entry, attribute, now);
         touch(entry);
         set(entry, attribute, column);
         entry.values[place] = Values.kept(attribute, now);
+    }
+
+    /** What is told of a value; what the row has isn't judged again where a merge brings it. */
+    private Object column(Entry entry, Attribute attribute, Object now) {
+        Entry image = isMerging ? images.get(entry.instance()) : null;
+        boolean isThere = image != null && image.isStored() && image.model() == entry.model()
+            && Values.isSame(attribute, now, image.values[attribute.place()]);
+        return isThere ? Values.column(attribute, now) : Values.stored(attribute, now);
     }
 
     /** Whether a converter makes something of the null of a new instance. */
@@ -312,8 +335,8 @@ class Push {
             if (more.get(member) < 0) {
                 more.merge(member, 1, Integer::sum);
                 queue.takeOut(entry.number(), relation.member(), numbered(member).number()).about(entry);
-                if (relation.isJoined() && relation.removesOrphans() && !now.contains(member)) {
-                    orphans.add(member);
+                if (relation.removesOrphans() && !now.contains(member)) {
+                    left(entry, relation, member);
                 }
             }
         }
@@ -322,6 +345,14 @@ class Push {
                 more.merge(member, -1, Integer::sum);
                 queue.add(entry.number(), relation.member(), member.number()).about(entry);
             }
+        }
+    }
+
+    private void left(Entry owner, Relation relation, Entry member) {
+        if (relation.isJoined()) {
+            context.orphans().add(new Orphan(owner, relation, member));
+        } else {
+            context.takenOut().add(member);
         }
     }
 

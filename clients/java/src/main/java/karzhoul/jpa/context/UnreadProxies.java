@@ -23,6 +23,13 @@ final class UnreadProxies {
         proxies.add(proxy);
     }
 
+    /** It is unread again, since its reading failed. */
+    void again(Entry proxy) {
+        if (!proxies.contains(proxy)) {
+            add(proxy);
+        }
+    }
+
     private boolean isUnread(Entry entry) {
         return entry.isHollow() && entry.context() == context;
     }

@@ -56,6 +56,21 @@ final class Values {
         }
     }
 
+    /**
+     * What is stored of a value in its column.
+     *
+     * @throws Unkept where it can't be kept, or the column has no room for it
+     */
+    static Object stored(Attribute attribute, Object value) {
+        Object column = column(attribute, value);
+        try {
+            attribute.width().check(value, column);
+        } catch (IllegalArgumentException e) {
+            throw new Unkept(attribute.path(), e);
+        }
+        return column;
+    }
+
     static boolean isSameColumn(Object one, Object other) {
         if (one instanceof byte[] bytes && other instanceof byte[] others) {
             return Arrays.equals(bytes, others);

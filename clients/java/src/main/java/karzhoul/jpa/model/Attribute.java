@@ -27,6 +27,11 @@ public interface Attribute {
     /** Its place in {@link EntityModel#attributes()} of the entity that declares it and of each below. */
     int place();
 
+    /** What its column has room for: what is stored is held to it. */
+    default Width width() {
+        return Width.ANY;
+    }
+
     /** The value in an instance, of the attribute's Java type; null also where an embeddable on the way is null. */
     Object get(Object instance);
 

@@ -1,6 +1,5 @@
 package karzhoul.jpa.model;
 
-import java.lang.invoke.MethodHandle;
 import java.util.ArrayList;
 import java.util.Collection;
 import java.util.List;
@@ -11,15 +10,14 @@ import java.util.Optional;
  * Where a collection of values stands in an instance: to the mapping it is a relation to rows, to the application a
  * collection of elements (chapters 2.6 and 2.7).
  */
-final class ElementPlace implements Place, Elements, ElementView.Maker {
-    private final Place where;
+final class ElementPlace extends ShownPlace implements Elements {
     private final ElementShape shape;
     private final Class<?> javaClass;
     private final RowMemory memory = new RowMemory();
     private boolean isSorted;
 
     ElementPlace(Place where, ElementShape shape, Class<?> javaClass) {
-        this.where = where;
+        super(where);
         this.shape = shape;
         this.javaClass = javaClass;
     }
@@ -30,15 +28,7 @@ final class ElementPlace implements Place, Elements, ElementView.Maker {
     }
 
     @Override
-    public Object get(Object instance) {
-        Object held = where.get(instance);
-        if (held == null) {
-            return null;
-        }
-        ElementView view = ElementView.of(held, instance);
-        if (view != null && !view.isLookedAt()) {
-            return view.rows();
-        }
+    Object looked(Object instance, Object held, ElementView view) {
         if (view == null) {
             readReplaced(instance);
         }
@@ -67,53 +57,15 @@ final class ElementPlace implements Place, Elements, ElementView.Maker {
     }
 
     @Override
-    public Object held(Object instance) {
-        return where.get(instance);
-    }
-
-    @Override
-    public boolean isOfFields() {
-        return where.isOfFields();
-    }
-
-    @Override
-    public MethodHandle reader() {
-        return where.reader();
-    }
-
-    @Override
-    public Object holder(Object instance) {
-        return where.holder(instance);
-    }
-
-    @Override
-    public void hold(Object instance, Object held) {
-        where.set(instance, held);
-    }
-
-    @Override
-    public void set(Object instance, Object value) {
-        Object held = value == null ? null : where.get(instance);
-        ElementView view = held == null ? null : ElementView.of(held, instance);
-        if (view != null && held instanceof ElementView.Shown shown) {
-            view.rows((List<?>) value, false);
-            shown.forget();
-        } else {
-            ElementView.Shown given = value == null ? null
-                    : collection(new ElementView(instance, this, (List<?>) value));
-            if (given != null) {
-                memory.give(instance, given);
-            }
-            where.set(instance, given);
-        }
-    }
-
-    private ElementView.Shown collection(ElementView view) {
-        return switch (shape.container()) {
+    ElementView.Shown collection(Object instance, List<?> rows) {
+        ElementView view = new ElementView(instance, this, rows);
+        ElementView.Shown given = switch (shape.container()) {
             case SET -> new ElementSet(view);
             case MAP -> new ElementMap(view);
             default -> new ElementList(view);
         };
+        memory.give(instance, given);
+        return given;
     }
 
     @Override

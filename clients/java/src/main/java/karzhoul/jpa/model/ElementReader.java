@@ -206,7 +206,7 @@ final class ElementReader {
         String column = member.find(MapKeyColumn.class).map(MapKeyColumn::name).filter(it -> !it.isEmpty())
                 .orElse(last(path) + "_KEY");
         Optional<Codec> codec = codecs.ofMapKey(member, type.get(), scope, inScope);
-        return codec.map(it -> draft.has(KEY, PLACE, it, true, column)).orElse(null);
+        return codec.map(it -> draft.has(KEY, PLACE, it, true, column).within(Width.ofMapKey(member, it))).orElse(null);
     }
 
     /** Reads what elements have; answers the constructor of an embeddable, or null. */
@@ -239,7 +239,8 @@ final class ElementReader {
         boolean isRequired = column.filter(it -> !it.nullable()).isPresent();
         boolean isUnique = column.filter(Column::unique).isPresent();
         codec.ifPresent(it -> draft.parts.add(new ElementShape.Part(
-                draft.has(VALUE, ELEMENT, it, isRequired, name).unique(isUnique), null)));
+                draft.has(VALUE, ELEMENT, it, isRequired, name).unique(isUnique).within(Width.of(member, it, column)),
+                null)));
     }
 
     private void part(Member member, Way way, String path, Scope scope, String inScope, Draft draft, int depth) {
@@ -265,7 +266,8 @@ final class ElementReader {
             String name = column.map(Column::name).filter(it -> !it.isEmpty()).orElse(path);
             boolean isUnique = column.filter(Column::unique).isPresent();
             codecs.of(member, scope, inScope, column).ifPresent(it -> draft.parts.add(new ElementShape.Part(
-                    draft.has(path, path, it, isRequired, name).unique(isUnique), way)));
+                    draft.has(path, path, it, isRequired, name).unique(isUnique).within(Width.of(member, it, column)),
+                    way)));
         }
     }
 }

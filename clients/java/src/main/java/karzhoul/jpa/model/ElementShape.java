@@ -94,9 +94,27 @@ final class ElementShape {
         before.forEach(row -> known.computeIfAbsent(content(row), none -> new ArrayDeque<>()).add(row));
         made.replaceAll(row -> {
             Deque<ElementRow> same = known.get(content(row));
-            return same == null || same.isEmpty() ? row : same.poll();
+            return same == null || same.isEmpty() ? judged(row) : same.poll();
         });
         return made;
+    }
+
+    /** A new row, of whose values each has room in its column. */
+    private ElementRow judged(ElementRow row) {
+        try {
+            if (place != null) {
+                judge(place, row);
+            }
+            parts.forEach(part -> judge(part.attribute(), row));
+        } catch (IllegalArgumentException wrong) {
+            throw unkept(wrong);
+        }
+        return row;
+    }
+
+    private static void judge(PlainAttribute attribute, ElementRow row) {
+        Object value = attribute.get(row);
+        attribute.width().check(value, attribute.codec().toColumn(value));
     }
 
     private List<ElementRow> made(Object elements) {

@@ -30,7 +30,7 @@ final class EntityReader {
 
     /** An attribute that is neither inserted nor updated; its place is found once the relations were read. */
     private record Unwritten(Member member, Way way, String path, Codec codec, boolean isRequired, String column,
-            boolean isUnique) {}
+            boolean isUnique, Width width) {}
 
     private final Faults faults;
     private final Members members;
@@ -188,11 +188,11 @@ final class EntityReader {
             return;
         } else if (!isInserted && !isUpdated) {
             unwritten.add(new Unwritten(member, way, path, codec.get(), isRequired, columnName(column, path),
-                    column.map(Column::unique).orElse(false)));
+                    column.map(Column::unique).orElse(false), Width.of(member, codec.get(), column)));
         } else {
             entity.has(new PlainAttribute(path, names.give(path), Attribute.Role.PLAIN, codec.get(), isRequired, way,
                     entity.columnOf(columnName(column, path))).written(isInserted, isUpdated)
-                    .unique(column.map(Column::unique).orElse(false)));
+                    .unique(column.map(Column::unique).orElse(false)).within(Width.of(member, codec.get(), column)));
         }
     }
 
@@ -212,7 +212,8 @@ final class EntityReader {
                     "Leave insertable and updatable out, or give it the column of a relation");
         }
         entity.has(new PlainAttribute(it.path(), names.give(it.path()), Attribute.Role.PLAIN, it.codec(),
-                it.isRequired(), it.way(), entity.columnOf(it.column())).written(false, false).unique(it.isUnique()));
+                it.isRequired(), it.way(), entity.columnOf(it.column())).written(false, false).unique(it.isUnique())
+                .within(it.width()));
     }
 
     /** Columns of a class below the root are its own, whatever classes beside it have; so are those of other tables. */

@@ -32,9 +32,10 @@ final class KeyReader {
      * @param inHolder where it stands in the embedded id or the id class; null where there is none
      * @param column the name by which relations refer to it
      * @param isUnique whether its column is unique by itself
+     * @param width what its column has room for
      */
     private record Part(String path, String leaf, Codec codec, Place where, Place inHolder, String column,
-            boolean isUnique) {}
+            boolean isUnique, Width width) {}
 
     /** What an entity's reader has left for its key. */
     record Draft(PlainEntity entity, EntityReader reader, Names names) {}
@@ -118,7 +119,7 @@ final class KeyReader {
                 Scope scope = new Scope(null, "", holder.annotated());
                 codec(part, scope).ifPresent(codec -> parts.add(new Part(before + part.name(), before + part.name(),
                         codec,
-                        partWay, partInHolder, columnOf(part, scope), isUnique(part, scope))));
+                        partWay, partInHolder, columnOf(part, scope), isUnique(part, scope), width(part, scope, codec))));
             }
         }
     }
@@ -146,6 +147,10 @@ final class KeyReader {
         return scope.column(member.name()).or(() -> member.find(Column.class)).filter(Column::unique).isPresent();
     }
 
+    private static Width width(Member member, Scope scope, Codec codec) {
+        return Width.of(member, codec, scope.column(member.name()).or(() -> member.find(Column.class)));
+    }
+
     private void readPlain(Draft draft, List<Member> members) {
         Optional<Class<?>> idClass = idClass(draft.entity().javaClass());
         if (members.size() > 1 && idClass.isEmpty()) {
@@ -164,7 +169,8 @@ final class KeyReader {
                 Scope scope = new Scope(null, "", member.annotated());
                 codec(member, scope).ifPresent(codec -> parts.add(new Part(member.name(), member.name(), codec,
                         Way.to(member),
-                        inHolder.orElse(null), columnOf(member, scope), isUnique(member, scope))));
+                        inHolder.orElse(null), columnOf(member, scope), isUnique(member, scope),
+                        width(member, scope, codec))));
             }
         }
         if (parts.isEmpty()) {
@@ -221,7 +227,7 @@ final class KeyReader {
             }
             String path = member.name() + "." + theirs.get(i).path();
             parts.add(new Part(path, path, theirs.get(i).codec(), new KeyOfTarget(relation.get(), theirs.get(i)), part,
-                    member.name(), false));
+                    member.name(), false, Width.ANY));
         }
     }
 
@@ -300,7 +306,7 @@ final class KeyReader {
             String member = isNamed ? keyName + "." + leaf : leaf;
             parts.add(new PlainAttribute(before + part.path(), member, Attribute.Role.KEY, part.codec(), true,
                     part.where(),
-                    part.column()).unique(part.isUnique()));
+                    part.column()).unique(part.isUnique()).within(part.width()));
         }
         Place embeddedAt = embedded == null ? null : Way.to(embedded);
         entity.isKnownBy(new PlainKey(parts, generation, holder, embedded == null ? null : embedded.name(), embeddedAt,

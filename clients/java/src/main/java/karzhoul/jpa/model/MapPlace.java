@@ -1,7 +1,6 @@
 package karzhoul.jpa.model;
 
 import jakarta.persistence.PersistenceException;
-import java.lang.invoke.MethodHandle;
 import java.util.ArrayList;
 import java.util.LinkedHashMap;
 import java.util.List;
@@ -9,13 +8,12 @@ import java.util.Map;
 import java.util.function.Function;
 
 /** Where a map of entities stands in an instance: to the mapping it is a relation to its values (chapter 2.7). */
-final class MapPlace implements Place, ElementView.Maker {
-    private final Place where;
+final class MapPlace extends ShownPlace {
     private final String path;
     private Function<Object, Object> keyOf;
 
     MapPlace(Place where, String path) {
-        this.where = where;
+        super(where);
         this.path = path;
     }
 
@@ -25,15 +23,7 @@ final class MapPlace implements Place, ElementView.Maker {
     }
 
     @Override
-    public Object get(Object instance) {
-        Object held = where.get(instance);
-        if (held == null) {
-            return null;
-        }
-        ElementView view = ElementView.of(held, instance);
-        if (view != null && !view.isLookedAt()) {
-            return view.rows();
-        }
+    Object looked(Object instance, Object held, ElementView view) {
         ((Map<?, ?>) held).forEach(this::checkKey);
         return new ArrayList<>(((Map<?, ?>) held).values());
     }
@@ -47,40 +37,8 @@ final class MapPlace implements Place, ElementView.Maker {
     }
 
     @Override
-    public Object held(Object instance) {
-        return where.get(instance);
-    }
-
-    @Override
-    public boolean isOfFields() {
-        return where.isOfFields();
-    }
-
-    @Override
-    public MethodHandle reader() {
-        return where.reader();
-    }
-
-    @Override
-    public Object holder(Object instance) {
-        return where.holder(instance);
-    }
-
-    @Override
-    public void hold(Object instance, Object held) {
-        where.set(instance, held);
-    }
-
-    @Override
-    public void set(Object instance, Object value) {
-        Object held = value == null ? null : where.get(instance);
-        ElementView view = held == null ? null : ElementView.of(held, instance);
-        if (view != null && held instanceof ElementView.Shown shown) {
-            view.rows((List<?>) value, false);
-            shown.forget();
-        } else {
-            where.set(instance, value == null ? null : new ElementMap(new ElementView(instance, this, (List<?>) value)));
-        }
+    ElementView.Shown collection(Object instance, List<?> rows) {
+        return new ElementMap(new ElementView(instance, this, rows));
     }
 
     @Override

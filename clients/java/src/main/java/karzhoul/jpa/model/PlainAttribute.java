@@ -12,6 +12,7 @@ final class PlainAttribute implements Attribute {
     private boolean isInsertable = true;
     private boolean isUpdatable = true;
     private boolean isUnique;
+    private Width width = Width.ANY;
     private int place = -1;
 
     /**
@@ -52,6 +53,17 @@ final class PlainAttribute implements Attribute {
 
     boolean isUnique() {
         return isUnique;
+    }
+
+    /** Says what its column has room for. */
+    PlainAttribute within(Width room) {
+        this.width = room;
+        return this;
+    }
+
+    @Override
+    public Width width() {
+        return width;
     }
 
     Place where() {

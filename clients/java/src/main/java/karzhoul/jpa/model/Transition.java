@@ -67,11 +67,18 @@ public final class Transition {
                 if (needed.containsKey(line) && value != null && given.add(line)) {
                     nullable.add(attribute);
                     statements.add(new Statement("UPDATE " + entity.mappedName() + " e SET e." + attribute.member()
-                            + " = :to", attribute.codec().toColumn(WrittenValue.of(attribute.codec().javaType(), value))));
+                            + " = :to", column(attribute, value)));
                 }
             }
         }
         return given.containsAll(needed.keySet());
+    }
+
+    private static Object column(PlainAttribute attribute, String text) {
+        Object value = WrittenValue.of(attribute.codec().javaType(), text);
+        Object column = attribute.codec().toColumn(value);
+        attribute.width().check(value, column);
+        return column;
     }
 
     private static String line(PlainEntity entity, PlainAttribute attribute) {

@@ -8,11 +8,15 @@ import karzhoul.jpa.query.Tree.And;
 import karzhoul.jpa.query.Tree.Case;
 import karzhoul.jpa.query.Tree.Compare;
 import karzhoul.jpa.query.Tree.Condition;
+import karzhoul.jpa.query.Tree.Exists;
 import karzhoul.jpa.query.Tree.In;
+import karzhoul.jpa.query.Tree.InParameter;
 import karzhoul.jpa.query.Tree.IsNull;
 import karzhoul.jpa.query.Tree.Like;
 import karzhoul.jpa.query.Tree.Literal;
+import karzhoul.jpa.query.Tree.Member;
 import karzhoul.jpa.query.Tree.Or;
+import karzhoul.jpa.query.Tree.TypeIs;
 import karzhoul.jpa.query.Tree.Value;
 import karzhoul.jpa.query.Tree.When;
 import karzhoul.jpa.query.Unit.Whole;
@@ -98,7 +102,13 @@ final class CaseWriter {
             and.parts().forEach(this::checkTest);
         } else if (!(test instanceof Compare || test instanceof In || test instanceof Like || test instanceof IsNull
                 || test instanceof Always)) {
-            throw new NotKept(test.at(), "this test isn't among what a CASE of the program has");
+            throw new NotKept(test.at(), told(test) + " isn't among what a CASE of the program tests");
         }
+    }
+
+    private static String told(Condition test) {
+        return test instanceof Exists ? "EXISTS" : test instanceof Member ? "MEMBER OF"
+                : test instanceof InParameter ? "IN of a parameter alone" : test instanceof TypeIs ? "TYPE"
+                : Visiting.hasBlock(test) ? "a subquery" : "this test";
     }
 }

@@ -22,12 +22,13 @@ record ChangePlan(Texts whole, ByKeys byKeys, Inexact.Instead<ByKeys> instead, L
      * The program's texts, for those of one WHERE.
      *
      * @param text what changes them
-     * @param check a SELECT that counts objects whose new values are beyond their type, or null
+     * @param check a SELECT that counts objects whose new values are beyond their type or their columns, or null
+     * @param beyond what these would get
      * @param rows those of collections of values, which go with what is deleted
      * @param orders those of lists of entities, which go likewise
      * @param uniques the unique values that it moves
      */
-    record Texts(Text text, Text check, List<RowsGone> rows, List<OrdersGone> orders, List<UniquesMoved> uniques) {
+    record Texts(Text text, Text check, String beyond, List<RowsGone> rows, List<OrdersGone> orders, List<UniquesMoved> uniques) {
         private void check(Binding binding) {
             if (check == null) {
                 return;
@@ -36,8 +37,7 @@ record ChangePlan(Texts whole, ByKeys byKeys, Inexact.Instead<ByKeys> instead, L
             String counting = check.written(binding);
             Object count = binding.asking.rows(counting, binding.parameters(), null, null, false).get(0)[0];
             if (!count.equals(0L)) {
-                throw new PersistenceException("Overflow: SET gives " + count
-                        + " objects a number beyond its Java type");
+                throw new PersistenceException("Overflow: SET gives " + count + " objects " + beyond);
             }
         }
 

@@ -175,7 +175,8 @@ final class Leaves {
             @Override
             Value value(Value part) {
                 if (part instanceof Reference path && path.isCollection()) {
-                    throw new NotKept(part.at(), "a collection stands in what the program doesn't decide");
+                    throw new NotKept(part.at(), "a test of the collection \"" + path + "\" isn't served there; join what it"
+                            + " goes along before, and name that variable");
                 }
                 add(part);
                 return part;

@@ -71,7 +71,8 @@ final class Planner {
     private SelectPlan select(Select typed, Predicate<Condition> byDoor) {
         Fetches.Split split = Fetches.of(text, typed);
         Blocks blocks = new Blocks(text);
-        Select decided = byRows(new WholeKeys().select(new Treats(text).select(new Negation().select(split.select()))));
+        Select decided = byRows(new CaseTests(true).select(new WholeKeys().select(new Treats(text).select(
+                new Negation().select(split.select())))));
         Select lowered = blocks.select(decided);
         lowered = new Averages().select(new Joins(text, false).select(lowered));
         Parts parts = new Parts(lowered, asked(blocks.asked()), split.fetches(),

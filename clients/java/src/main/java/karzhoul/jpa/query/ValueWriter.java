@@ -110,7 +110,10 @@ final class ValueWriter {
             return scaled(written, wanted.scale());
         }
         if (!written.unit().isSame(unit)) {
-            throw new NotKept(value.at(), "values that are kept in different ways stand beside one another");
+            String has = told(written.unit());
+            String other = told(unit);
+            throw new NotKept(value.at(), told(value) + " is " + has + ", and what it stands beside " + other
+                    + (has.equals(other) ? " that is kept in another way" : ""));
         }
         return written;
     }
@@ -141,6 +144,14 @@ final class ValueWriter {
         return value instanceof Case ? "CASE" : value instanceof Aggregate aggregate ? aggregate.kind().name()
                 : value instanceof Tree.Scalar ? "this subquery" : value instanceof Parameter ? "the parameter " + value
                         : value instanceof Reference ? "\"" + value + "\"" : "this value";
+    }
+
+    private static String told(Unit unit) {
+        if (unit instanceof Whole whole) {
+            return whole.scale() == 0 ? "a whole number" : "a decimal of " + whole.scale() + " places";
+        }
+        return unit instanceof Unit.Kept kept ? "a value of " + kept.codec().javaType().getSimpleName()
+                : unit instanceof Unit.Chars ? "a text" : "an entity";
     }
 
     // ---- paths
@@ -182,8 +193,8 @@ final class ValueWriter {
         }
         Written written = value(value, beside);
         if (!(written.unit() instanceof Whole)) {
-            throw new NotKept(value.at(), "the program computes with whole numbers and decimals, and "
-                    + told(value) + " is kept in another way");
+            throw new NotKept(value.at(), told(value) + " is " + told(written.unit())
+                    + ", and the program computes with whole numbers and decimals");
         }
         return written;
     }

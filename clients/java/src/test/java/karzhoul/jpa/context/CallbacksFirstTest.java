@@ -41,6 +41,8 @@ class CallbacksFirstTest {
         @Column(nullable = false) String title;
         @OneToMany(cascade = CascadeType.ALL, mappedBy = "bill") List<Line> lines = new ArrayList<>();
         @ElementCollection List<String> words = new ArrayList<>();
+        @OneToMany(cascade = CascadeType.ALL, orphanRemoval = true, mappedBy = "bill") List<Note> notes = new ArrayList<>();
+        @OneToMany(cascade = CascadeType.ALL, orphanRemoval = true) List<Note> joined = new ArrayList<>();
         @Transient int heard;
         @Transient boolean isLeft;
         @Transient Plain also;
@@ -92,6 +94,20 @@ class CallbacksFirstTest {
     }
 
     @Entity
+    static class Note {
+        @Id Long id;
+        @ManyToOne Bill bill;
+        @Column(scale = 2) BigDecimal amount;
+        @ElementCollection List<String> words = new ArrayList<>();
+        @Transient int heard;
+
+        @PreUpdate
+        void hear() {
+            heard++;
+        }
+    }
+
+    @Entity
     static class Named {
         @Id @GeneratedValue(strategy = GenerationType.UUID) String id;
         @Column(scale = 2) BigDecimal amount;
@@ -113,7 +129,7 @@ class CallbacksFirstTest {
 
     @BeforeEach
     void open() {
-        factory = Units.over("karzhoul:memory", Bill.class, Line.class, Named.class, Plain.class);
+        factory = Units.over("karzhoul:memory", Bill.class, Line.class, Named.class, Note.class, Plain.class);
         manager = factory.createEntityManager();
         Plain plain = new Plain();
         plain.id = 1L;
@@ -338,6 +354,71 @@ class CallbacksFirstTest {
         assertEquals(List.of(), manager.createQuery("SELECT b FROM Bill b", Bill.class).getResultList());
         assertEquals(List.of(), manager.createQuery("SELECT l FROM Line l", Line.class).getResultList());
         assertEquals(List.of(), manager.createQuery("SELECT p FROM Plain p", Plain.class).getResultList());
+    }
+
+    private Note note(long id) {
+        Note note = new Note();
+        note.id = id;
+        note.bill = stored();
+        note.words.add("a");
+        return note;
+    }
+
+    @Test
+    void anOrphanIsNotJudged() {
+        for (boolean isJoined : new boolean[] {false, true}) {
+            for (boolean isFlushed : new boolean[] {true, false}) {
+                commit(() -> {
+                    Note note = note(1);
+                    manager.persist(note);
+                    (isJoined ? note.bill.joined : note.bill.notes).add(note);
+                });
+                Bill bill = stored();
+                List<Note> notes = isJoined ? bill.joined : bill.notes;
+                Note note = notes.get(0);
+                commit(() -> {
+                    notes.clear();
+                    note.amount = new BigDecimal("2.005");
+                    note.words.add(LONG);
+                    if (isFlushed) {
+                        manager.flush();
+                    }
+                });
+                assertEquals(0, note.heard, "it isn't updated");
+                assertNull(manager.find(Note.class, 1L));
+                assertEquals(List.of(), stored().notes);
+            }
+        }
+        assertEquals(0, Units.rowsOfElements(factory));
+    }
+
+    @Test
+    void whatIsNoOrphanIsJudgedBesideOne() {
+        commit(() -> {
+            Note note = note(1);
+            note.bill.notes.add(note);
+        });
+        String words = refused(() -> {
+            Bill bill = stored();
+            Note note = bill.notes.remove(0);
+            note.amount = new BigDecimal("2.005");
+            bill.isLeft = true;
+            bill.amount = new BigDecimal("3.005");
+        });
+        assertEquals("Bill 1.amount can't be stored: 3.005", words.substring(0, 36));
+        assertEquals(1, stored().notes.size());
+    }
+
+    @Test
+    void elementsOfWhatIsRemovedAreNotJudged() {
+        commit(() -> manager.persist(note(1)));
+        commit(() -> {
+            Note note = manager.find(Note.class, 1L);
+            note.words.add(LONG);
+            manager.remove(note);
+        });
+        assertNull(manager.find(Note.class, 1L));
+        assertEquals(0, Units.rowsOfElements(factory));
     }
 
     @Test

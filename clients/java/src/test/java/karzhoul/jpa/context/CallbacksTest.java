@@ -45,6 +45,16 @@ class CallbacksTest extends Tried {
     }
 
     @Test
+    void whatChangesBetweenPersistAndCommitHearsNoPreUpdate() {
+        Person ada = new Person("Ada");
+        commit(() -> {
+            manager.persist(ada);
+            ada.setName("Bea");
+        });
+        assertEquals(List.of("PrePersist Person Ada", "PostPersist Person Bea"), Audit.told());
+    }
+
+    @Test
     void whatIsNotChangedHearsNothing() {
         store(new Person("Ada"));
         Person ada = manager.find(Person.class, 1L);

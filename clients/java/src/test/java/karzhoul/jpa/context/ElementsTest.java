@@ -189,6 +189,35 @@ class ElementsTest {
     }
 
     @Test
+    void refreshDropsWhatAMergeChanged() {
+        commit(other -> other.persist(full()));
+        List<Consumer<Page>> changes = List.of(it -> it.words.add("new"), it -> it.words.clear(),
+            it -> it.steps.add(0, "zero"), it -> it.spots.get(0).left = 9, it -> it.titles.put("fr", "page"),
+            it -> it.titles.remove("de"), it -> it.places.get(Mark.GREEN).left = 8, it -> it.marks.remove(Mark.RED));
+        List<String> faults = new ArrayList<>();
+        for (Consumer<Page> change : changes) {
+            Page detached = read(it -> {
+                content(it);
+                return it;
+            });
+            change.accept(detached);
+            try {
+                commit(other -> {
+                    Page merged = other.merge(detached);
+                    assertEquals(content(detached), content(merged));
+                    other.refresh(merged);
+                    assertEquals(content(full()), content(merged));
+                });
+            } catch (RuntimeException e) {
+                faults.add(changes.indexOf(change) + " " + e);
+            }
+            assertEquals(content(full()), read(ElementsTest::content));
+            assertEquals(19, rows());
+        }
+        assertEquals(List.of(), faults);
+    }
+
+    @Test
     void refreshBringsBackWhatTheRowHas() {
         commit(other -> other.persist(full()));
         manager.getTransaction().begin();

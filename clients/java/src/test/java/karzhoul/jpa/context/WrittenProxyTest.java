@@ -505,13 +505,15 @@ class WrittenProxyTest {
     }
 
     @Test
-    void aVersionIsLeftAsThatOfAnyOther() {
-        commit(() -> {
+    void aVersionIsRefusedAsThatOfAnyOther() {
+        Throwable cause = refused(() -> {
             Part proxy = proxy();
             proxy.version = 9;
             proxy.number = 1;
         });
-        assertEquals(1, stored().version);
+        assertEquals("the version of Part 1 was changed: version is 9, and its row has 0; leave it to the provider, and find the"
+            + " entity again", cause.getMessage());
+        assertEquals(0, stored().version);
     }
 
     @Test

@@ -204,6 +204,14 @@ class FormsTest extends OverShop {
                 -> SELECT p.id FROM Person p WHERE NOT EXISTS (SELECT q FROM Person q WHERE LOWER(q.name) = 'ada' AND (p.mood = q.mood OR q.mood IS NULL OR p.mood IS NULL))
                 => [Long 2, Long 4]
 
+                SELECT CASE WHEN p.orders IS EMPTY THEN 0 ELSE SIZE(p.orders) END FROM Person p
+                -> SELECT CASE WHEN SIZE(p.orders) = 0 THEN 0 ELSE SIZE(p.orders) END FROM Person p
+                => [Integer 0, Integer 1, Integer 1, Integer 2]
+
+                SELECT p FROM Person p WHERE CASE WHEN NOT p.orders IS EMPTY THEN 'some' ELSE 'none' END = 'none' OR p.age < 0
+                -> SELECT p FROM Person p WHERE (CASE WHEN SIZE(p.orders) <> 0 THEN 'some' ELSE 'none' END = 'none' OR p.age < 0)
+                => [Person 4]
+
                 SELECT CASE WHEN p.age > 40 THEN 'old' WHEN p.name IS NULL THEN 'none' ELSE p.name END FROM Person p
                 -> SELECT CASE WHEN p.age > 40 THEN 'old' WHEN p.name IS NULL THEN 'none' ELSE p.name END FROM Person p
                 => [Ada, Bob, none, old]

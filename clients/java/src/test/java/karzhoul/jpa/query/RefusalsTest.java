@@ -92,15 +92,21 @@ class RefusalsTest {
                 SELECT p FROM Person p LEFT JOIN p.team t ON t.leader.name = 'x' ## 46 in the ON of a LEFT JOIN a path has one step at most; join what it goes along before, and name that variable
                 SELECT o FROM Order o WHERE o.hour < CURRENT_TIMESTAMP ## 29 a time of day is compared with a date
                 SELECT a FROM Tag a, Tag b, Tag c, Tag d, Tag e, Tag f, Tag g, Tag h, Tag i ## 1 the statement takes 9 variables, those of its subqueries and of its joins over several steps too, and there are at most 8
+                SELECT CASE WHEN t MEMBER OF p.boss.tags THEN 1 ELSE 2 END FROM Person p, Tag t ## 30 a test of the collection "p.boss.tags" isn't served there; join what it goes along before, and name that variable
                 UPDATE Person p SET p.id = 1 ## 21 "p.id" is part of the key, which SET doesn't change
                 UPDATE Person p SET p.orders = NULL ## 21 SET takes attributes and links to one entity, and "p.orders" is neither
                 UPDATE Person p SET p.boss.name = 'x' ## 21 SET takes attributes and links to one entity, and "p.boss.name" is neither
                 UPDATE Person p SET p.age = 'x' ## 29 "p.age" is a number, and is set to a text
                 UPDATE Person p SET p.boss = p.boss.boss ## 30 SET gives a link a parameter or NULL
-                UPDATE Person p SET p.credit = p.credit * 1.1 ## 32 "*" has 3 decimal places, and what it stands beside 2
-                UPDATE Person p SET p.credit = p.credit + 0.005 ## 32 "+" has 3 decimal places, and what it stands beside 2
-                UPDATE Person p SET p.age = p.credit ## 29 "p.credit" has 2 decimal places, and what it stands beside 0
-                UPDATE Person SET age = SQRT(age) ## 25 SQRT isn't among what the program computes
+                UPDATE Person p SET p.credit = p.credit * 1.1 ## 32 "*" has 3 decimal places, and what it stands beside 2; in SET give a parameter that has the value, or load the entities and set it
+                UPDATE Person p SET p.credit = p.credit + 0.005 ## 32 "+" has 3 decimal places, and what it stands beside 2; in SET give a parameter that has the value, or load the entities and set it
+                UPDATE Person p SET p.age = p.credit ## 29 "p.credit" has 2 decimal places, and what it stands beside 0; in SET give a parameter that has the value, or load the entities and set it
+                UPDATE Person SET age = SQRT(age) ## 25 SQRT isn't among what the program computes; in SET give a parameter that has the value, or load the entities and set it
+                UPDATE Person p SET p.weight = p.weight * 2 ## 32 "p.weight" is a value of Double, and the program computes with whole numbers and decimals; in SET give a parameter that has the value, or load the entities and set it
+                UPDATE Person p SET p.weight = 5 + :p ## 32 "+" is a whole number, and what it stands beside a value of Double; in SET give a parameter that has the value, or load the entities and set it
+                UPDATE Person p SET p.age = p.age / 2 ## 29 "/" isn't among what the program computes; in SET give a parameter that has the value, or load the entities and set it
+                UPDATE Person p SET p.age = CASE WHEN EXISTS (SELECT o FROM p.orders o) THEN 1 ELSE 2 END ## 39 EXISTS isn't among what a CASE of the program tests; in SET put what CASE asks into WHERE, with an UPDATE for each value, or load the entities and set it
+                UPDATE Person p SET p.age = CASE WHEN :o MEMBER OF p.orders THEN 1 ELSE 2 END ## 39 MEMBER OF isn't among what a CASE of the program tests; in SET put what CASE asks into WHERE, with an UPDATE for each value, or load the entities and set it
                 UPDATE Person SET nam = 1 ## 19 there is no variable "nam"; did you mean "name"?
                 """.split("\n"));
     }

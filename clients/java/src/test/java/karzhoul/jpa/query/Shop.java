@@ -102,7 +102,7 @@ public final class Shop {
         public boolean active;
         public Mood mood;
         public LocalDate born;
-        @Column(scale = 2, precision = 12)
+        @Column(scale = 2, precision = 18)
         public BigDecimal credit;
         public Double weight;
         @Convert(converter = CentsConverter.class)
