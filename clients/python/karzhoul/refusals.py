@@ -89,7 +89,12 @@ class Disconnected(ProgramEnded):
     committed is rolled back. `EntityManagerFactory.reopen` connects again, and `retry` does so by
     itself, where no commit was under way."""
 
+    # Whether there was a connection.
+    _was_made = True
+
     def _how(self) -> str:
+        if not self._was_made:
+            return f"there is no connection to the server: {self.told}"
         return f"the connection to the server has ended: {self.told}"
 
 

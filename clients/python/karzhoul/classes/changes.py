@@ -10,7 +10,7 @@ from dataclasses import replace
 from pathlib import Path
 from types import ModuleType
 from typing import TYPE_CHECKING, Any, Callable, Dict, Iterable, Iterator, List, Mapping
-from typing import NamedTuple, Optional, Tuple, Union
+from typing import NamedTuple, Optional, Set, Tuple, Union
 
 from ..told import shown
 from ..refusals import Damaged, KarzhoulError, Refused
@@ -72,78 +72,125 @@ def _beside(given: Given, model: Model) -> Optional[Path]:
 def open_classes(
     given: Given, lock: Union[None, str, Path], is_in_memory: bool, start: Start
 ) -> EntityManagerFactory:
-    """Opens a store with classes by what starts a program over a mapping; the lock is written once
-    the store is as they say. A store in memory, which goes with the factory, leaves the lock as it
-    is."""
+    """Opens a store with classes by what starts a program over a mapping, and writes their lock. A
+    store in memory, which goes with the factory, leaves the lock as it is."""
     made = make(given, lock)
     if made.file is None and not is_in_memory:
         raise ValueError(
             f"the classes are in no file, beside which {locks.NAME} would be: say where it is to "
             "be, as lock=\"karzhoul.lock.json\""
         )
-    binding = Binding(made.model)
-    try:
-        app = start(made.mapping, binding)
-    except Damaged as damaged:
-        _fill_required(made, start, damaged)
-        app = start(made.mapping, binding)
     uniques = Uniques(made.model, made.lock)
+    app = _opened(made, uniques, None if is_in_memory else made.file, start)
+    app.bind(uniques if uniques.all else None)
+    return app
+
+
+def _opened(
+    made: Made, uniques: Uniques, file: Optional[Path], start: Start
+) -> EntityManagerFactory:
+    """A factory over a store that is as the classes say, with the file of their lock."""
+    binding = Binding(made.model)
+    app, is_soft = _started(made, binding, start)
     try:
-        unmade = _bring_forms(app, made, uniques)
+        unmade = _bring_over(app, made, uniques, file, is_soft)
+        if is_soft:
+            app.close()
+            app = start(made.mapping, binding)
         # The keys go by many commits. Where they are stopped, the lock tells of what is stored.
-        if made.file is not None and not is_in_memory:
-            locks.write(made.file, locks.finished(made.lock))
         _make_keys(app, uniques, unmade)
     except BaseException:
         with suppress(Refused):
             app.close()
         raise
-    app.bind(uniques if uniques.all else None)
     return app
+
+
+def _started(
+    made: Made, binding: Binding, start: Start
+) -> Tuple[EntityManagerFactory, bool]:
+    """A factory over the store, and whether it lets what is required be null: so it does where
+    objects of before have nothing there."""
+    try:
+        return start(made.mapping, binding), False
+    except Damaged as damaged:
+        try:
+            return start(mapping_of(made.model, made.lock, is_soft=True), None), True
+        except Damaged:
+            raise damaged from None  # It is none of these classes, whatever may be null.
 
 
 def settle(app: EntityManagerFactory, made: Made) -> None:
     """Has a new store say its forms, and give each value that is unique its key, by a factory over
     any mapping of the same rows; a `NotBroughtOver` where two objects have one value."""
     uniques = Uniques(made.model, made.lock)
-    _make_keys(app, uniques, _bring_forms(app, made, uniques))
+    _make_keys(app, uniques, _bring_over(app, made, uniques, None))
+
+
+# ---- the commit
+
+
+def _bring_over(
+    app: EntityManagerFactory, made: Made, uniques: Uniques, file: Optional[Path],
+    is_soft: bool = False,
+) -> List[Constraint]:
+    """Has a store be as the classes say, all of it in one commit before which all is judged, and
+    answers what is unique whose keys are to be made.
+
+    The lock is written right before that commit: a kill between the two leaves numbers that no row
+    has yet, and never a row with a number that could be given to something else."""
+    before = locks.text_of(file)
+    try:
+        with app.begin() as manager:
+            unmade = _changed(app, manager, made, uniques, is_soft)
+            if file is not None:
+                locks.write(file, locks.finished(made.lock))
+    except Refused:  # Nothing of it is stored.
+        locks.put_back(file, before)
+        raise
+    return unmade
+
+
+def _changed(
+    app: EntityManagerFactory, manager: EntityManager, made: Made, uniques: Uniques, is_soft: bool
+) -> List[Constraint]:
+    """Has each column be in the form that its class says, and what is required be there; and what
+    is unique whose keys are to be made."""
+    faults: List[str] = []
+    stored: Dict[str, str] = {at: form for at, form in manager.query(_FORMS_OF)}
+    unfit = _bring_forms(app, manager, made, stored, faults)
+    filled = _fill_required(app, manager, made, faults) if is_soft else set()
+    filled |= _fill_parts(app, manager, made, faults)
+    unmade: List[Constraint] = []
+    for each in uniques.dropped + uniques.all:
+        before, is_on = stored.get(each.at), each in uniques.all
+        names = {it.name for it in each.members}
+        # What was stored by the mapping alone, as by a load, has no key. And where the making of
+        # keys was stopped, some have keys that the store doesn't speak of.
+        odd = manager.query(keyless(each) if is_on else linked(each), max=1)
+        if before == (each.form if is_on else _DROPPED) and not (names & filled or odd):
+            continue
+        if is_on and not names & unfit:
+            faults += doubles(manager, each)
+        manager.execute_update(f"UPDATE {each.entity} e SET e.{each.link} = NULL")
+        _say_form(app, manager, each.at, _DROPPED, is_new=before is None)
+        unmade += [each] if is_on else []
+    if faults:
+        raise NotBroughtOver(faults)
+    return unmade
 
 
 # ---- what is required now
 
 
-def _fill_required(made: Made, start: Start, damaged: Damaged) -> None:
-    """Gives objects of before the defaults of what is required now."""
-    soft = mapping_of(made.model, made.lock, is_soft=True)
-    try:
-        app = start(soft, None)
-    except Damaged:
-        raise damaged from None  # It is none of these classes, whatever may be null.
-    faults: List[str] = []
-    with app, app.begin() as manager:
-        rescaled = _rescaled(manager, made)
-        for entity, member in _required(made.model):
-            before = rescaled.get((entity.name, member.name))
-            unset = f"SELECT COUNT(e) FROM {entity.name} e WHERE e.{member.name} IS NULL"
-            if before is not None and manager.one(unset):
-                # A default that is set now would be brought to the other scale with the others.
-                faults.append(f"{entity.name}.{member.said} is stored as {before}, and is required "
-                              "and of another scale now: let it be required first, and open the "
-                              "store, or let it be of that scale first")
-            elif _fill(app, manager, entity, member, faults):
-                _unsay_unique(manager, made, member)
-        if faults:
-            raise NotBroughtOver(faults) from None
-
-
-def _rescaled(manager: EntityManager, made: Made) -> Dict[Tuple[str, str], str]:
-    """The forms of the stored numbers whose scale is another one now, by entity and name."""
-    stored: Dict[str, str] = {at: form for at, form in manager.query(_FORMS_OF)}
+def _fill_required(
+    app: EntityManagerFactory, manager: EntityManager, made: Made, faults: List[str]
+) -> Set[str]:
+    """Gives objects of before the defaults of what is required now, and answers the names of what
+    was given."""
     return {
-        (column.entity.name, column.name): stored[column.at]
-        for column in _columns(made)
-        if column.at in stored and stored[column.at] != column.form
-        and None not in (scale_of(stored[column.at]), scale_of(column.form))
+        member.name for entity, member in _required(made.model)
+        if _fill(app, manager, entity, member, faults)
     }
 
 
@@ -192,14 +239,6 @@ def _give_default(
     manager.clear()  # Else they wouldn't see what an UPDATE gives them.
 
 
-def _unsay_unique(manager: EntityManager, made: Made, member: Member) -> None:
-    """Has the keys of what is unique be made anew, since values were set beside them."""
-    for each in Uniques(made.model, made.lock).all:
-        form = manager.find(FORMS, each.at) if member in each.members else None
-        if form is not None:
-            form.form = _DROPPED
-
-
 def _named(entity: Any) -> str:
     return str(entity).strip("<>")
 
@@ -215,15 +254,15 @@ def _required(model: Model) -> Iterator[Tuple[Declared, Member]]:
 
 def _fill_parts(
     app: EntityManagerFactory, manager: EntityManager, made: Made, faults: List[str]
-) -> List[Member]:
+) -> Set[str]:
     """Gives embedded values that may be None, and are there, the defaults of their required parts,
-    whose columns must let these be null; and answers which were given."""
-    return [
-        member for entity in made.model.values()
+    whose columns must let these be null; and answers the names of what was given."""
+    return {
+        member.name for entity in made.model.values()
         for whole in _optional_wholes(entity.members.values())
         for member in _needed(whole)
         if _fill(app, manager, entity, member, faults, whole)
-    ]
+    }
 
 
 def _optional_wholes(members: Iterable[Member]) -> Iterator[Member]:
@@ -285,44 +324,28 @@ def _at(table: int, stored: locks.Record) -> str:
 
 
 def _bring_forms(
-    app: EntityManagerFactory, made: Made, uniques: Uniques
-) -> List[Constraint]:
-    """Has each column be in the form that its class says, and each embedded value have its required
-    parts, all of them in one commit; and what is unique whose keys are to be made."""
-    faults: List[str] = []
-    unmade: List[Constraint] = []
-    with app.begin() as manager:
-        stored: Dict[str, str] = {at: form for at, form in manager.query(_FORMS_OF)}
-        for column in _columns(made):
-            before, form = stored.get(column.at), column.form
-            if before == form:
-                continue
-            try:
-                if form == _DROPPED:
-                    _let_go(app, manager, column)
-                elif before not in (None, _DROPPED):
-                    _bring(manager, column, str(before))
-            except Unfit as why:
-                faults.append(f"{column.entity.name}.{column.name} is stored as {before}, and is "
-                              f"{form} now: {why}")
-                continue
-            _say_form(app, manager, column.at, form, is_new=before is None)
-        filled = {it.name for it in _fill_parts(app, manager, made, faults)}
-        for each in uniques.dropped + uniques.all:
-            before, is_on = stored.get(each.at), each in uniques.all
-            is_filled = any(it.name in filled for it in each.members)
-            # What was stored by the mapping alone, as by a load, has no key. And where the making
-            # of keys was stopped, some have keys that the store doesn't speak of.
-            odd = manager.query(keyless(each) if is_on else linked(each), max=1)
-            if before == (each.form if is_on else _DROPPED) and not (is_filled or odd):
-                continue
-            faults += doubles(manager, each) if is_on else ()
-            manager.execute_update(f"UPDATE {each.entity} e SET e.{each.link} = NULL")
-            _say_form(app, manager, each.at, _DROPPED, is_new=before is None)
-            unmade += [each] if is_on else []
-        if faults:
-            raise NotBroughtOver(faults)
-    return unmade
+    app: EntityManagerFactory, manager: EntityManager, made: Made, stored: Mapping[str, str],
+    faults: List[str],
+) -> Set[str]:
+    """Brings the columns whose stored form is another one over to that of their class, and answers
+    the names of those that can't be; one more of the faults says of each why."""
+    unfit: Set[str] = set()
+    for column in _columns(made):
+        before, form = stored.get(column.at), column.form
+        if before == form:
+            continue
+        try:
+            if form == _DROPPED:
+                _let_go(app, manager, column)
+            elif before not in (None, _DROPPED):
+                _bring(manager, column, str(before))
+        except Unfit as why:
+            unfit.add(column.name)
+            faults.append(f"{column.entity.name}.{column.name} is stored as {before}, and is "
+                          f"{form} now: {why}")
+            continue
+        _say_form(app, manager, column.at, form, is_new=before is None)
+    return unfit
 
 
 def _say_form(
@@ -354,6 +377,8 @@ def _let_go(app: EntityManagerFactory, manager: EntityManager, column: _Column) 
     for each in manager.query(f"SELECT e FROM {name} e WHERE {path} IS NOT EMPTY"):
         for member in app.get(each, column.name):
             app.take_out(each, column.name, member)
+    manager.flush()
+    manager.clear()  # A later change of one would write all that it has been read with.
 
 
 _OTHER = (

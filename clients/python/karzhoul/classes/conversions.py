@@ -14,7 +14,7 @@ from ..queries.rewriting import Edits, is_list
 from .binding import embedded_of
 from .checks import chain, member_of
 from .declared import OWN_ID, Member, Model
-from .types import Iso, Listed, Money, Plainly, Span, StoredType, Truth, Unfit
+from .types import Iso, Listed, Money, OwnType, Plainly, Span, StoredType, Truth, Unfit
 from .values import WrongValue, from_stored, to_stored
 
 Typed = Optional[Tuple[StoredType, str]]
@@ -23,6 +23,8 @@ _SCALED = (Money, Span)
 # Calls of what is of one type, which give that type.
 _OF_ONE_TYPE = ("COALESCE", "NULLIF", "ABS", "MOD")
 _OF_NUMBERS = ("ABS", "MOD")
+# Of calls that count characters, the places of what they count by.
+_COUNTING = {"SUBSTRING": {1: "a start", 2: "a length"}, "LOCATE": {2: "a start"}}
 
 
 @dataclass
@@ -106,6 +108,11 @@ class Conversions:
             return found  # The program refuses it, or knows more of queries.
         reader = Reader(self._model, text, found)
         reader.read(statement)
+        known = {name: it for name, it in found.parameters.items() if not it[0].is_plain}
+        if known:  # A parameter is of its type wherever it stands.
+            found = Analysis(text, parameters=found.parameters)
+            reader = Reader(self._model, text, found, known)
+            reader.read(statement)
         found.text = reader.edits.text()
         if not any(found.items) and not any(found.wholes):
             found.items = []
@@ -146,8 +153,13 @@ Scope = Mapping[str, str]
 class Reader:
     """Tells the types in a statement."""
 
-    def __init__(self, model: Model, text: str, found: Analysis) -> None:
+    def __init__(
+        self, model: Model, text: str, found: Analysis,
+        known: Optional[Mapping[str, Tuple[StoredType, str]]] = None,
+    ) -> None:
+        """With the types of parameters that are known before."""
         self._model, self._text, self._found = model, text, found
+        self._known = known or {}
         self.edits = Edits(text)
         # Where literals stand that are of a type already.
         self._done: Set[int] = set()
@@ -354,6 +366,12 @@ class Reader:
                 return
         if node.sort in ("arithmetic", "signed") or node.said in _OF_NUMBERS:
             self._check_numbers(node, scope)
+        if node.said in _COUNTING:
+            self._check_counting(node, scope)
+        if node.said == "MOD" or node.sort == "arithmetic" and self._is_sum(node):
+            self._check_mixed(node, scope)
+        if node.sort == "like":
+            self._check_like(node, scope)
         if node.sort in ("compare", "between", "in") or (
             node.sort == "arithmetic" and self._is_sum(node)
         ) or (node.sort == "call" and node.said in _OF_ONE_TYPE):
@@ -379,6 +397,37 @@ class Reader:
                     "CASE give a number for each, as CASE WHEN .. THEN 1 ELSE 0 END"
                 )
 
+    def _check_counting(self, node: Node, scope: Scope) -> None:
+        """Refuses to count characters by what is stored as a whole number of something else."""
+        for place, part in enumerate(node.parts):
+            kind, name = self._type(part, scope), _COUNTING[node.said].get(place)
+            if name is not None and kind is not None and not kind[0].is_plain:
+                raise WrongValue(
+                    f"{node.said} takes {name} in whole numbers, and {kind[1]} is {kind[0].what}, "
+                    f"stored as {kind[0].stored}, which it would count by: hand the number in as a "
+                    "parameter, or take an attribute that is an int"
+                )
+
+    def _check_mixed(self, node: Node, scope: Scope) -> None:
+        """Refuses to compute with what is of two types."""
+        kinds = [it for it in (self._type(part, scope) for part in node.parts) if it is not None]
+        for kind, what in kinds:
+            if _differ(kinds[0][0], kind):
+                computed = cut(self._text[node.at : node.end])
+                raise WrongValue(
+                    f"{computed} computes with {kinds[0][1]}, {kinds[0][0].what}, and {what}, "
+                    f"{kind.what}, whose stored forms mean different things: hand the one in as a "
+                    "parameter, or select each by itself"
+                )
+
+    def _check_like(self, node: Node, scope: Scope) -> None:
+        """Refuses LIKE of what is of a type of its own, and is stored as no text."""
+        kinds = [it for it in (self._type(part, scope) for part in node.parts) if it is not None]
+        for kind, what in kinds:
+            if kind.stored != "text" and not kind.is_plain:
+                raise WrongValue(f"{what} is {kind.what}, and LIKE takes texts: compare it, as by "
+                                 "=, BETWEEN or IN")
+
     def _case(self, node: Node, scope: Scope) -> None:
         """A CASE: a value behind it and those behind its WHENs are of one type, and so is all that
         it gives."""
@@ -388,9 +437,7 @@ class Reader:
         kinds = [(part, self._type(part, scope)) for part in results]
         typed = [kind for _, kind in kinds if kind is not None and not kind[0].is_plain]
         for _, other in kinds if typed else ():
-            if other is not None and other[0].form != typed[0][0].form and not any(
-                isinstance(it[0], _SCALED) for it in (other, typed[0])
-            ):
+            if other is not None and not typed[0][0].reads(other[0]):
                 raise _mixed(typed[0], f"{other[1]}, {other[0].what}")
         self._alike(results, scope)
         for part, other in kinds if typed else ():
@@ -407,10 +454,7 @@ class Reader:
         for part, scope in parts:
             other = self._type(part, scope)
             if known is not None and other is not None and _differ(known[0], other[0]):
-                raise WrongValue(
-                    f"{known[1]} is {known[0].what}, and {other[1]} {other[0].what}: what is "
-                    "stored of the one is not of the other's kind, and they can't be compared"
-                )
+                raise _apart(known, other)
             known = known or other
         for part, scope in parts if known is not None else ():
             self._give(part, known, scope)
@@ -420,7 +464,7 @@ class Reader:
         assert kind is not None
         if node.sort == "parameter":
             before = self._found.parameters.setdefault(node.said, kind)
-            if before[0].form != kind[0].form:
+            if not before[0].reads(kind[0]):
                 raise WrongValue(
                     f"the parameter {node.said!r} stands beside {before[1]}, {before[0].what}, and "
                     f"{kind[1]}, {kind[0].what}: take two"
@@ -448,6 +492,8 @@ class Reader:
         elif node.sort == "case":
             for part in jpql.branches_of(node).results:
                 self._give(part, kind, scope)
+        elif node.sort == "aggregate" and self._is_given(node, kind, scope):
+            self._give(node.parts[0], kind, scope)
         elif node.sort in ("call", "arithmetic", "aggregate", "size"):
             self._check_computed(node, kind, scope)
 
@@ -497,19 +543,31 @@ class Reader:
         """The type of a value, where it is that of an attribute."""
         if node.sort == "path":
             return self._path([word.said for word in node.words], scope)
+        if node.sort == "parameter" and node.said in self._known:
+            kind, what = self._known[node.said]
+            return kind, f"the parameter {node.said!r} of {what}"
         if node.sort == "signed":
             return self._type(node.parts[0], scope)
         if node.sort == "aggregate":
-            kind = self._type(node.parts[0], scope)
-            keeps = node.said in ("MIN", "MAX") or (
-                node.said == "SUM" and kind is not None and isinstance(kind[0], _SCALED)
-            )
-            return kind if keeps else None
+            found = self._type(node.parts[0], scope)
+            return found if self._keeps(node.said, found) else None
         if node.sort == "call" and node.said in _OF_ONE_TYPE:
             return self._first(node.parts, scope)
         if node.sort == "case":
             return self._first(jpql.branches_of(node).results, scope)
         return self._first(node.parts, scope) if node.sort == "arithmetic" else None
+
+    def _is_given(self, aggregate: Node, kind: Typed, scope: Scope) -> bool:
+        """Whether an aggregate is of a type where what it is of may be."""
+        own = self._type(aggregate.parts[0], scope)
+        is_like = own is None or kind is not None and not _differ(own[0], kind[0])
+        return is_like and self._keeps(aggregate.said, kind)
+
+    @staticmethod
+    def _keeps(aggregate: str, kind: Typed) -> bool:
+        """Whether an aggregate of values of a type is of that type."""
+        is_sum = aggregate == "SUM" and kind is not None and isinstance(kind[0], _SCALED)
+        return is_sum or aggregate in ("MIN", "MAX")
 
     def _first(self, parts: Sequence[Any], scope: Scope) -> Typed:
         kinds = [self._type(part, scope) for part in parts if isinstance(part, Node)]
@@ -567,9 +625,23 @@ def _is_whole(node: Node) -> bool:
     return is_number and not (node.sort == "aggregate" and node.said in ("MIN", "MAX"))
 
 
+def _apart(one: Tuple[StoredType, str], other: Tuple[StoredType, str]) -> WrongValue:
+    """Why two values aren't compared."""
+    if isinstance(one[0], OwnType) and isinstance(other[0], OwnType):
+        return WrongValue(
+            f"{one[1]} and {other[1]} are typed(..) by different functions: what the ones store may "
+            "mean something else to the others, and they can't be compared: let both be typed by "
+            "the same two, or select both, and compare their values"
+        )
+    return WrongValue(
+        f"{one[1]} is {one[0].what}, and {other[1]} {other[0].what}: what is stored of the one is "
+        "not of the other's kind, and they can't be compared"
+    )
+
+
 def _differ(one: StoredType, other: StoredType) -> bool:
     """Whether what is stored of the two means different things."""
-    if one.form == other.form:
+    if one.reads(other):
         return False
     # Of a text beside a whole number the program tells.
     return not (isinstance(one, Plainly) and isinstance(other, Plainly))

@@ -70,12 +70,35 @@ def _stored(record: Record) -> Iterator[Tuple[str, Record]]:
 
 def write(file: Path, lock: Lock) -> None:
     """Writes a lock where it is another one than the file's, by one rename."""
-    said = json.dumps(lock, indent=1, ensure_ascii=False) + "\n"
-    if file.exists() and file.read_text(encoding="utf-8") == said:
+    _put(file, json.dumps(lock, indent=1, ensure_ascii=False) + "\n")
+
+
+def text_of(file: Optional[Path]) -> Optional[str]:
+    """What a file says, which `put_back` takes; None where there is none."""
+    return file.read_text(encoding="utf-8") if file is not None and file.exists() else None
+
+
+def put_back(file: Optional[Path], said: Optional[str]) -> None:
+    """Has a file say again what it said before, or be gone where it wasn't there."""
+    if file is not None and said is not None:
+        _put(file, said)
+    elif file is not None:
+        file.unlink(missing_ok=True)
+
+
+def _put(file: Path, said: str) -> None:
+    if text_of(file) == said:
         return
     new = file.with_name(f"{file.name}.{os.getpid()}")
-    new.write_text(said, encoding="utf-8")
-    os.replace(new, file)
+    try:
+        with new.open("w", encoding="utf-8") as out:
+            out.write(said)
+            out.flush()
+            os.fsync(out.fileno())  # It stands before what the store is told next.
+        os.replace(new, file)
+    except BaseException:
+        new.unlink(missing_ok=True)
+        raise
 
 
 def root_of(lock: Lock, name: str) -> str:
@@ -99,6 +122,7 @@ def locked(model: Model, before: Lock) -> Lock:
     for entity in model.values():
         taken[entity.name] = _leave(lock, entity)
     for entity in model.values():
+        _refuse_swaps(entity, faults)
         for member in entity.members.values():
             _lock_member(lock, entity, member, taken, faults)
     for entity in model.values():
@@ -285,6 +309,16 @@ def _leave(lock: Lock, entity: Declared) -> List[Record]:
     return left
 
 
+def _refuse_swaps(entity: Declared, faults: Faults) -> None:
+    """Two attributes of which each was the other keep their numbers, so this would change nothing."""
+    for member in entity.members.values():
+        other = entity.members.get(member.field.was or "")
+        if other is not None and other is not member and other.field.was == member.name:
+            faults.add(member.writer, member.said, f"and {_words_of(other.name)} can't change their "
+                       "names with each other at one time: rename one of them to a third name, open "
+                       "the store, and then go on")
+
+
 def _lock_member(
     lock: Lock, entity: Declared, member: Member, left: Dict[str, List[Record]], faults: Faults
 ) -> None:
@@ -323,9 +357,12 @@ def _words_of(name: str) -> str:
 
 
 def _before(name: str, lost: List[str]) -> str:
-    """What a member was, of those that are gone: of a part of an embedded value the same part."""
-    part = name.rpartition("__")[2]
-    return next((each for each in lost if each.rpartition("__")[2] == part), lost[0])
+    """What a member was, of those that are gone: of a part of an embedded value the same part, or
+    else another one of the same value."""
+    front, _, part = name.rpartition("__")
+    same = [each for each in lost if each.rpartition("__")[2] == part]
+    beside = [each for each in lost if front and each.rpartition("__")[0] == front]
+    return [*same, *beside, *lost][0]
 
 
 def _was(name: str, before: str) -> str:

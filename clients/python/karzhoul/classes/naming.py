@@ -131,3 +131,9 @@ class _Renaming(Reader):
 
     def _product(self, node: Any, scope: Scope) -> None:
         pass
+
+    def _check_counting(self, node: Any, scope: Scope) -> None:
+        pass
+
+    def _check_mixed(self, node: Any, scope: Scope) -> None:
+        pass

@@ -347,9 +347,55 @@ class Culprits:
         key, kind = self._key(each), type(each).__name__
         if self._was_stored(each):
             yield f"{self._name(each)} is no new object, and this manager doesn't have it: merge it"
+        elif key is not None and not self._is_new(each, key):
+            way = "merge takes it"
+            if self._held_version(each) is not None and self._stored(each) is None:
+                # A flush wrote it before, and so a merge takes it for one that was removed.
+                way = "since it isn't stored, make a new one with its values"
+            yield (
+                f"{_named(kind, key)} was persisted before, and this manager doesn't have it: it is "
+                f"detached, as by a rollback, a refused commit or a clear; {way}"
+            )
         elif key is not None:
             hint = "change that one, or give the new one another key"
             yield f"the manager has {_named(kind, key)} already: {hint}"
+
+    def _is_new(self, each: Entity, key: Key) -> bool:
+        """Whether an object was never managed: its key can be set, here to what it is."""
+        line = self._run.set_line(each, self._entity(each).key[0].name, key[0])
+        told = self._factory.ask_lines(self._run, [line], is_quiet=True)
+        return not isinstance(told[0], Refused)
+
+    def merged(self, given: Entity) -> Iterator[str]:
+        """Of an object that was merged, and what goes along, those whose version isn't the one that
+        stands."""
+        is_told = False
+        for each in [given, *self._beyond([given], "MERGE")][:_MOST]:
+            version, key, held = self._version(each), self._key(each), self._held_version(each)
+            if version is None or key is None or held is None:
+                continue
+            name, stored = _named(type(each).__name__, key), self._stored(each, version)
+            if stored is None:
+                is_told = True
+                yield f"{name} isn't stored: another commit removed it, or its own was rolled back"
+            elif stored[0] != held:
+                is_told = True
+                versions = f"version {stored[0]} is stored, and the merged one has {held}"
+                yield f"{name} was changed by another commit: {versions}"
+        if not is_told and (key := self._key(given)) is not None:
+            name = _named(type(given).__name__, key)
+            yield f"{name}, or what goes along, has another version than this manager's own"
+
+    def _version(self, each: Entity) -> Optional[str]:
+        """The name of an object's version, where it has one."""
+        members = self._entity(each).members
+        return next((it.name for it in members if it.kind is MemberKind.VERSION), None)
+
+    def _held_version(self, each: Entity) -> Optional[int]:
+        """The version that an object has; None where it has none."""
+        version = self._version(each)
+        held = None if version is None else self._value(each, version)
+        return held if isinstance(held, int) else None
 
     def stale(self) -> Iterator[str]:
         """What another commit changed or removed since it was read."""
@@ -373,8 +419,7 @@ class Culprits:
     def _staleness(self, each: Entity) -> Tuple[str, bool]:
         """What is told of an object whose state another commit may have changed, and whether it
         did; nothing where it didn't."""
-        members = self._entity(each).members
-        version = next((it.name for it in members if it.kind is MemberKind.VERSION), None)
+        version = self._version(each)
         stored = self._stored(each, *([version] if version else []))
         if not self._was_stored(each):
             is_there = stored is not None

@@ -198,8 +198,11 @@ def _of_objects(
     culprits = Culprits(factory, refused)
     number = said.get("object")
     try:
-        if refused.name == "EntityExists" and number and (found := culprits.of([number])):
+        found = culprits.of([number]) if number else []
+        if refused.name == "EntityExists" and found:
             return list(culprits.persisted(found[0]))
+        if refused.word == "OptimisticLock" and said.get("call") == "merge" and found:
+            return list(culprits.merged(found[0]))
         return list(_ASKED[refused.word](culprits))
     except (KarzhoulError, LookupError):  # As where 16 managers are open.
         return []

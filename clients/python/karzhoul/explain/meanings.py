@@ -73,5 +73,6 @@ def _damage(detail: Optional[str]) -> str:
     return (
         f"The store is not one of this mapping: {what} that it writes. The store may be another "
         f"mapping's, the mapping may have changed since, or a row was changed by other means: "
-        f"{compares}."
+        f"{compares}. Where classes are opened, the lock beside them may be one of before: take "
+        "karzhoul.lock.json as the newest classes left it, also for older classes."
     )

@@ -15,7 +15,7 @@ _NOW = "the program has no clock: hand the date or the time in as a parameter"
 _DATES = "parts of dates and times aren't served: compare whole ones, handed in as parameters"
 _FRACTIONS = (
     "numbers with a fraction aren't served: over classes a manager takes a Decimal as a parameter, or "
-    "in quotes, as '1.50'"
+    "in quotes, as '1.50'; by a mapping alone money is whole hundredths, as 150"
 )
 _NUMBERS = "this function isn't served: ABS and MOD are the functions of numbers"
 _TEXTS = "this function isn't served: those of texts are LENGTH, CONCAT, SUBSTRING and LOCATE"
@@ -34,7 +34,11 @@ _NESTED = (
     "a nested SELECT stands in EXISTS alone; beside values, as IN (SELECT ..), it stands in the wider "
     "language, language='wide'"
 )
-_TRUTH = "truth values aren't served: compare a whole number"
+_TRUTH = (
+    "TRUE and FALSE stand beside a bool attribute of classes alone, as p.paid = TRUE, or what a CASE "
+    "gives that is compared with one: else write 1 and 0, or select p.paid itself"
+)
+_ROWS = "values are compared one by one: a.x = 1 AND a.y = 2 in the place of (a.x, a.y) = (1, 2)"
 _PLACES = "hand in first=.. and max=.. beside the text"
 _MAPS = "maps aren't served"
 # What follows on such words of JPQL, or of other dialects, is why they aren't served.
@@ -124,11 +128,17 @@ def syntax_told(
         return token, fault.why
     if token.sort == "odd":
         return token, _MARKS.get(token.said, f"{spelled(token)} stands in no query")
-    earlier = [each for each in tokens if each.end <= token.at][-2:]
+    earlier = [each for each in tokens if each.end <= token.at]
+    # (What stands behind a point is a member's name.)
+    earlier = [
+        each for at, each in enumerate(earlier) if at == 0 or not earlier[at - 1].is_mark(".")
+    ][-2:]
     return (
-        case_told(fault, tokens, language)
+        _fraction(token, before)
+        or case_told(fault, tokens, language)
         or nested_told(fault, tokens, language)
         or _unserved([token], language)
+        or _row_of_values(token, tokens, language)
         or _misspelt(token, 0.6, fault.expected, language)
         or _unserved(earlier[::-1], language)
         or _sorted_by_value(token, tokens, language)
@@ -146,6 +156,22 @@ def _unserved(tokens: Sequence[Token], language: LanguageName) -> Optional[Tuple
         if why is not None:
             return each, why
     return None
+
+
+def _row_of_values(
+    token: Token, tokens: Sequence[Token], language: LanguageName
+) -> Optional[Tuple[Token, str]]:
+    """A comma within parentheses that are no function's, and no list's of IN."""
+    if not token.is_mark(","):
+        return None
+    depth, earlier = 1, [each for each in tokens if each.end <= token.at]
+    while earlier and depth:
+        depth += earlier[-1].is_mark(")") - earlier[-1].is_mark("(")
+        opened = earlier.pop()
+    if depth or not earlier or earlier[-1].is_word("IN"):
+        return None
+    is_own = earlier[-1].sort == "mark" or _is_keyword(earlier[-1], language)
+    return (opened, _ROWS) if is_own and not _is_function(earlier[-1], language) else None
 
 
 def _sorted_by_value(
@@ -172,9 +198,14 @@ def _is_function(token: Token, language: LanguageName) -> bool:
 def _called(
     token: Token, before: Optional[Token], language: LanguageName
 ) -> Optional[Tuple[Token, str]]:
-    """A function that there isn't, or a number that isn't whole."""
+    """A function that there isn't."""
     if before is not None and token.is_mark("(") and before.sort == "word":
         return before, _no_function(before.said, language)
+    return None
+
+
+def _fraction(token: Token, before: Optional[Token]) -> Optional[Tuple[Token, str]]:
+    """A number that isn't whole."""
     sides = [each for each in (token, before) if each is not None]
     has_point = any(each.is_mark(".") for each in sides)
     if has_point and any(each.sort == "integer" for each in sides):

@@ -72,10 +72,11 @@ class IdentityMap:
         been loaded by the manager of this number; None where the reply is any other one."""
         loaded, number = object_in(reply)
         if loaded:
-            kind = self.kinds.load(number, kind)
+            kind, owner = self.kinds.load(number, kind), self.known.owner_of(manager)
+            owner.loads += 1
             known = self.held_of(number)  # Where a handler of a signal has come between.
             if known is None:
-                return self._new(number, kind, self.known.owner_of(manager).unread)
+                return self._new(number, kind, owner.unread)
             return known  # type: ignore[return-value]
         return self.object(number, kind) if number else None  # type: ignore[return-value]
 
@@ -91,6 +92,7 @@ class IdentityMap:
         values, held = values_in(replies[1]), self._objects.get(number)
         if values is None or (held is not None and held() is not None):
             return None
+        place.owner.loads += 1
         made = self._new(number, self.kinds.load(number, kind), place, values)
         self.known.have(places)
         return made
@@ -151,6 +153,7 @@ class IdentityMap:
         items, keep = zip(numbers, list(map(_weakly, made))), self._objects.update
         if not is_on():  # A handler of a signal may have some of them.
             return None
+        shown.owner.loads += len(numbers)
         keep(items)
         self.kinds.load_rows(min(numbers), len(numbers), kind)
         self._clear()

@@ -35,13 +35,14 @@ OVER = Epoch(is_over=True)
 class Owner:
     """Whose calls change an object: its manager's; those of any manager where it isn't known."""
 
-    __slots__ = ("manager", "sets", "_epoch", "_others", "unread", "changed")
+    __slots__ = ("manager", "sets", "loads", "_epoch", "_others", "unread", "changed")
 
     def __init__(self, manager: int = 0) -> None:
         """With the number of its manager, 0 for any one."""
         self.manager = manager
-        # How often one of its objects was set.
-        self.sets = 0
+        # How often one of its objects was set, and how many its calls and those of its objects
+        # have loaded.
+        self.sets = self.loads = 0
         self._epoch = OVER
         self._others: Optional[Owner] = None
         # What is known of the values of an object that weren't read, and of one that was set.
@@ -170,8 +171,17 @@ class Known:
 
     def sets_of(self, manager: bytes) -> int:
         """How often an object was set that may be of the manager of this number."""
+        return self.anyone.sets + self.own_sets_of(manager)
+
+    def own_sets_of(self, manager: bytes) -> int:
+        """How often an object was set that the manager of this number has loaded."""
         owner = self._owners.get(manager)
-        return self.anyone.sets + (0 if owner is None else owner.sets)
+        return 0 if owner is None else owner.sets
+
+    def loads_of(self, manager: bytes) -> int:
+        """How many objects were loaded that may be of the manager of this number."""
+        owner = self._owners.get(manager)
+        return self.anyone.loads + (0 if owner is None else owner.loads)
 
     def _change_objects(self, line: bytes) -> None:
         found = _OF_MANAGER.match(line)

@@ -30,6 +30,10 @@ Limit = Optional[int]
 Result = Union[None, str, Type[Any]]
 # Beyond `_seconds` and `_asked`, and the call that the application makes.
 _ABOVE = 4
+_BESIDE_NONE = (
+    "over classes a parameter has the type of the attribute that it stands beside, and this one stands "
+    "beside none: compare it with one, or hand in what is stored"
+)
 # In the place of a text that isn't the first argument: it is the one by the name `text`, if any is.
 _BY_NAME: Any = object()
 
@@ -320,9 +324,11 @@ class _Asked(NamedTuple):
         except TypeError as fault:
             factory = self.manager.factory
             wrong = check(text, entities_of(factory.mapping), language=factory.language)
-            if not wrong:
+            if wrong:
+                raise TypeError(f"{fault}; and the query is wrong: {wrong[0]}") from None
+            if factory.conversions is None:
                 raise
-            raise TypeError(f"{fault}; and the query is wrong: {wrong[0]}") from None
+            raise TypeError(f"{fault}: {_BESIDE_NONE}") from None
 
     def answers(
         self, lines: Callable[[], List[bytes]], is_one: bool = False, text: str = ""

@@ -43,7 +43,17 @@ class Way:
                 made.close()
                 raise
         except OSError as fault:
-            raise Disconnected(0, f"nobody serves at {self}: {fault.strerror or fault}") from fault
+            raise self._unmade(fault) from fault
+
+    def _unmade(self, fault: OSError) -> Disconnected:
+        """Why there is no connection."""
+        why = f"{self} can't be reached: {fault.strerror or fault}"
+        if isinstance(fault, (FileNotFoundError, ConnectionRefusedError)):
+            way = f"start one by 'karzhoul serve .. --listen {self}', or connect once it serves"
+            why = f"nobody serves at {self} now ({fault.strerror or fault}): {way}"
+        told = Disconnected(0, why)
+        told._was_made = False
+        return told
 
     def _ciphered(self, made: socket.socket) -> socket.socket:
         assert self._tls is not None

@@ -174,7 +174,7 @@ class Calls:
         with self._lock:
             while self._calls:  # A callback that is told of what was kept may have added to it.
                 self._settle(timeout)
-            reads = self._note(lines, bad_line)
+            reads = self._note(run, lines, bad_line)
             calls = _Calls(run, lines)
             calls.entity, calls.bad_line, calls.reads, calls.ran = entity, bad_line, reads, ran
             calls.is_quiet = is_quiet
@@ -280,28 +280,32 @@ class Calls:
                 if is_kept and calls.are_kept and calls.parts is None:
                     if run is not calls.run:
                         calls.join(run, line)
-                    reads = self._note((line, *more))
+                    reads = self._note(run, (line, *more))
                     if more:
                         calls.lines += (line, *more)  # type: ignore[operator]
                     else:
                         calls.lines.append(line)  # type: ignore[attr-defined]
                     if reads != self._run.map.known.reads:
-                        self._note((line, *more))
+                        self._note(run, (line, *more))
                     return
                 self._settle()  # Those that were sent are to be done first.
-            reads = self._note((line, *more))
+            reads = self._note(run, (line, *more))
             calls = _Calls(run, [line, *more])
             calls.reads, calls.are_kept = reads, is_kept
             self._calls = calls
             if not is_kept:
                 self._answers(calls)
 
-    def _note(self, lines: Sequence[bytes], bad_line: Type[BadLine] = NotServed) -> int:
+    def _note(
+        self, run: Optional[Run], lines: Sequence[bytes], bad_line: Type[BadLine] = NotServed
+    ) -> int:
         """Takes note of what lines may change, and answers how often values had been read before.
         So whatever an interrupt comes between, they count from then on, be they sent or not. Where
         a handler of a signal has values read meanwhile, it is to be noted again."""
         known = self._run.map.known
         reads = known.reads
+        if run is not None and run is not self._run:
+            return reads  # They are of a run that is over, and aren't sent.
         if bad_line is BadLine:  # A line of one's own may say one thing and then another.
             known.anyone.sets += 1
             known.forget()
@@ -330,6 +334,7 @@ class Calls:
             self.tell_kept()
             calls = _Calls(None, [line])
             calls.bad_line, calls.is_restart = BadLine, True
+            calls.reads = self._run.map.known.reads  # It sets nothing.
             self._calls = calls
             self._answers(calls)
 
@@ -376,6 +381,13 @@ class Calls:
             # Else it is a refusal that nobody waits for; an end of the program is told by the next
             # call too.
 
+    def is_asked(self, run: Run, manager: bytes) -> bool:
+        """Whether calls of the manager of this number are under way, or left."""
+        calls, number = self._calls, int(manager)
+        if calls is None or calls.run is not run:
+            return False
+        return any(manager_of(line) == number for line in list(calls.lines))
+
     def _is_heard(self) -> bool:
         """Whether someone hears of events, or some are untold."""
         return bool(self._events.callbacks or self._events.untold)
@@ -403,7 +415,7 @@ class Calls:
         first refusal is raised."""
         self._turn += 1
         if calls.reads != self._run.map.known.reads:
-            self._note(calls.lines, calls.bad_line)
+            self._note(calls.run, calls.lines, calls.bad_line)
         replies = self._replies(calls, timeout)
         if calls.is_short:  # A find that was interrupted: the values were asked for in vain.
             calls = self._calls = calls.first()

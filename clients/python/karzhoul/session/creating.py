@@ -54,9 +54,11 @@ class Managers:
         """Creates a manager of a run that is over again, in that which is on. Its place, which was
         given back as that began, is waited for."""
         factory, place = self._factory, manager._place
+        if place.run is not factory._run:  # Else an interrupt came behind this.
+            place.run = None  # So a run that begins meanwhile takes no place of it.
         if factory._places is not None:
             factory._places.keep(place)
-        if place.run is not factory._run:  # Else an interrupt came behind this.
+        if place.run is None:
             self._ask(place, False)
         assert place.run is not None
         manager._go_over(place.run, place.number)

@@ -22,8 +22,10 @@ from ..wire.lines import (
     GREATEST, LEAST, FlushModeType, LifecycleEvent, LockModeType, line_of, spelled, text_spelled,
 )
 from .interrupts import begin_of_block, carried_out, end_of_block, guard, unguard
+from .holding import Few, Loads, objects_of
+from .othernames import no_member
 from .pending import Due, Pending
-from .transactions import Attempt, EntityTransaction, attempts
+from .transactions import Attempt, EntityTransaction, attempts, is_of_callback
 
 if TYPE_CHECKING:
     from ..classes.unique import Keeper
@@ -34,6 +36,10 @@ T = TypeVar("T")
 _LOST = (
     "a manager is closed with what was done outside of a transaction, and no commit came since: "
     "that is not stored: {}"
+)
+_LOST_BEFORE = (
+    "a manager of before a restart, or whose program has ended, is closed with what was persisted, "
+    "removed, merged or set, and no commit has said that this is stored"
 )
 _DUE = {
     LifecycleEvent.PRE_PERSIST: "persisted", LifecycleEvent.PRE_REMOVE: "removed",
@@ -57,6 +63,8 @@ class EntityManager(Queries, AbstractContextManager["EntityManager"]):
         is open already, for the block that begins it."""
         self.factory, self.number, self._place = run.factory, number, place
         place.manager = ref(self)
+        # What is known of its run's values, also where that is over.
+        self._known = run.map.known
         self._run, self._em = run, str(number)
         self._bytes = self._em.encode()
         self._transaction = EntityTransaction(self, is_begun)
@@ -68,11 +76,11 @@ class EntityManager(Queries, AbstractContextManager["EntityManager"]):
             from ..classes.unique import Keeper
 
             self.keeper = Keeper(self, run.factory.uniques)
-        self._level = OWN_BLOCK
+        self._level, self._is_closed = OWN_BLOCK, False
         # Whether it is closed as its transaction ends.
         self._is_settled = False
-        # None where no object is managed for certain; else it is of the last call after which one
-        # may be.
+        # None where no object is managed for certain; a few, where they are known; else it is of
+        # the last call after which one may be.
         self._holding: Optional[object] = None
         run.opened[number] = ref(self)
 
@@ -100,6 +108,12 @@ class EntityManager(Queries, AbstractContextManager["EntityManager"]):
                     raise
             finally:
                 unguard(self)
+
+    if not TYPE_CHECKING:
+
+        def __getattr__(self, name: str) -> object:
+            # What the sessions of other libraries have by another name.
+            raise AttributeError(no_member(name))
 
     def transaction(self) -> EntityTransaction:
         """Its transaction: `with manager.transaction():` begins it, commits it at the end and rolls
@@ -133,22 +147,27 @@ class EntityManager(Queries, AbstractContextManager["EntityManager"]):
         by now: there it is created again, where it is free."""
         if run is self.factory._run or not self.is_free:
             return False
-        if self._run is not self.factory._run:
-            self.factory._managers.go_on(self)
+        while self._run is not self.factory._run:
+            on = self.factory._run
+            try:
+                self.factory._managers.go_on(self)
+            except Restarted:  # Yet another one has begun meanwhile.
+                if on is self.factory._run:
+                    raise
         return True
 
     def _go_over(self, run: Run, number: int) -> None:
         """It is the manager of this number in another run."""
+        if self._mode is not FlushModeType.AUTO:  # First, so that no interrupt leaves it out.
+            self.factory.tell(run, _mode_line(str(number), self._mode))
         self._run.opened.pop(self.number, None)
         self.number, self._em = number, str(number)
         self._bytes = self._em.encode()
-        self._run = run
+        self._run, self._known = run, run.map.known
         run.opened[number] = ref(self)
         self._concern = self._new_concern()
         if self.keeper is not None:
             self.keeper.go_over()
-        if self._mode is not FlushModeType.AUTO:
-            self._tell_mode(self._mode)
 
     def _done(self, call: Callable[[], T], loads: bool = True, keeps: bool = False) -> T:
         """What a call answers, which spells its lines: again where another run began meanwhile, and
@@ -156,7 +175,7 @@ class EntityManager(Queries, AbstractContextManager["EntityManager"]):
         made, even where it is refused."""
         while True:
             run, held, holding = self._run, self._holding, object()
-            made = run.made
+            before = Loads.before(run.map.known, self._bytes)
             if loads:
                 self._holding = holding
             try:
@@ -169,20 +188,28 @@ class EntityManager(Queries, AbstractContextManager["EntityManager"]):
                 continue
             except (Refused, TypeError, ValueError):
                 # One that a handler of a signal raised may leave the call under way.
-                is_over = self.factory._calls is None and run.made == made
-                if held is None and is_over and not keeps:
-                    self._has_found_none(holding, run)
+                is_over = not keeps and not self.factory.is_asked(run, before.manager)
+                if is_over and not before.since:
+                    self._holds_as_before(held, holding)
                 raise
-            # Other managers may have made objects meanwhile.
-            if held is None and (run.made == made or not _has_objects(answer)):
-                self._has_found_none(holding, run)
+            self._has_found(held, holding, before, answer)
             return answer
 
-    def _has_found_none(self, holding: object, run: Run) -> None:
-        """It still holds nothing, as before its call, where no callback had it do more
-        meanwhile."""
-        if self._holding is holding and run is self.factory._run:
-            self._holding = None
+    def _has_found(
+        self, held: Optional[object], holding: object, before: Loads, answer: Any
+    ) -> None:
+        """Takes note of what it holds behind a call, whatever other managers have loaded."""
+        if held is None and before.since and any(objects_of(answer, 0)):
+            few = before.found(answer)
+            if few is not None and self._holding is holding:
+                self._holding = few
+        elif held is None or not before.since:
+            self._holds_as_before(held, holding)
+
+    def _holds_as_before(self, held: Optional[object], holding: object) -> None:
+        """It holds what it held before a call, where no callback had it do more meanwhile."""
+        if self._holding is holding and (held is None or isinstance(held, Few)):
+            self._holding = held
 
     # ---- objects by key
 
@@ -282,24 +309,44 @@ class EntityManager(Queries, AbstractContextManager["EntityManager"]):
 
     def detach(self, entity: Entity) -> None:
         """Takes an object out of the context."""
-        self._tell_on("detach", entity)
+        self._tell_on("detach", entity, keeps=False)
+        self._holds_without(entity)
         self._concern.let_go.add(entity._karzhoul_number)
         self._run.refused.get(self.number, {}).pop(entity._karzhoul_number, None)
 
-    def _tell_on(self, call: str, entity: Entity, more: str = "") -> None:
+    def _holds_without(self, entity: Entity) -> None:
+        """It holds an object no more. In a pipeline that wasn't sent yet; and a flush may have had
+        it hold new ones, to which what was set leads."""
+        few, known = self._holding, self._run.map.known
+        if not isinstance(few, Few) or self.factory._is_ahead():
+            return
+        is_flushed = self._transaction.is_active and known.sets_of(self._bytes) != few.sets
+        if known.loads_of(self._bytes) == few.loads and not is_flushed:
+            few = few.without(entity._karzhoul_number)
+            self._holding = few if few.numbers else None
+
+    def _tell_on(self, call: str, entity: Entity, more: str = "", keeps: bool = True) -> None:
+        """Tells a call of an object, which may have others be managed, unless it keeps none."""
         while True:
             run, held = self._run, self._holding
-            self._holding = self
+            holding, line = object() if keeps else held, ""
             try:
                 number = run.number(entity)
                 line = f'{{"call":"{call}","em":{self._em},"object":{number}{more}}}'
+                self._holding = holding
                 self.factory.tell(run, line.encode())
                 return
             except Restarted:
-                if run is not self.factory._run:
+                if run is not self.factory._run and self._holding is holding:
                     self._holding = held
                 if not self._goes_on(run):
                     raise
+            except Refused as refused:
+                # It changed nothing, but for what a callback did that heard of it.
+                is_own = refused.line == line and not is_of_callback(refused)
+                if is_own and self._holding is holding:
+                    self._holding = held
+                raise
 
     def fetch(self, objects: Iterable[Optional[Entity]], path: str) -> List[Any]:
         """What a relation leads to from each of many objects, asked without waiting for each: of a
@@ -349,11 +396,12 @@ class EntityManager(Queries, AbstractContextManager["EntityManager"]):
         self._concern = self._new_concern()
 
     def _new_concern(self, sets: Optional[int] = None) -> Concern:
+        self._own_sets = self._known.own_sets_of(self._bytes)
         return Concern(self._run.made, self._sets() if sets is None else sets)
 
     def _sets(self) -> int:
         """How often an object was set that may be its own."""
-        return self._run.map.known.sets_of(self._bytes)
+        return self._known.sets_of(self._bytes)
 
     def flush(self) -> None:
         """Writes what has changed into the transaction. What a callback raises that runs before
@@ -373,13 +421,13 @@ class EntityManager(Queries, AbstractContextManager["EntityManager"]):
         self._mode = FlushModeType(mode)
 
     def _tell_mode(self, mode: FlushModeType) -> None:
-        line = line_of("setFlushMode", {"em": self._em, "mode": text_spelled(mode)})
-        self.factory.tell(self._run, line)
+        self.factory.tell(self._run, _mode_line(self._em, mode))
 
     def close(self) -> None:
         """Ends the manager, which owns no open transaction. What was persisted, removed, merged or
         set outside of a transaction, and in none since, is lost then: a `RuntimeWarning` says so,
-        and names it."""
+        and names it. One that is closed, of before a restart, or whose program has ended is gone
+        already: then it does nothing but give that warning, which names nothing."""
         self._end(3)
 
     def _end_block(self) -> None:
@@ -387,6 +435,8 @@ class EntityManager(Queries, AbstractContextManager["EntityManager"]):
 
     def _end(self, level: int) -> None:
         """Closes it. A warning names the line of the application, so many calls above."""
+        # Nobody knows it once the close is asked.
+        is_set = self._known.own_sets_of(self._bytes) != self._own_sets
         try:
             self.factory.tell_kept()
             lost = self._lost()
@@ -394,15 +444,20 @@ class EntityManager(Queries, AbstractContextManager["EntityManager"]):
             line = b'{"call":"close","em":%b}' % self._bytes
             if not is_over or not self.factory.let_go(self._run, line):
                 self._ask("close")
-        except (NoSuchManager, ProgramEnded, Restarted) as gone:  # It is gone already.
-            is_free = self.is_free
-            self._give_place_back()
-            if is_free and isinstance(gone, Restarted):
-                return
-            raise
+        except (NoSuchManager, ProgramEnded, Restarted):  # It is gone already.
+            lost = self._lost_before(is_set)
         self._give_place_back()
         if lost:
-            warnings.warn(_LOST.format(lost), RuntimeWarning, stacklevel=level)
+            warnings.warn(lost, RuntimeWarning, stacklevel=level)
+
+    def _lost_before(self, is_set: bool) -> str:
+        """That something is lost with a manager that is gone already, which can't be named."""
+        told, self._concern = self._concern, self._new_concern()
+        if self._is_closed or self._holding is None:
+            return ""
+        persisted = set(told.persisted) - told.let_go
+        is_lost = persisted or told.removed or told.has_merged or is_set
+        return _LOST_BEFORE if is_lost else ""
 
     def _lost(self) -> str:
         """What a close loses, in words."""
@@ -424,7 +479,7 @@ class EntityManager(Queries, AbstractContextManager["EntityManager"]):
         words = list(named)
         words += [refused] if refused else []
         more = ", and more" if len(words) > _NAMED else ""
-        return ", ".join(words[:_NAMED]) + more
+        return _LOST.format(", ".join(words[:_NAMED]) + more) if words else ""
 
     def _told(self) -> List[Tuple[str, List[int]]]:
         """What it was told to persist, to remove and to merge, as far as that still stands."""
@@ -468,7 +523,7 @@ class EntityManager(Queries, AbstractContextManager["EntityManager"]):
         return self.factory.ask_lines(self._run, lines, is_quiet=True)
 
     def _give_place_back(self) -> None:
-        self._holding = self  # It goes on in no other run.
+        self._holding, self._is_closed = self, True  # It goes on in no other run.
         self._run.opened.pop(self.number, None)
         self._run.transaction_over(self.number)
         self._run.noted.pop(self.number, None)
@@ -489,8 +544,5 @@ class EntityManager(Queries, AbstractContextManager["EntityManager"]):
         return self.factory.ask_lines(self._run, [line])[0]
 
 
-def _has_objects(answer: Any) -> bool:
-    """Whether objects are in an answer, as all are that a call has found."""
-    if isinstance(answer, (list, tuple)):
-        return any(map(_has_objects, answer))
-    return isinstance(answer, Entity)
+def _mode_line(manager: str, mode: FlushModeType) -> bytes:
+    return line_of("setFlushMode", {"em": manager, "mode": text_spelled(mode)})

@@ -43,7 +43,9 @@ class Reader:
             note_written(self._run, line, events)
         loaded = self._map.kinds.hear(events)
         if loaded:
-            self._map.loaded.update(dict.fromkeys(loaded, self._map.known.owner(line)))
+            owner = self._map.known.owner(line)
+            owner.loads += len(loaded)
+            self._map.loaded.update(dict.fromkeys(loaded, owner))
         settled = self._map.kinds.settled
         told = objects_in(reply)
         self._map.told += told

@@ -9,6 +9,7 @@ from typing import TYPE_CHECKING, FrozenSet, Iterator, Optional, Type, Union
 from ..refusals import IllegalState, KarzhoulError, NotUnique, ProgramEnded, Restarted, Rollback
 from ..refusals import OptimisticLock
 from ..wire.lines import line_of
+from .holding import Few
 from .interrupts import begin_of_block, carried_out, end_of_block, guard, is_guarded, unguard
 from .pausing import note_refusals, pause
 from .pending import Due
@@ -103,6 +104,9 @@ class EntityTransaction:
         if manager.keeper is not None:
             manager.keeper.over()
         manager._concern = manager._new_concern(sets)
+        few = manager._holding
+        if isinstance(few, Few) and few.sets != manager._sets():
+            manager._holding = manager  # A flush may have had it hold what was linked.
         self.is_active = False  # Last, since an interrupt before has it be ended again.
 
     def set_rollback_only(self) -> None:

@@ -118,8 +118,11 @@ class Converted(unittest.TestCase):
             ("CASE WHEN b.count > 1 THEN b.mode ELSE UPPER(b.name) END", r"a CASE gives Bill.mode, .*, or UPPER\(b.name\), which the query computes"),
             ("CASE WHEN b.count > 1 THEN b.paid ELSE b.count END", "a CASE gives Bill.paid, True or False, or Bill.count, a whole number"),
             ("CASE WHEN b.count > 1 THEN b.mode ELSE CONCAT(b.name, 'x') END", "let all behind THEN and ELSE be of one type, or select each by itself"),
-            ("CASE WHEN b.count > 1 THEN b.price ELSE b.tax END", "they can't be compared"),
-            ("CASE WHEN b.count > 1 THEN b.price ELSE b.count END", "they can't be compared"),
+            ("CASE WHEN b.count > 1 THEN b.price ELSE b.tax END", "a CASE gives Bill.price, a Decimal of 2 .*, or Bill.tax, a Decimal of 3"),
+            ("CASE WHEN b.count > 1 THEN b.price ELSE b.count END", "a CASE gives Bill.price, a Decimal of .*, or Bill.count, a whole number: .*"
+             "let all behind THEN and ELSE be of one type, or select each by itself"),
+            ("CASE WHEN b.count > 1 THEN b.count ELSE b.price END", "a CASE gives Bill.price, a Decimal of .*, or Bill.count, a whole number: "),
+            ("CASE WHEN b.count > 1 THEN b.count ELSE b.lasts END", "a CASE gives Bill.lasts, a timedelta, or Bill.count, a whole number: "),
             ("CASE WHEN b.count > 1 THEN b.price ELSE LENGTH(b.name) END", "is a whole number that the query computes"),
             ("CASE WHEN b.count > 1 THEN b.due ELSE UPPER('2026-1-3') END", "is a text that the query computes"),
             ("CASE WHEN b.count > 1 THEN b.lasts ELSE 7 END", "is a timedelta, which no literal of a query is"),
@@ -167,6 +170,20 @@ class Asked(unittest.TestCase):
             said = "UPDATE Bill b SET b.price = CASE WHEN b.mode = :m THEN 5 ELSE b.price * 2 END"
             self.assertEqual(manager.execute_update(said, m=Mode.OPEN), 3)
         self.assertEqual(self.asked("b.price"), [Decimal(5), Decimal(4), Decimal(5)])
+
+    def test_truth_values(self) -> None:
+        """They are those of a bool that the CASE is compared with; else it is said what to write."""
+        case = "CASE WHEN b.count > 1 THEN TRUE ELSE FALSE END"
+        with self.app.create_entity_manager() as manager:
+            for test in (f"{case} <> b.paid", f"b.paid <> {case}", f"COALESCE({case}, TRUE) <> b.paid", f"b.paid <> ALL (SELECT {case.replace('b.', 'c.')} FROM Bill c WHERE c.id > 1)"):
+                self.assertEqual(len(manager.query(f"SELECT b.id FROM Bill b WHERE b.id > 1 AND {test}")), 2, test)
+            for text in (f"SELECT {case} FROM Bill b", f"SELECT b.id FROM Bill b WHERE {case} = b.count", f"SELECT b.id FROM Bill b WHERE {case} = TRUE", f"SELECT SUM({case}) FROM Bill b"):
+                with self.subTest(text), self.assertRaisesRegex(karzhoul.Refused, "TRUE: TRUE and FALSE stand beside a bool attribute of classes alone, as "
+                                                                "p.paid = TRUE, or what a CASE gives that is compared with one"):
+                    manager.query(text)
+        with self.app.begin() as manager:
+            self.assertEqual(manager.execute_update(f"UPDATE Bill b SET b.paid = {case}"), 3)
+        self.assertEqual(self.asked("b.paid"), [False, True, True])
 
     def test_pages_and_parts(self) -> None:
         text = "SELECT CASE WHEN b.price > 1 THEN b.due ELSE :none END AS d FROM Bill b"

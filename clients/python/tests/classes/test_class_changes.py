@@ -123,6 +123,13 @@ class Changed(ClassesTest):
         self.assertEqual(self.told("SELECT m.phone FROM Member m WHERE m.id = 1", *change), ["12"])
         self.assertEqual(self.told("SELECT m.phone FROM Member m WHERE m.id = 1", *change), ["12"])
 
+    def test_names_that_are_swapped(self) -> None:
+        changes = ("name: str", 'name: str = field(was="fax")',
+                   "fax: str | None = None", 'fax: str | None = field(default=None, was="name")')
+        with self.assertRaisesRegex(DeclarationError, "name and fax can't change their names with each other"):
+            self.changed(*changes)
+        self.assertEqual(self.lock.read_text(), self.before)
+
     def test_a_renamed_link(self) -> None:
         change = ("member: Member = many_to_one()", 'by: Member = many_to_one(was="member")')
         self.assertEqual(self.told("SELECT l.by.name FROM Loan l", *change), ["Ada"])
@@ -253,6 +260,15 @@ class Changed(ClassesTest):
         rows = self.told("SELECT m.fee FROM Member m", *change)
         self.assertEqual(list(map(str, rows)), ["1.5000", "1.5000"])
 
+    def test_money_of_more_digits_that_is_required_now(self) -> None:
+        """The default is of the new scale, and isn't brought over with what is stored."""
+        required = 'fee: Decimal = money(2, default=Decimal("1.50"))'
+        with self.changed(required, "fee: Decimal | None = money(2)") as app:
+            with app.begin() as manager:
+                manager.one("SELECT m FROM Member m WHERE m.id = 1").fee = None
+        rows = self.told("SELECT m.fee FROM Member m", "money(2,", "money(4,")
+        self.assertEqual(list(map(str, rows)), ["1.5000", "1.5000"])
+
     def test_money_of_fewer_digits(self) -> None:
         rows = self.told("SELECT m.fee FROM Member m", "money(2,", "money(1,")
         self.assertEqual(list(map(str, rows)), ["1.5", "1.5"])
@@ -275,21 +291,6 @@ class Changed(ClassesTest):
     def test_money_of_too_few_digits(self) -> None:
         self.refused(NotBroughtOver, "Member.fee is stored as money(2) .. Member id=1 .. more "
                      "digits than 0", "money(2,", "money(0,", 'Decimal("1.50")', 'Decimal("1")')
-
-    def test_another_scale_of_one_that_is_required_now(self) -> None:
-        """The default would be brought to the other scale with what is stored. It goes by two."""
-        required = 'fee: Decimal = money(2, default=Decimal("1.50"))'
-        with self.changed(required, "fee: Decimal | None = money(2)") as app:
-            with app.begin() as manager:
-                manager.one("SELECT m FROM Member m WHERE m.id = 1").fee = None
-        lock = self.lock.read_text()
-        with self.assertRaisesRegex(NotBroughtOver, r"Member\.fee is stored as money\(2\), and "):
-            self.changed("money(2,", "money(4,")
-        self.assertEqual(self.lock.read_text(), lock)
-        asked = "SELECT m.fee FROM Member m"
-        self.assertEqual(list(map(str, self.told(asked))), ["1.50", "1.50"])
-        rows = self.told(asked, "money(2,", "money(4,")
-        self.assertEqual(list(map(str, rows)), ["1.5000", "1.5000"])
 
     def test_an_attribute_that_may_be_renamed(self) -> None:
         self.refused(DeclarationError, 'Member.phone is new, and fax is gone .. was="fax"',

@@ -150,6 +150,12 @@ class Computed(unittest.TestCase):
             self.assertEqual(manager.query("SELECT f.rank, MAX(f.rank), SUM(f.paid) FROM Fare f GROUP BY f.rank"), [[Rank.MID, Rank.MID, 0]])
         self.assertTrue(self.found("f.rank = COALESCE(f.rank, 1)"))
 
+    def test_like_of_what_is_stored_as_no_text(self) -> None:
+        for test in ("f.price LIKE '1%'", "f.rank LIKE '5'", "NOT f.paid LIKE 'T%'", "f.lasts LIKE '3%'"):
+            with self.subTest(test), self.assertRaisesRegex(WrongValue, r"Fare\.\w+ is .*, and LIKE takes texts"):
+                self.found(test)
+        self.assertTrue(self.found("f.until LIKE '2026-%' OR f.until IS NULL OR f.until IS NOT NULL"))
+
     def test_an_update(self) -> None:
         with self.app.begin() as manager:
             with self.assertRaises(WrongValue):

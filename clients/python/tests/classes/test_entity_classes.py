@@ -259,7 +259,7 @@ class Objects(ClassesTest):
                 TypeError, f"the parameter 'it': .*, and no date; and the query is wrong: {told}"
             ):
                 self.rows(asked, it=date(2026, 1, 5))
-        with self.assertRaisesRegex(TypeError, "and no date$"):
+        with self.assertRaisesRegex(TypeError, "and no date: over classes a parameter has the type of"):
             self.rows("SELECT l FROM Loan l WHERE LENGTH(:it) > 0", it=date(2026, 1, 5))
 
     def test_literals_are_so_too(self) -> None:

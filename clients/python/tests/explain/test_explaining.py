@@ -299,6 +299,60 @@ class Flushed(unittest.TestCase):
             em.detach(held)
             em.persist(held)
 
+    def test_what_was_persisted_before_and_is_detached(self) -> None:
+        """Of a key of its own and of a generated one; what is said of a merge is so."""
+        told = "was persisted before, and this manager doesn't have it: it is detached"
+        with self.app.create_entity_manager() as em:
+            for is_flushed in (False, True):
+                for lets_go in (em.transaction().rollback, em.clear):
+                    em.transaction().begin()
+                    person = em.get_reference("Person", 1)
+                    order, eve = self.Order(number=50, person=person), self.Person(name="Eve")
+                    em.persist_all([order, eve])
+                    if is_flushed:
+                        em.flush()
+                    lets_go()
+                    for each in (order, eve):
+                        with self.assertRaises(karzhoul.EntityExists) as raised:
+                            em.persist(each)
+                        said = raised.exception.explain()
+                        self.assertIn(told, said)
+                        self.judge_way(each, said)
+                    if em.transaction().is_active:
+                        em.transaction().rollback()
+
+    def judge_way(self, each: Any, said: str) -> None:
+        takes = said.endswith("; merge takes it")
+        self.assertTrue(takes or said.endswith("isn't stored, make a new one with its values"))
+        with self.app.create_entity_manager() as em:
+            try:
+                em.merge(each)
+                em.clear()
+                self.assertTrue(takes, said)
+            except karzhoul.OptimisticLock:
+                self.assertFalse(takes, said)
+
+    def test_what_is_merged_and_was_changed(self) -> None:
+        with self.app.begin() as em:
+            ada = em.get_reference("Person", 1)
+            self.assertEqual(ada.name, "Ada")
+        with self.app.begin() as em:
+            new = self.Person(name="Eve")
+            em.persist(new)
+        for each in (ada, new):
+            self.rename(each.id, "Zoe")
+            self.judge_merge(each, f"Person {each.id} was changed by another commit: version 1 is "
+                             "stored, and the merged one has 0")
+        with self.app.begin() as em:
+            em.remove(em.get_reference("Person", new.id))
+        self.judge_merge(new, f"Person {new.id} isn't stored: another commit removed it, or "
+                         "its own was rolled back")
+
+    def judge_merge(self, each: Any, told: str) -> None:
+        with self.assertRaises(karzhoul.OptimisticLock) as raised, self.app.begin() as em:
+            em.merge(each)
+        self.assertEqual(raised.exception.explain(), told)
+
     def test_what_another_commit_changed(self) -> None:
         for step in ("begun", "read"):
             version = 0 if step == "begun" else 1

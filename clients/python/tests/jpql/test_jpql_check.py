@@ -142,7 +142,7 @@ class Told(unittest.TestCase):
             ("SELECT p FROM Person p;", "1:23: ;: a statement ends without ';'"),
             ("SELECT p FROM Person p WHERE p.id = 9223372036854775808", "1:37: 9223372036854775808: a whole number is at most 9223372036854775807"),
             ("SELECT p FROM Person p WHERE p.id = 1.5", "1:38: .: numbers with a fraction aren't "
-             "served: over classes a manager takes a Decimal as a parameter, or in quotes, as '1.50'"),
+             "served: over classes a manager takes a Decimal as a parameter, or in quotes, as '1.50'; by a mapping alone money is whole hundredths, as 150"),
             ("SELECT p FROM Person p WHERE p.id = ?0", "1:37: ?0: the number of a parameter is 1 or more, with no 0 first"),
             ("SELECT p FROM Person p WHERE p.id = :", "1:37: :: a parameter is :name or ?1"),
             ("SELECT MOD(p.id) FROM Person p", "1:16: ): ')' stands where ',' or the end of 2 values of MOD is expected"),
@@ -157,7 +157,8 @@ class Told(unittest.TestCase):
             ("SELECT p FROM Person p LIMIT 10", "LIMIT", "max="),
             ("SELECT CASE WHEN p.id > 1 THEN 1 ELSE 2 END FROM Person p", "WHEN", "COALESCE and NULLIF"),
             ("SELECT NEW a.B(p.id) FROM Person p", "NEW", "items by name"),
-            ("SELECT p FROM Person p WHERE p.id = TRUE", "TRUE", "truth values"),
+            ("SELECT p FROM Person p WHERE p.id = TRUE", "TRUE", "select p.paid itself"),
+            ("SELECT p FROM Person p WHERE (p.id, p.name) = (1, 'a')", "(", "one by one"),
             ("SELECT p FROM Person p WHERE p.id > CURRENT_DATE", "CURRENT_DATE", "hand the date or the time in"),
             ("SELECT p FROM Person p WHERE p.id > ALL (SELECT o.number FROM Order o)", "ALL", "EXISTS"),
             ("SELECT p FROM Person p UNION SELECT p FROM Person p", "UNION", "one SELECT"),

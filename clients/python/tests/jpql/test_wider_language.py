@@ -289,7 +289,7 @@ class Paper(unittest.TestCase):
     @needs_wide
     def test_its_table_is_so(self) -> None:
         page = (TOP / "docs" / "QUERIES.md").read_text(encoding="utf-8")
-        rows = re.findall(r"^\| `(.*ORDER BY .+)` \| `(.+)` \|$", page, re.MULTILINE)
+        rows = re.findall(r"^\| `((?:GROUP BY .+)?ORDER BY .+)` \| `(.+)` \|$", page, re.MULTILINE)
         self.assertGreater(len(rows), 10)
         with karzhoul.open(PERSONS, program=PROGRAM, language="wide") as app:
             manager = app.create_entity_manager()

@@ -23,6 +23,7 @@ PERSONS = json.loads((TOP / "tests" / "mappings" / "persons.json").read_text())
 SYNTAX, TYPING, PARAMETER = "IllegalArgument(syntax)", "IllegalArgument(typing)", "IllegalArgument(parameter)"
 ORDERS, PEOPLE = "SELECT {} FROM Order o", "SELECT p.id FROM Person p {}"
 NULL = "THEN :none gives null, with None handed in for it"
+FRACTION = "numbers with a fraction aren't served: over classes a manager takes a Decimal as a parameter, or in quotes, as '1.50'; by a mapping alone money is whole hundredths"
 INSIDE = "behind WHEN stand tests of values alone, and no"
 # The item of `SELECT .. FROM Order o`, the place and the word that are told, and the words.
 CASES: List[Tuple[str, str, str, str]] = [
@@ -31,6 +32,10 @@ CASES: List[Tuple[str, str, str, str]] = [
     ("CASE WHEN o.amount > 1 THEN 1 ELSE 2", SYNTAX, "45: FROM", "END is missing here, which ends CASE"),
     ("(CASE WHEN o.amount > 1 THEN 1 ELSE 2)", SYNTAX, "45: )", "END is missing here, which ends CASE"),
     ("CASE WHEN o.amount > 1 1 ELSE 2 END", SYNTAX, "31: 1", "THEN is missing here, with what this WHEN gives"),
+    ("CASE WHEN o.amount > 1 THEN 1.5 ELSE 2 END", SYNTAX, "37: .", FRACTION),
+    ("CASE WHEN o.amount > 1.5 THEN 1 ELSE 2 END", SYNTAX, "30: .", FRACTION),
+    ("CASE WHEN o.amount > 1 THEN 1 ELSE 2.5 END", SYNTAX, "44: .", FRACTION),
+    ("CASE o.amount WHEN 1.5 THEN 1 ELSE 2 END", SYNTAX, "28: .", FRACTION),
     ("CASE ELSE 1 END", SYNTAX, "13: ELSE", "a CASE has a WHEN first: CASE WHEN a test THEN a value"),
     ("CASE o.amount ELSE 1 END", SYNTAX, "22: ELSE", "a CASE has a WHEN first"),
     ("CASE END", SYNTAX, "13: END", "a CASE has a WHEN first"),

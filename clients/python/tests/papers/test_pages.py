@@ -1,5 +1,5 @@
 """Pages with Python in them, each of whose blocks is run after the page's beginning and prints what
-follows it."""
+follows it. So is each statement of a table, which finds what stands beside it."""
 
 from __future__ import annotations
 
@@ -27,6 +27,23 @@ def blocks(page: Path) -> List[Tuple[str, str]]:
     return found
 
 
+ASKING = """
+for text in {!r}:
+    try:
+        print(manager.query(text))
+    except karzhoul.Refused as refused:
+        print(refused.word)
+"""
+
+
+def statements(page: Path) -> List[Tuple[str, str]]:
+    """Python that asks the statements of a page's tables, with what it prints."""
+    text = page.read_text(encoding="utf-8")
+    found = re.findall(r"^\| `(SELECT .+)` \| `(.+)` \|$", text, re.MULTILINE)
+    assert bool(found) == ("| Statement |" in text), page
+    return [(ASKING.format([asked for asked, _ in found]), "".join(f"{it}\n" for _, it in found))]
+
+
 class Pages(unittest.TestCase):
     def test_what_a_block_prints_follows_it(self) -> None:
         for page in PAGES:
@@ -46,7 +63,7 @@ class Pages(unittest.TestCase):
         env = {**os.environ, **own}
         for page in PAGES:
             (beginning, _), *rest = blocks(page)
-            for block, printed in rest:
+            for block, printed in rest + statements(page):
                 with self.subTest(block):
                     ran = subprocess.run(
                         [sys.executable, "-c", f"{beginning}\n{block}"],

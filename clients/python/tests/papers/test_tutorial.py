@@ -19,7 +19,7 @@ TUTORIAL = TOP / "docs" / "START.md"
 
 class Block(NamedTuple):
     """A fenced block: `sh` is run, `text` is what the run before it prints, and any other one is a
-    file of the name beside its kind."""
+    file of the name beside its kind. One of Python that a `text` follows is run too."""
 
     kind: str
     name: str
@@ -36,13 +36,17 @@ def blocks(page: Path = TUTORIAL) -> List[Block]:
 
 def script(page: Path) -> Iterator[str]:
     yield "set -eu\n"
-    for place, block in enumerate(blocks(page)):
+    told = blocks(page)
+    for place, block in enumerate(told):
         if block.kind == "sh":
             yield f"{block.text}\n"
         elif block.kind == "text":
             continue
         else:
             yield f"cat >{block.name} <<'END OF FILE'\n{block.text}END OF FILE\n"
+            prints = place + 1 < len(told) and told[place + 1].kind == "text"
+            if block.kind == "python" and prints:
+                yield f"python3 {block.name}\n"
         yield f"echo 'end of block {place}'\n"
 
 

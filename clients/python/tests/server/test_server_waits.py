@@ -27,6 +27,21 @@ from .test_serving import ServingTest
 BEGIN = '{"serve":"begin"}'
 
 
+class Nobody(FolderTest):
+    """Nobody serves at an address."""
+
+    def test_it_is_said_that_nobody_serves_there(self) -> None:
+        with socket.socket() as taken:
+            taken.bind(("127.0.0.1", 0))  # Where nobody listens.
+            for way in (f"unix:{self.place}/s", f"tcp:127.0.0.1:{taken.getsockname()[1]}"):
+                with self.assertRaises(karzhoul.Disconnected) as raised:
+                    karzhoul.connect(way)
+                told = str(raised.exception)
+                self.assertIn(f"no connection to the server: nobody serves at {way} now", told)
+                self.assertIn(f"'karzhoul serve .. --listen {way}'", told)
+                self.assertNotIn("ended", told)
+
+
 class Ends(ServerTest):
     """The program ends while something waits for it."""
 

@@ -43,6 +43,18 @@ class Begin(ProgramTest):
         with self.assertRaises(karzhoul.NoSuchManager):
             manager.clear()
 
+    def test_what_other_sessions_call_so(self) -> None:
+        for name, way in (
+            ("commit", r"manager\.transaction\(\) has commit"), ("rollback", "has rollback"),
+            ("add", r"manager\.persist\(object\)"), ("delete", r"manager\.remove\(object\)"),
+            ("get", r"manager\.find\(Class, key\)"), ("execute", r"manager\.execute_update\(text\)"),
+            ("colour", "no attribute 'colour'$"),
+        ):
+            self.assertFalse(hasattr(self.em, name))
+            with self.assertRaisesRegex(AttributeError, f"has no attribute '{name}'.*{way}" if
+                                        name != "colour" else way):
+                getattr(self.em, name)
+
     def test_a_block_that_ends_its_transaction_itself(self) -> None:
         with self.app.begin() as manager:
             manager.persist(self.Person(name="Ada"))

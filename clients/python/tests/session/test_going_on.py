@@ -7,7 +7,7 @@ import threading
 import time
 import unittest
 from functools import partial
-from typing import Any, Callable, Dict, List
+from typing import Any, Callable, Dict, Iterable, List, Tuple
 from unittest import mock
 
 import karzhoul
@@ -17,6 +17,11 @@ from ..steps import interrupted_at_step
 from ..support import needs_program, present
 from . import test_runs
 from .test_runs import NAMES
+
+
+def detached(manager: karzhoul.EntityManager, found: Iterable[Any]) -> None:
+    for each in found:
+        manager.detach(each)
 
 
 @needs_program
@@ -210,6 +215,194 @@ class GoesOn(test_runs.RunsTest):
             for call in calls:
                 with self.assertRaisesRegex(Restarted, "of before a restart: create another one"):
                     call()
+        self.assertEqual(self.names(), list(NAMES))
+
+    def test_whose_objects_were_detached(self) -> None:
+        def linked(manager: karzhoul.EntityManager) -> None:
+            ada = present(manager, "Person", 1)
+            ada.name = "Eve"
+            manager.detach(ada)
+
+        def among_others(manager: karzhoul.EntityManager) -> None:
+            manager.query("SELECT p.name FROM Person p")
+            manager.detach(manager.get_reference("Person", 1))
+            manager.find("Person", 9)
+
+        ways: List[Callable[[karzhoul.EntityManager], Any]] = [
+            lambda em: em.detach(present(em, "Person", 1)),
+            lambda em: em.detach(em.one("SELECT p FROM Person p WHERE p.id = 2")),
+            lambda em: detached(em, em.query("SELECT p FROM Person p")),
+            lambda em: detached(em, em.find_many("Person", [1, 2, 1])),
+            lambda em: em.detach(self.Person(name="Eve")),
+            among_others, linked,
+        ]
+        for way in ways:
+            with self.app.create_entity_manager() as manager:
+                way(manager)
+                self.assertTrue(manager.is_free)
+                self.app.restart()
+                with manager.transaction():
+                    self.assertEqual(present(manager, "Person", 1).name, "Ada")
+
+    def test_what_may_hold_others_than_were_detached(self) -> None:
+        def followed(manager: karzhoul.EntityManager) -> None:
+            ada = present(manager, "Person", 1)
+            list(ada.orders)
+            manager.detach(ada)
+
+        def flushed(manager: karzhoul.EntityManager) -> None:
+            ada = present(manager, "Person", 1)
+            ada.name = "Ada"
+            with manager.transaction():
+                manager.flush()
+            manager.detach(ada)
+
+        def kept(manager: karzhoul.EntityManager) -> None:
+            ada = present(manager, "Person", 1)
+            with self.app.pipeline():
+                manager.detach(ada)
+                self.assertFalse(manager.is_free)
+
+        def beside(manager: karzhoul.EntityManager) -> None:
+            manager.find("Order", 1)
+            manager.detach(present(manager, "Person", 1))
+
+        def persisted(manager: karzhoul.EntityManager) -> None:
+            present(manager, "Person", 1)
+            manager.persist(self.Person(name="Eve"))
+            manager.detach(present(manager, "Person", 1))
+
+        ways: List[Callable[[karzhoul.EntityManager], Any]] = [
+            lambda em: em.detach(em.query("SELECT p FROM Person p")[0]),
+            beside, persisted, followed, flushed, kept,
+        ]
+        for way in ways:
+            manager = self.app.create_entity_manager()
+            way(manager)
+            self.assertFalse(manager.is_free)
+
+    def test_objects_of_other_managers_count_for_none(self) -> None:
+        """Calls are refused, or an object is detached, while others load and make some."""
+        other = self.app.create_entity_manager()
+
+        def made() -> None:
+            self.Person(name="Eve")
+            other.clear()
+            other.query("SELECT p FROM Person p")
+
+        calls: List[Callable[[karzhoul.EntityManager], Any]] = [
+            self.is_refused("SELECT p FORM Person p"),
+            self.is_refused("SELECT p.id + 9223372036854775807 FROM Person p"),
+            self.is_refused("SELECT p FROM Person p WHERE p.name = :n", n=1.5),
+            lambda em: self.assertRaises(karzhoul.EntityNotFound, em.get_reference, "Person", 9),
+            lambda em: self.assertRaises(karzhoul.Refused, em.find, "Person", "a"),
+        ]
+        for call in calls:
+            with self.app.create_entity_manager() as manager:
+                with self.app._lock:
+                    thread = threading.Thread(target=call, args=(manager,))
+                    thread.start()
+                    time.sleep(0.02)  # So that it waits.
+                    made()
+                thread.join()
+                self.assertTrue(manager.is_free)
+        with self.app.create_entity_manager() as manager:
+            ada = present(manager, "Person", 1)
+            made()
+            manager.detach(ada)
+            self.assertTrue(manager.is_free)
+
+    def test_refused_calls_of_an_object(self) -> None:
+        """They change nothing, and so the manager goes on."""
+        ada, calls = self.gone(), ("persist", "remove", "refresh")
+        with self.app.create_entity_manager() as manager:
+            for call in calls:
+                with self.assertRaises(karzhoul.Refused):
+                    getattr(manager, call)(ada)
+                self.assertTrue(manager.is_free, call)
+            self.app.restart()
+            for call in (*calls, "detach"):
+                with self.assertRaises(Restarted):
+                    getattr(manager, call)(ada)
+                self.assertTrue(manager.is_free, call)
+            with self.assertRaises(ValueError):
+                manager.persist(7)  # type: ignore[arg-type]
+            self.app.restart()
+            self.assertEqual(present(manager, "Person", 1).name, "Ada")
+
+    def test_a_restart_as_a_call_ends(self) -> None:
+        """It found nothing, in the run before."""
+        asks = self.app.ask_found
+
+        def found(*given: Any) -> Any:
+            answer = asks(*given)
+            self.app.restart()
+            return answer
+
+        with self.app.create_entity_manager() as manager:
+            with mock.patch.object(self.app, "ask_found", found):
+                self.assertIsNone(manager.find("Person", 9))
+            self.assertTrue(manager.is_free)
+            self.assertEqual(present(manager, "Person", 1).name, "Ada")
+
+    def test_many_that_ask_while_it_restarts(self) -> None:
+        """Each goes on, with its flush mode."""
+        managers = [self.app.create_entity_manager() for _ in range(16)]
+        raised: List[BaseException] = []
+        ended = threading.Event()
+
+        def work(manager: karzhoul.EntityManager) -> None:
+            try:
+                manager.set_flush_mode(karzhoul.FlushModeType.COMMIT)
+                while not ended.is_set():
+                    manager.find("Person", 9)
+            except BaseException as fault:
+                raised.append(fault)
+
+        threads = [threading.Thread(target=work, args=(manager,)) for manager in managers]
+        for thread in threads:
+            thread.start()
+        for _ in range(60):
+            self.app.restart()
+            time.sleep(0.002)
+        ended.set()
+        for thread in threads:
+            thread.join()
+        self.assertEqual(raised, [])
+
+    def test_a_close_is_quiet(self) -> None:
+        """What is lost with it is said by a warning."""
+        def closed(manager: karzhoul.EntityManager) -> List[str]:
+            with mock.patch("warnings.warn") as warned:
+                manager.close()
+                manager.close()
+            return [call.args[0] for call in warned.call_args_list]
+
+        told = ["a manager of before a restart, or whose program has ended, is closed with what was persisted, removed, merged or set, "
+                "and no commit has said that this is stored"]
+        def begun(manager: karzhoul.EntityManager) -> None:
+            manager.transaction().begin()
+            manager.persist(self.Person(name="Eve"))
+
+        ways: List[Tuple[Callable[[karzhoul.EntityManager], Any], List[str]]] = [
+            (lambda em: em.find("Person", 1), []),
+            (lambda em: em.transaction().begin() and em.find("Person", 1), []),
+            (lambda em: em.close(), []),
+            (lambda em: em.persist(self.Person(name="Eve")), told),
+            (lambda em: em.remove(present(em, "Person", 1)), told),
+            (lambda em: setattr(present(em, "Person", 1), "name", "Eve"), told),
+            (begun, told),
+        ]
+        for is_killed in (False, True):
+            for way, wanted in ways:
+                manager = self.app.create_entity_manager()
+                way(manager)
+                if is_killed:
+                    self.app.program.kill()
+                else:
+                    self.app.restart()
+                self.assertEqual(closed(manager), wanted, (is_killed, ways.index((way, wanted))))
+                self.app.reopen()
         self.assertEqual(self.names(), list(NAMES))
 
     def test_several_restarts(self) -> None:

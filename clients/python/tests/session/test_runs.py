@@ -138,7 +138,6 @@ class Waiting(RunsTest):
             "begin": lambda em, ada: em.transaction().begin(),
             "commit": lambda em, ada: em.transaction().commit(),
             "set_rollback_only": lambda em, ada: em.transaction().set_rollback_only(),
-            "close": lambda em, ada: em.close(),
             "send_line": lambda em, ada: self.app.send_line(
                 '{"call":"set","object":1,"name":"name","value":"Eve"}'
             ),
