@@ -2,8 +2,8 @@
 """tests/grammar.py PROGRAM: holds what --grammar prints of each language against docs/QUERIES.md.
 
 Its words are those of the paper's grammar, its functions take and give what the paper's table says
-and as many values as the grammar writes, and its limits are the paper's. Exit status 0 where all is
-as it must be.
+and as many values as the grammar writes, in its order, and its limits are the paper's. Exit status 0
+where all is as it must be.
 """
 from __future__ import annotations
 
@@ -18,7 +18,7 @@ from trials import see, tried
 WORDS: dict[str, tuple[str, ...]] = {
     "profile": ("--grammar",), "wide": ("--grammar", "--language", "wide"),
 }
-ROW = re.compile(r"^\| `([A-Z]+)` \| (.+) \| (\d+) \| (\d+|any number) \| (\w+) \|$", re.MULTILINE)
+ROW = re.compile(r"^\| (`[A-Z]+`(?:, `[A-Z]+`)*) \| (\w+(?:, \w+)*) \| (\w+) \|$", re.MULTILINE)
 LIMIT = re.compile(r"^\| `([A-Za-z]+)` \| .+ \| ([\d,]+) \|$", re.MULTILINE)
 CALL = re.compile(r"\b([A-Z]+)\((v[^()]*)\)")
 
@@ -80,26 +80,32 @@ def keywords(ask: Asking) -> None:
 
 
 def functions(ask: Asking) -> None:
-    """What each function takes and gives is what the paper's table says."""
-    table = [
-        {
-            "name": name, "arguments": takes.split(", "), "least": int(least),
-            "most": int(most) if most.isdigit() else None, "result": gives,
-        }
-        for name, takes, least, most, gives in ROW.findall(section("What the program tells of a language"))
-    ]
-    see(told(ask, *WORDS["wide"])["functions"], table, "the table of functions")
+    """What each function takes and gives is what the paper's table says: its last kind is that of each further value."""
+    kinds = {
+        name: (takes.split(", "), gives)
+        for names, takes, gives in ROW.findall(section("What is well typed"))
+        for name in re.findall(r"[A-Z]+", names)
+    }
     profile = words_of(block("What is written"))
-    of_profile = [row for row in table if row["name"] in profile]
-    see(told(ask, "--grammar")["functions"], of_profile, "the functions of the profile")
+    for language, words in WORDS.items():
+        found = told(ask, *words)["functions"]
+        see({each["name"] for each in found},
+            {name for name in kinds if language == "wide" or name in profile}, f"the functions of {language}")
+        for each in found:
+            see(list(each), ["name", "arguments", "least", "most", "result"], words)
+            takes, gives = kinds[each["name"]]
+            more = len(each["arguments"]) - len(takes)
+            see((each["arguments"], each["result"]), (takes + takes[-1:] * more, gives), each["name"])
 
 
 def calls(ask: Asking) -> None:
-    """Each function takes as many values as the paper's grammar writes, TRIM at most two."""
+    """Each function takes as many values as the paper's grammar writes, TRIM at most two; they stand in its order."""
     written = dict(CALL.findall(block("What is written") + block("The wider language")))
     written["TRIM"] = "v [, v]"
-    found = {each["name"]: (each["least"], each["most"]) for each in told(ask, *WORDS["wide"])["functions"]}
-    see(found, {name: counts(values) for name, values in written.items()}, "how many values")
+    wide = told(ask, *WORDS["wide"])["functions"]
+    found = {each["name"]: (each["least"], each["most"]) for each in wide}
+    see(list(found.items()), [(name, counts(values)) for name, values in written.items()], "how many values")
+    see(told(ask, "--grammar")["functions"], wide[:8], "those of the profile")
 
 
 def aggregates(ask: Asking) -> None:
@@ -110,20 +116,12 @@ def aggregates(ask: Asking) -> None:
 
 
 def limits(ask: Asking) -> None:
-    """The limits are those of the paper's table, and those at which a text is refused."""
+    """The limits are those of the paper's table."""
     paper = section("What the program tells of a language")
     table = {name: int(most.replace(",", "")) for name, most in LIMIT.findall(paper)}
     for language, words in WORDS.items():
         wanted = {name: most for name, most in table.items() if name != "cases" or language == "wide"}
         see(told(ask, *words)["limits"], wanted, words)
-    refusal = re.sub(r",", "", section("What is refused"))
-    for name in ("bytes", "parentheses", "variables"):
-        see(f" {table[name]} {name}" in refusal, True, f"the refusal of more {name}")
-    see(f"a collection of more than {table['list']} values" in refusal, True, "the refusal of a longer list")
-    together = f"collections that become more than {table['listsTogether']} values"
-    see(together in refusal, True, "the refusal of more values together")
-    cases = f"in the wider language {table['cases']} words CASE"
-    see(cases in refusal, True, "the refusal of more words CASE")
 
 
 def other_words(ask: Asking) -> None:

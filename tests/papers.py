@@ -6,7 +6,7 @@
 - Names behind a link into crates/, in a table of an index, are declared in that file.
 - docs/JUDGING.md cites each folder of tests/runs, and no other. Titles of worked examples are
   those of their files. The index of tests/runs/README.md has the same runs by chapter.
-- `CRATE: NAME` in docs/JUDGING.md is a file of definitions.
+- `CRATE: NAME` in docs/JUDGING.md and among the words of tests/records is a file of definitions.
 - Each file of crates/*/specs says in its head what it defines, as tools/definitions prints it. Each
   public definition there has a comment right above it, and no line has more than 120 columns.
 - The table of limits of docs/OPERATING.md has those of crates/jpa_value/specs/Limits.antt.
@@ -35,6 +35,7 @@ PAGES = ("*.md", "docs/*.md", "tests/*.md", "tests/*/*.md", "clients/*/*.md",
 RUNS = "tests/runs/README.md"
 JUDGING = "docs/JUDGING.md"
 RECORDS = "tests/records/*.tsv"
+WORDS = "tests/records/words.tsv"
 LIMITS = "crates/jpa_value/specs/Limits.antt"
 EXAMPLES = ("mappings", "revisions", "limits", "functions", "stores", "migrations", "queries", "typed")
 TITLE = re.compile(r"^(?:mapping|limit|functions|store|query|typed|wide) (.+)$", re.MULTILINE)
@@ -181,11 +182,11 @@ def cited_runs(cell: str) -> list[str]:
 
 
 def run_index(page: str) -> str:
-    """The runs that an index of chapters cites, by its sections: rows that have a title alone."""
+    """The runs that an index of chapters cites, by its sections: the first rule has the title."""
     found: dict[str, set[str]] = {}
     section = ""
     for row in rows(page):
-        section = (found_in(r"^\*\*(.*)\*\*$", row.get("Rule", "")) or [section])[0]
+        section = (found_in(r"^\*\*(.*?)\.\*\*", row.get("Rule", "")) or [section])[0]
         names = {f"`{name}`" for name in cited_runs(row.get("Shown by", ""))}
         found[section] = found.get(section, set()) | names
     return "\n".join(
@@ -293,7 +294,8 @@ def main(words: list[Any]) -> int:
     check_index(JUDGING)
     check_runs(JUDGING)
     check_run_index(JUDGING, bool(words))
-    check_words(JUDGING)
+    for name in (JUDGING, WORDS):
+        check_words(name)
     for name in sorted(pathlib.Path().glob(RECORDS)):
         check_records(name)
         check_files(name.as_posix())

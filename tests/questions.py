@@ -94,6 +94,11 @@ ASKED: list[tuple[list[str], list[str]]] = [
     (["SELECT COUNT(o), SUM(o.amount) FROM Order o"], ["[3,3]"]),
     (["SELECT MAX(o.amount) FROM Order o WHERE o.number > 100"], ["null"]),
     (
+        ["SELECT COUNT(p.name), SUM(o.amount), MIN(p.name), MAX(p.name) FROM Order o, Person p"],
+        ['[6,9,"7","Ada"]'],
+    ),
+    (["SELECT MIN(o.amount) FROM Order o, Person p WHERE o.number > 100"], ["null"]),
+    (
         ["SELECT p FROM Order o JOIN o.person p ORDER BY p.id"],
         ['{"entity":"Person","key":[1]}', '{"entity":"Person","key":[2]}'],
     ),

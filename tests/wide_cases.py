@@ -59,7 +59,7 @@ PARTS = {
 def worked() -> Iterator[tuple[str, str]]:
     """The values of docs/QUERIES.md with what they are of the orders there."""
     with open(os.path.join(HERE, "..", "docs", "QUERIES.md"), encoding="utf-8") as file:
-        section = file.read().partition("\n**CASE** ")[2].partition("\nA text has at most")[0]
+        section = file.read().partition("\n**CASE** ")[2].partition("\n**ORDER BY** ")[0]
     yield from re.findall(r"^\| `(.+?)` \| `(.+)` \|$", section, re.MULTILINE)
 
 
