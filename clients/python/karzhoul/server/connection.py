@@ -60,7 +60,8 @@ class Connection(asyncio.BufferedProtocol):
         self.reserved: int = 0
         self.reserved_until: float = 0.0
         self.began: float = time.monotonic()
-        self.heard: float = self.began
+        # When it was last seen to have been heard or answered; None where it was since.
+        self.heard: Optional[float] = None
         self.half_since: Optional[float] = None
         # The line that is coming, and those that have come.
         self._pieces: List[bytes] = []
@@ -95,17 +96,21 @@ class Connection(asyncio.BufferedProtocol):
 
     def buffer_updated(self, count: int) -> None:
         """So many bytes have come."""
-        first, *more = bytes(_room[:count]).split(b"\n")
-        self.heard = time.monotonic()
-        if first and more == [b""] and not self.coming:  # As below, of one line that came whole.
-            self._lines.append(first)
-            self._waiting += count
+        self.take(bytes(_room[:count]))
+
+    def take(self, data: bytes) -> None:
+        """These bytes have come."""
+        self.heard = None
+        pieces = data.split(b"\n")
+        if len(pieces) == 2 and pieces[0] and not pieces[1] and not self.coming:
+            self._lines.append(pieces[0])  # As below, of one line that came whole.
+            self._waiting += len(data)
         else:
-            self._add(first)
-            for piece in more:
+            self._add(pieces[0])
+            for piece in pieces[1:]:
                 self._end_line()
                 self._add(piece)
-            self.half_since = None if not self.coming else self.half_since or self.heard
+            self.half_since = None if not self.coming else self.half_since or time.monotonic()
         if self._waiting > _WAITING or (self.coming > _CHUNK and not self._service.has_room()):
             self._pause()
         self.wake()
@@ -178,7 +183,7 @@ class Connection(asyncio.BufferedProtocol):
             return False
         line = self._lines[0]
         is_settled = self.sent == 0
-        if (line.startswith(OWN) and line != BEGIN) or not self.is_trusted:
+        if not self.is_trusted or (line.startswith(OWN) and line != BEGIN):
             if is_settled:
                 self.take_line()
                 self._service.serve(self, line)
@@ -201,12 +206,14 @@ class Connection(asyncio.BufferedProtocol):
         """Takes its next line off, which is answered or handed on."""
         if self._lines:
             self._waiting -= len(self._lines.popleft()) + 1
-        self.read_on()
+        if self._is_paused:
+            self.read_on()
 
     def is_sent(self, word: str) -> None:
         """A call of this name was handed on."""
         self.sent += 1
-        self._is_long = self._is_long or word in _LONG_ANSWERS
+        if word in _LONG_ANSWERS:
+            self._is_long = True
 
     def is_answered(self, word: str) -> None:
         """A call of this name was answered."""

@@ -8,7 +8,7 @@ import os
 import time
 from collections import deque
 from contextlib import suppress
-from typing import Callable, Deque, List, Optional, Tuple
+from typing import Callable, Deque, List, Optional
 
 from ..store.program import Program
 from .files import Files
@@ -31,9 +31,11 @@ class Engine:
         self._loop, self._files = asyncio.get_running_loop(), files
         self._in, self._out = program.pipes()
         # What the reply to a line is handed to that was sent; None in its place where the program
-        # has ended. And since when that is waited for.
-        self.asked: Deque[Tuple[Take, float]] = deque()
-        self._lines: List[bytes] = []
+        # has ended. And since when the first of them is under way.
+        self.asked: Deque[Take] = deque()
+        self._since = 0.0
+        # What is to be written at the next `flush`.
+        self.lines: List[bytes] = []
         self._unwritten = b""
         # Whether nothing is read of it any more.
         self._is_over = False
@@ -54,7 +56,7 @@ class Engine:
 
     def waits_since(self) -> Optional[float]:
         """Since when the line is under way that it works at; None where there is none."""
-        return self.asked[0][1] if self.asked else None
+        return self._since if self.asked else None
 
     def send(self, line: bytes, take: Take) -> None:
         """Sends a line, at the next `flush`. Of a program that has ended it is told so, since
@@ -62,35 +64,35 @@ class Engine:
         if self._is_over:
             self._loop.call_soon(take, None)
             return
-        self._lines.append(line)
-        self.asked.append((take, time.monotonic()))
+        if not self.asked:
+            self._since = time.monotonic()
+        self.lines.append(line)
+        self.asked.append(take)
 
     def flush(self) -> None:
         """Writes what was sent, as far as the pipe takes it."""
-        if not self._lines or self._is_over:
+        if not self.lines or self._is_over:
             return
-        text = b"\n".join(self._lines) + b"\n"
-        self._lines.clear()
+        text = b"\n".join(self.lines) + b"\n"
+        self.lines.clear()
         if self._unwritten:
             self._unwritten += text
             return
-        self._unwritten = text
-        self._write()
+        self._write(text)
         if self._unwritten:
             self._files.add_writer(self._in, self._written)
 
-    def _write(self) -> None:
+    def _write(self, text: bytes) -> None:
         try:
-            done = os.write(self._in, self._unwritten)
+            self._unwritten = text[os.write(self._in, text) :]
         except BlockingIOError:
-            return
+            self._unwritten = text
         except BrokenPipeError:  # Its end is read.
-            done = len(self._unwritten)
-        self._unwritten = self._unwritten[done:]
+            self._unwritten = b""
 
     def _written(self) -> None:
         """Goes on to write."""
-        self._write()
+        self._write(self._unwritten)
         if not self._unwritten:
             self._files.remove_writer(self._in)
 
@@ -104,24 +106,28 @@ class Engine:
             self._stop_pipes()
             self._ended()
             return
-        *replies, rest = chunk.split(b"\n")
+        replies = chunk.split(b"\n")
+        rest = replies.pop()
         if replies and self._pieces:
             replies[0] = b"".join((*self._pieces, replies[0]))
             self._pieces.clear()
         if rest:
             self._pieces.append(rest)
+        asked = self.asked
         for reply in replies:
-            if not self.asked:  # It told more than it was asked.
+            if not asked:  # It told more than it was asked.
                 self.program.kill()
                 return
-            self.asked.popleft()[0](reply)
+            asked.popleft()(reply)
         if replies:
+            if asked:
+                self._since = time.monotonic()
             self._answered()
 
     def left(self) -> None:
         """Tells those whose lines weren't answered that the program has ended."""
         while self.asked:
-            self.asked.popleft()[0](None)
+            self.asked.popleft()(None)
 
     def _stop_pipes(self) -> None:
         if self._is_over:

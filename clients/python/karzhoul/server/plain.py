@@ -1,5 +1,4 @@
-"""Connections that aren't ciphered: their sockets are read into one place, and written at once as
-far as they take it."""
+"""Connections that aren't ciphered: their sockets are written at once as far as they take it."""
 
 from __future__ import annotations
 
@@ -18,6 +17,8 @@ if TYPE_CHECKING:
 # How many connections are taken at a time; what there may be too little of for another one, and how
 # long that is waited for, in seconds.
 _TOGETHER = 64
+# How much is read at a time.
+_CHUNK = 1 << 16
 _SCARCE = {errno.EMFILE, errno.ENFILE, errno.ENOBUFS, errno.ENOMEM}
 _PAUSE = 1.0
 
@@ -59,19 +60,18 @@ class Plain(asyncio.Transport):
             self._files.add_reader(self._fd, self._read)
 
     def _read(self) -> None:
-        connection = self._connection
         try:
-            count = self._socket.recv_into(connection.get_buffer(-1))
+            data = self._socket.recv(_CHUNK)
         except BlockingIOError:
             return
         except OSError as fault:
             self._end(fault)
             return
-        if count:
-            connection.buffer_updated(count)
+        if data:
+            self._connection.take(data)
             return
         self.pause_reading()
-        connection.eof_received()  # Which leaves it open.
+        self._connection.eof_received()  # Which leaves it open.
 
     # ---- what goes
 

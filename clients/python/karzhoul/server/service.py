@@ -33,6 +33,12 @@ from .watching import Watch
 _WINDOW = 64
 _LARGE = 1 << 16
 _ENDING = "the server is ending"
+# Calls that may have to wait for their turn, or are the server's to do; and those of which more is
+# noted than that their manager may hold something.
+_IN_TURN = {"createEntityManager", "begin", "restart"}
+_NOTED = {
+    "createEntityManager", "begin", "commit", "rollback", "clear", "close", "setFlushMode", "index",
+}
 _ACTIVE = b'{"error":{"name":"IllegalState","no":7,"why":"active"},"events":[]}'
 # How many times in a row a program that ended is started again, with a second between them.
 _MOST_STARTS = 5
@@ -161,8 +167,10 @@ class Service:
                     if connection.is_ended:
                         self.look_at_end(connection)
         # (a reply may have the server send a line behind it, also while others wait)
-        self.engine.flush()
-        self.tell()
+        if self.engine.lines:
+            self.engine.flush()
+        if self.told:
+            self.tell()
 
     def tell(self) -> None:
         """Sends what connections were told."""
@@ -182,12 +190,13 @@ class Service:
         """Hands a call on, where it is its turn; whether its line is taken. What the server says
         itself comes after what the program has still to say."""
         word = call.word
-        if word == "createEntityManager":
-            return self._create(connection, call)
-        if word == "begin" and (self.gate.held_until is not None or self.is_ending):
-            return self._begin(connection, call)
-        if word == "restart":
-            return connection.sent == 0 and self._restart_own(connection)
+        if word in _IN_TURN:
+            if word == "createEntityManager":
+                return self._create(connection, call)
+            if word == "restart":
+                return connection.sent == 0 and self._restart_own(connection)
+            if self.gate.held_until is not None or self.is_ending:
+                return self._begin(connection, call)
         self.send(connection, call)
         return True
 
@@ -290,28 +299,35 @@ class Service:
     def heard(self, connection: Connection, call: Call, reply: bytes) -> Tuple[str, bytes]:
         """Takes note of the reply to a call of a connection: the name of its refusal, if it is one,
         and what the connection is told."""
-        made = self.made
-        text, self.made = connection.translation.reply(call.word, reply, made)
-        self.counts.objects += self.made - made
-        refused = self.counts.refused(reply) if reply.startswith(b'{"error":') else ""
-        if call.word == "index" and not refused:
-            self._asked[_indexed(call.line)] = None
-        self._note(connection, call, refused, reply)
+        word, text, refused = call.word, reply, ""
+        if reply != NULL:
+            text, made = connection.translation.reply(word, reply, self.made)
+            self.counts.objects += made - self.made
+            self.made = made
+            if reply.startswith(b'{"error":'):
+                refused = self.counts.refused(reply)
+        if word in _NOTED:
+            self._note(connection, call, refused)
+        elif not refused and call.em in connection.managers:
+            connection.managers[call.em].is_touched = True
         return refused, text
 
     def answer(self, connection: Connection, reply: bytes) -> None:
         """Tells a connection the reply to a line of its."""
         if not connection.is_closed:
             connection.say(reply)
-            connection.heard = time.monotonic()
-            if connection.has_lines:
-                connection.wake()
+            connection.heard = None
+            connection.wake()
         if connection.is_ended:
             self.look_at_end(connection)
 
-    def _note(self, connection: Connection, call: Call, refused: str, reply: bytes) -> None:
-        """Takes note of what a call has done to its manager."""
+    def _note(self, connection: Connection, call: Call, refused: str) -> None:
+        """Takes note of what a call has done."""
         word = call.word
+        if word == "index":
+            if not refused:
+                self._asked[_indexed(call.line)] = None
+            return
         if word == "createEntityManager":
             if refused:
                 self.created -= 1
@@ -344,11 +360,11 @@ class Service:
             self.gate.give_back()
         elif word == "setFlushMode":
             manager.mode = call.line
-        else:
-            manager.is_touched = True
 
     def _answered(self) -> None:
-        """Replies have come."""
+        """Replies have come. Who waits for one hears it before all else."""
+        if self.told:
+            self.tell()
         if self.still.awaiting and self.engine.is_idle:
             self.still.note_idle()
         self.renewal.look()

@@ -41,7 +41,10 @@ _VALUES = re.compile(
 # Of replies: an event with its object, and an object. (A quote within a text is escaped.)
 _EVENT = re.compile(rb'(\["[A-Za-z]+",)([0-9]+)')
 _OBJECT = re.compile(rb'(\{"object":)([0-9]+)(?=\})')
-_NULL = b'{"events":[],"ok":null}'
+# A reply that has one number: one event with nothing behind it, or an object without events.
+_ONE = re.compile(
+    rb'(\{"events":\[(?:\["[A-Za-z]+",|\],"ok":\{"object":))([0-9]+)(\]\],"ok":null\}|\}\})'
+).fullmatch
 # Which the server does itself, and so is told from what only begins like it.
 _RESTART = b'{"call":"restart"}'
 _OK, _ERROR = b'],"ok":', b'},"events":['
@@ -111,9 +114,10 @@ class Objects:
             raise Ahead
         return 0
 
-    def give(self, real: int) -> None:
-        """The program has just made one, and the connection is told."""
+    def give(self, real: int) -> int:
+        """Its number of one that the program has just made, which the connection is told."""
         self._real.append(real)
+        return self._before + len(self._real)
 
     def own(self, real: int) -> int:
         """Its number of what the program calls so; of what isn't its, which a refused call made and
@@ -197,16 +201,15 @@ class Translation:
         known = _WORDS.get(word)
         if known is None or (known == "restart" and found[0] != _RESTART):
             return BAD
-        told, own = b'{"call":"%b"' % word, 0
+        own, told, end = 0, b'{"call":"%b"' % word, b"}"
         if em is not None:
             own = int(em)
-            told += b',"em":%d' % self.managers.real(own, is_settled)
+            told = b'%b,"em":%d' % (told, self.managers.real(own, is_settled))
         if number is not None:
-            told += b',"object":%d' % self.objects.real(int(number), is_settled)
-        told += plain
+            told = b'%b,"object":%d' % (told, self.objects.real(int(number), is_settled))
         if member is not None:
-            told += b',"member":%d' % self.objects.real(int(member), is_settled)
-        return Call(known, own, told + b"}")
+            end = b',"member":%d}' % self.objects.real(int(member), is_settled)
+        return Call(known, own, told + plain + end)
 
     def _read(self, line: bytes, is_settled: bool) -> Call:
         """The call of any line."""
@@ -263,8 +266,17 @@ class Translation:
         """The program's reply to a call of this name, with the connection's numbers; and how many
         objects the program has made after it, of which it had made so many before. What is made is
         the connection's; a refused call gives up what it made."""
-        if reply == _NULL:
-            return reply, made
+        one = _ONE(reply)
+        if one is None:
+            return self._reply(word, reply, made)
+        front, told, end = one.groups()
+        real = int(told)
+        if real <= made:
+            return b"%b%d%b" % (front, self.objects.own(real), end), made
+        return b"%b%d%b" % (front, self.objects.give(real), end), real
+
+    def _reply(self, word: str, reply: bytes, made: int) -> Tuple[bytes, int]:
+        """The same of any reply."""
         if reply.startswith(b'{"error":'):
             refused, between, events = reply.partition(_ERROR)
             return refused + between + _EVENT.sub(self._given_up(made), events), made
@@ -272,17 +284,16 @@ class Translation:
         if word == "createEntityManager":
             return front + between + b"%d}" % self.managers.give(int(ended[:-1])), made
         has_events = len(front) > len(b'{"events":[')
-        told = [it for _, it in _OBJECT.findall(ended)]
+        numbers = [it for _, it in _OBJECT.findall(ended)]
         if has_events:
-            told += [it for _, it in _EVENT.findall(front)]
-        for number in sorted({real for it in told if (real := int(it)) > made}):
+            numbers += [it for _, it in _EVENT.findall(front)]
+        for number in sorted({real for it in numbers if (real := int(it)) > made}):
             self.objects.give(number)
             made = number
-        own = self._own
         if has_events:
-            front = _EVENT.sub(own, front)
+            front = _EVENT.sub(self._own, front)
         pattern = _EVENT if word == "pending" else _OBJECT
-        return front + between + pattern.sub(own, ended), made
+        return front + between + pattern.sub(self._own, ended), made
 
     def _own(self, found: Match[bytes]) -> bytes:
         return b"%b%d" % (found[1], self.objects.own(int(found[2])))

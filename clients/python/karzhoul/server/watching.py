@@ -43,6 +43,8 @@ class Watch:
         service = self._service
         settings = service.settings
         connection.read_on()
+        if connection.heard is None:
+            connection.heard = now
         if connection.reserved and connection.reserved_until < now:
             connection.reserved -= 1
             service.gate.give_back()
