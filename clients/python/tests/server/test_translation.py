@@ -6,7 +6,7 @@ from __future__ import annotations
 import json
 import random
 import unittest
-from typing import Any, List, Tuple
+from typing import Any, List, Tuple, cast
 
 from karzhoul.server.translation import BAD, Translation
 from karzhoul.wire.lines import CALLS, OWN_CALLS
@@ -38,8 +38,8 @@ def translation() -> Translation:
 
 def reading() -> Translation:
     """One that reads a line as the program does, whose numbers it leaves."""
-    made: Any = Translation()
-    made.objects = made.managers = Itself()
+    made, numbers = Translation(), cast(Any, Itself())
+    made.objects = made.managers = numbers
     return made
 
 
