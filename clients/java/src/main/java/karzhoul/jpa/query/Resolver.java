@@ -367,17 +367,19 @@ final class Resolver extends Rewriting {
         if (variable != null) {
             return path(path.at(), variable, names.subList(1, names.size()));
         }
+        Class<?> type = names.size() == 1 ? null : enumOf(names);
+        if (type != null) {
+            return constant(path.at(), type, names.get(names.size() - 1));
+        }
         if (implied != null && isMember(implied.entity, names.get(0))) {
             return path(path.at(), implied, names);
         }
-        if (names.size() == 1) {
-            EntityModel entity = unit.named(names.get(0));
-            if (entity != null) {
-                return new EntityName(path.at(), entity);
-            }
-            throw fault(path.at(), "there is no variable \"" + path + "\"" + Nearest.hint(names.get(0), known()));
+        EntityModel entity = names.size() == 1 ? unit.named(names.get(0)) : null;
+        if (entity != null) {
+            return new EntityName(path.at(), entity);
         }
-        return constant(path);
+        throw fault(path.at(), "there is no variable \"" + names.get(0) + "\"" + (names.size() == 1 ? ""
+                : " and no enum \"" + className(names) + "\"") + Nearest.hint(names.get(0), known()));
     }
 
     private Value path(int at, Variable variable, List<String> names) {
@@ -410,28 +412,25 @@ final class Resolver extends Rewriting {
                 || entity.relations().stream().anyMatch(r -> r.path().equals(name) || r.path().startsWith(name + "."));
     }
 
-    /** An enum's constant, by the qualified name of the class or by its own where an attribute is of that. */
-    private Value constant(Path path) {
-        List<String> names = path.names();
-        String className = String.join(".", names.subList(0, names.size() - 1));
-        Class<?> type = names.size() > 2 ? Classes.find(unit, className) : null;
-        if (type == null) {
-            type = enumOfAttribute(className);
-        }
-        if (type != null && type.isEnum()) {
-            String last = names.get(names.size() - 1);
-            List<String> constants = new ArrayList<>();
-            for (Object constant : type.getEnumConstants()) {
-                if (((Enum<?>) constant).name().equals(last)) {
-                    return new Literal(path.at(), constant);
-                }
-                constants.add(((Enum<?>) constant).name());
+    /** The enum whose constant these names are, by its qualified name or by its own where an attribute is of it; or null. */
+    private Class<?> enumOf(List<String> names) {
+        Class<?> type = names.size() > 2 ? Classes.find(unit, className(names)) : null;
+        return type != null && type.isEnum() ? type : enumOfAttribute(className(names));
+    }
+
+    private static String className(List<String> names) {
+        return String.join(".", names.subList(0, names.size() - 1));
+    }
+
+    private Literal constant(int at, Class<?> type, String name) {
+        List<String> constants = new ArrayList<>();
+        for (Object constant : type.getEnumConstants()) {
+            if (((Enum<?>) constant).name().equals(name)) {
+                return new Literal(at, constant);
             }
-            throw fault(path.at(), type.getName() + " has no constant \"" + last + "\""
-                    + Nearest.hint(last, constants));
+            constants.add(((Enum<?>) constant).name());
         }
-        throw fault(path.at(), "there is no variable \"" + names.get(0) + "\" and no enum \"" + className + "\""
-                + Nearest.hint(names.get(0), known()));
+        throw fault(at, type.getName() + " has no constant \"" + name + "\"" + Nearest.hint(name, constants));
     }
 
     private Class<?> enumOfAttribute(String name) {
