@@ -10,6 +10,7 @@ import karzhoul.jpa.engine.Ref;
 import karzhoul.jpa.engine.Reply;
 import karzhoul.jpa.engine.Shown;
 import karzhoul.jpa.model.EntityModel;
+import karzhoul.jpa.model.KeyModel;
 import karzhoul.jpa.model.Relation;
 
 /** Which relation a refused flush was about: one that leads to what isn't stored (chapters 3.2.2 and 3.2.4). */
@@ -19,6 +20,14 @@ final class BrokenLinks {
     private record Link(String owner, Relation relation, Entry target, boolean isRemoved) {
         String told() {
             return owner + "." + relation.path() + ", which leads to " + (isRemoved ? "the removed " : "") + target;
+        }
+
+        /** With the key that the instance has: of a generated one there was a row. */
+        String toldOfUnstored() {
+            boolean hadRow = !isRemoved && target.model().key().generation() != KeyModel.Generation.ASSIGNED;
+            List<Object> key = hadRow ? Targets.keyOf(target.model(), target.instance()) : null;
+            return key == null ? told() : owner + "." + relation.path() + ", which leads to " + Entry.told(target.model(), key)
+                + ", which has no row";
         }
     }
 
@@ -46,12 +55,38 @@ final class BrokenLinks {
                 for (Entry target : targets(entry, relation)) {
                     boolean isRemoved = target.state() == Entry.State.REMOVED;
                     if (isRemoved || target.state() == Entry.State.NEW) {
-                        return Optional.of(new Link(entry.toString(), relation, target, isRemoved).told());
+                        return Optional.of(new Link(entry.toString(), relation, target, isRemoved).toldOfUnstored());
                     }
                 }
             }
         }
         return Optional.empty();
+    }
+
+    /** A one-to-one relation of what was to be written, whose target is that of another one too. */
+    Optional<String> toShared(List<Entry> written) {
+        return probe.within(() -> written.stream().filter(entry -> !removed.contains(entry) && !entry.isHollow())
+            .flatMap(entry -> entry.model().relations().stream()
+                .filter(relation -> relation.isOwner() && relation.kind() == Relation.Kind.ONE_TO_ONE)
+                .flatMap(relation -> targets(entry, relation).stream().flatMap(target -> sharer(entry, relation, target).stream()
+                    .map(other -> entry + "." + relation.path() + ", which leads to " + target + " as that of " + other + " does"))))
+            .findFirst());
+    }
+
+    private Optional<String> sharer(Entry entry, Relation relation, Entry target) {
+        Optional<String> known = entries.stream().filter(it -> it != entry && it.model().isA(entry.model()) && !removed.contains(it)
+            && !it.isHollow() && targets(it, relation).contains(target)).findFirst().map(Entry::toString);
+        return known.isPresent() || target.key() == null ? known : rowOf(target).flatMap(row ->
+            owners(entry.model(), relation, row).stream().filter(owner -> {
+                List<Object> key = keyOf(owner);
+                return !key.equals(entry.key()) && leads(entryOf(entry.model(), key), relation, target);
+            }).findFirst().map(owner -> owner(owner, keyOf(owner))));
+    }
+
+    private Optional<Ref> rowOf(Entry entry) {
+        int from = probe.queue().count();
+        probe.queue().find(probe.manager(), entry.model().root().mappedName(), entry.key());
+        return Optional.ofNullable((Ref) probe.ask(from)[0].ok());
     }
 
     /**
@@ -91,15 +126,14 @@ final class BrokenLinks {
     }
 
     private Optional<Link> leadingTo(Entry target) {
-        int from = probe.queue().count();
-        probe.queue().find(probe.manager(), target.model().root().mappedName(), target.key());
-        if (!(probe.ask(from)[0].ok() instanceof Ref row)) {
+        Optional<Ref> row = rowOf(target);
+        if (row.isEmpty()) {
             return Optional.empty();
         }
         for (EntityModel model : probe.unit().entities()) {
             for (Relation relation : model.relations()) {
                 if (relation.isOwner() && target.model().isA(relation.target())) {
-                    for (Shown owner : owners(model, relation, row)) {
+                    for (Shown owner : owners(model, relation, row.get())) {
                         List<Object> key = keyOf(owner);
                         if (leads(entryOf(model, key), relation, target)) {
                             String told = owner(owner, key);
@@ -113,7 +147,7 @@ final class BrokenLinks {
     }
 
     private String owner(Shown row, List<Object> key) {
-        return probe.factory().mapped(row.entity()).name() + " " + (key.size() == 1 ? key.get(0) : key);
+        return Entry.told(probe.factory().mapped(row.entity()), key);
     }
 
     /** Rows whose relation leads to this one. */

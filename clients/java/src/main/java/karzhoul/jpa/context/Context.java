@@ -345,7 +345,7 @@ final class Context {
 
     void needTransaction() {
         if (!isActive) {
-            throw new TransactionRequiredException("no transaction is active");
+            throw new TransactionRequiredException("no transaction is active: begin one");
         }
     }
 
@@ -612,6 +612,7 @@ final class Context {
                 written.put(entry, NO_ROW);
                 return false;
             case PostUpdate:
+                written.putIfAbsent(entry, entry.rowBefore());
                 entry.raiseVersion();
                 return false;
             case PostRemove:

@@ -18,7 +18,9 @@ import karzhoul.jpa.engine.Refusals;
 import karzhoul.jpa.engine.Reply;
 import karzhoul.jpa.engine.Shown;
 import karzhoul.jpa.model.Attribute;
+import karzhoul.jpa.model.KeyModel;
 import karzhoul.jpa.model.Relation;
+import karzhoul.jpa.model.UnkeptElements;
 
 /**
  * For which entity a flush or a commit was refused: the program tells why, and not whom. What was to be written is
@@ -37,6 +39,7 @@ final class Culprits {
     private final List<Entry> entries;
     private final List<Entry> removed;
     private final Optional<String> unstored;
+    private final WrongMembers members;
     private final List<UniqueValues.Taken> taken;
 
     Culprits(Context context) {
@@ -45,6 +48,7 @@ final class Culprits {
         entries = context.identities().numbered();
         removed = entries.stream().filter(entry -> entry.state() == Entry.State.REMOVED).toList();
         unstored = BrokenLinks.toUnstored(entries);
+        members = new WrongMembers(entries);
         taken = context.uniques().taken();
         for (Entry entry : entries) {
             boolean isWritten = entry.isTouched() || written.containsKey(entry) || !entry.isStored() || entry.state() == Entry.State.REMOVED
@@ -61,9 +65,6 @@ final class Culprits {
     /** The refusal with its entity, where that is found. */
     RuntimeException named(RuntimeException refusal) {
         try {
-            if (suspects.isEmpty()) {
-                return refusal;
-            }
             if (refusal instanceof RollbackException && refusal.getCause() instanceof RuntimeException cause) {
                 RuntimeException named = cause(cause);
                 return named == cause ? refusal : Refusals.rolledBack(named);
@@ -87,17 +88,25 @@ final class Culprits {
                 entry.instance())).orElse(refusal);
         } else if (refusal instanceof EntityExistsException) {
             return first((entry, shown) -> !entry.isStored() && shown != null)
-                .<RuntimeException>map(entry -> new EntityExistsException(about(refusal, entry.toString()), refusal))
+                .<RuntimeException>map(entry -> new EntityExistsException(about(refusal, Entry.told(entry.model(), keyOf(entry))), refusal))
                 .orElse(refusal);
         } else if (isOf(refusal, "IllegalState(reference)")) {
             return unstored.<RuntimeException>map(what -> new IllegalStateException(about(refusal, what), refusal))
                 .orElse(refusal);
         }
-        Optional<String> what = isOf(refusal, "Persistence(null)")
-            ? suspects.stream().map(Culprits::missing).flatMap(Optional::stream).findFirst()
-            : isOf(refusal, "Persistence(reference)")
-            ? new BrokenLinks(probe, entries, removed).toNoRow(suspects, this::isWithoutRow) : Optional.empty();
-        return what.<RuntimeException>map(it -> new PersistenceException(about(refusal, it), refusal)).orElse(refusal);
+        if (refusal instanceof UnkeptElements unkept) {
+            return members.owned(unkept);
+        } else if (refusal instanceof IllegalArgumentException) {
+            return members.ofAnotherClass().<RuntimeException>map(it -> new IllegalArgumentException(it, refusal)).orElse(refusal);
+        }
+        return what(refusal).<RuntimeException>map(it -> new PersistenceException(about(refusal, it), refusal)).orElse(refusal);
+    }
+
+    private Optional<String> what(RuntimeException refusal) {
+        BrokenLinks links = new BrokenLinks(probe, entries, removed);
+        return isOf(refusal, "Persistence(null)") ? suspects.stream().map(Culprits::missing).flatMap(Optional::stream).findFirst()
+            : isOf(refusal, "Persistence(reference)") ? links.toNoRow(suspects, this::isWithoutRow)
+            : isOf(refusal, "Persistence(unique):") ? links.toShared(suspects) : Optional.empty();
     }
 
     private static boolean isOf(RuntimeException refusal, String words) {
@@ -152,7 +161,10 @@ final class Culprits {
     }
 
     private Optional<Entry> first(BiPredicate<Entry, Shown> isCulprit) {
-        List<Entry> keyed = suspects.stream().filter(entry -> entry.key() != null).toList();
+        List<Entry> keyed = suspects.stream().filter(entry -> keyOf(entry) != null).toList();
+        if (keyed.isEmpty()) {
+            return Optional.empty();
+        }
         List<Shown> rows = probe.within(() -> rows(keyed));
         for (int i = 0; i < rows.size(); i++) {
             if (isCulprit.test(keyed.get(i), rows.get(i))) {
@@ -162,10 +174,16 @@ final class Culprits {
         return Optional.empty();
     }
 
+    /** Its key, also where it was given and the program hasn't taken it yet. */
+    private static List<Object> keyOf(Entry entry) {
+        boolean isGiven = entry.key() == null && entry.model().key().generation() == KeyModel.Generation.ASSIGNED;
+        return isGiven ? Targets.keyOf(entry.model(), entry.instance()) : entry.key();
+    }
+
     private List<Shown> rows(List<Entry> entries) {
         int from = probe.queue().count();
         for (Entry entry : entries) {
-            probe.queue().find(probe.manager(), entry.model().root().mappedName(), entry.key());
+            probe.queue().find(probe.manager(), entry.model().root().mappedName(), keyOf(entry));
         }
         List<Object> refs = new ArrayList<>();
         for (Reply reply : probe.ask(from)) {

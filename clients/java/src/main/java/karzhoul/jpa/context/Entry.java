@@ -196,6 +196,11 @@ final class Entry {
         return new Row(rowValues(), rowRelations());
     }
 
+    /** The row before it is written, also where a lock alone does that. */
+    Row rowBefore() {
+        return cleanValues == null ? new Row(values.clone(), relations.clone()) : row();
+    }
+
     /** The values of the row, as far as is known here. */
     Object[] rowValues() {
         return cleanValues == null ? values : cleanValues;
@@ -252,6 +257,11 @@ final class Entry {
 
     @Override
     public String toString() {
+        return told(model, key);
+    }
+
+    /** As a person reads what has this key, or has none. */
+    static String told(EntityModel model, List<Object> key) {
         return key == null ? "a new " + model.name() : model.name() + " " + (key.size() == 1 ? key.get(0) : key);
     }
 }

@@ -33,7 +33,11 @@ final class Graph {
             return;
         }
         for (Object member : members(relation.get(instance))) {
-            if (member != null && seen.add(member)) {
+            if (relation.isMany() && !WrongMembers.isFit(relation, member)) {
+                throw context.marked(new IllegalArgumentException(
+                    WrongMembers.told(entry == null ? "a new " + context.modelOf(instance).name() : entry, relation, member)));
+            }
+            if (seen.add(member)) {
                 work.add(member);
             }
         }

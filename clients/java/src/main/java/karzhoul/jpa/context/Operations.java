@@ -143,9 +143,8 @@ final class Operations {
     private void removeNew(Object instance) {
         EntityModel model = context.modelOf(instance);
         if (context.entryOf(instance) == null && isDetached(model, instance)) {
-            List<Object> key = Targets.keyOf(model, instance);
-            throw context.marked(new IllegalArgumentException("IllegalArgument(state), " + model.name() + " "
-                + (key.size() == 1 ? key.get(0) : key) + ": a detached instance can't be removed; merge it first"));
+            throw context.marked(new IllegalArgumentException("IllegalArgument(state), " + told(model, instance)
+                + ": a detached instance can't be removed; merge it first"));
         }
         Graph graph = new Graph(context);
         graph.add(instance);
@@ -191,9 +190,15 @@ final class Operations {
         Entry entry = context.entryOf(instance);
         if (entry == null || !entry.isManaged()) {
             throw context.marked(new IllegalArgumentException("IllegalArgument(state), "
-                + (entry == null ? context.modelOf(instance).name() : entry) + ": only a managed instance can be " + done));
+                + (entry == null ? told(context.modelOf(instance), instance)
+                : entry.state() == Entry.State.REMOVED ? "the removed " + entry : entry)
+                + ": only a managed instance can be " + done + "; find it, or merge it first"));
         }
         return entry;
+    }
+
+    private static String told(EntityModel model, Object instance) {
+        return Entry.told(model, Targets.keyOf(model, instance));
     }
 
     /** Lets an instance go as it is, and what detach goes on to (chapter 3.2.6). */
@@ -218,6 +223,9 @@ final class Operations {
     void lock(Object instance, LockModeType mode) {
         context.needTransaction();
         Entry entry = managed(instance, "locked");
+        if (mode == null) {
+            throw context.marked(new IllegalArgumentException(entry + " can't be locked: the lock mode is null; NONE is no lock"));
+        }
         if (mode == LockModeType.NONE) {
             return;
         }

@@ -19,11 +19,12 @@ public final class Refusals {
         Set.of("NoResult", "NonUniqueResult", "OutOfMemory", "StoreFault", "TransactionRequired", "BadLine");
 
     private static final Map<String, String> SENTENCES = Map.ofEntries(
-        Map.entry("EntityExists", "an object of this identity is managed or stored already, or the object is detached"),
+        Map.entry("EntityExists", "an object of this identity is managed or stored already, or the object is"
+            + " detached: merge it, or take another key"),
         Map.entry("EntityNotFound", "there is no row of this identity"),
         Map.entry("OptimisticLock", "another commit changed or removed the row meanwhile; find it again, apply the"
             + " change, commit"),
-        Map.entry("TransactionRequired", "no transaction is active"),
+        Map.entry("TransactionRequired", "no transaction is active: begin one"),
         Map.entry("NoResult", "the query found nothing"),
         Map.entry("NonUniqueResult", "the query found more than one row"),
         Map.entry("Overflow", "a whole number left 64 bits"),
@@ -51,10 +52,11 @@ public final class Refusals {
         Map.entry("IllegalState(statement)", "an UPDATE or DELETE is executed, a SELECT is asked"),
         Map.entry("Persistence(key)", "part of the key is null, or a generated key was set"),
         Map.entry("Persistence(generator)", "no number is left for a key"),
-        Map.entry("Persistence(version)", "the entity has no version, or it can't rise"),
-        Map.entry("Persistence(null)", "a required attribute or relation is null"),
+        Map.entry("Persistence(version)", "the entity has no version, which @Version on a number gives it, or it can't rise"),
+        Map.entry("Persistence(null)", "a required attribute or relation is null: set it, or declare that it may be"),
         Map.entry("Persistence(reference)", "a stored relation would lead to an entity that isn't stored"),
-        Map.entry("Persistence(unique)", "two entities would have one and the same one-to-one target"),
+        Map.entry("Persistence(unique)", "two entities would have one and the same one-to-one target: take it from one"
+            + " of them, or map it as many-to-one"),
         Map.entry("Persistence(converter)", "a converter refused a value"));
 
     private Refusals() {}

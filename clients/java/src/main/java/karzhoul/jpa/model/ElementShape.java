@@ -131,8 +131,8 @@ final class ElementShape {
 
     private ElementRow row(Object at, Object element) {
         if (at == null || element == null && constructor != null) {
-            throw new UnkeptElements(path + (at == null ? " has a key that is null"
-                    : " has a member that is null, and these are embeddables"), null);
+            throw new UnkeptElements(path, at == null ? " has a key that is null"
+                    : " has a member that is null, and these are embeddables", null);
         }
         ElementRow row = (ElementRow) rows.newInstance();
         try {
@@ -167,7 +167,7 @@ final class ElementShape {
     }
 
     private UnkeptElements unkept(RuntimeException wrong) {
-        return new UnkeptElements(path + " can't be stored: " + wrong.getMessage(), wrong);
+        return new UnkeptElements(path, " can't be stored: " + wrong.getMessage(), wrong);
     }
 
     private static Object comparable(Object column) {

@@ -1,7 +1,7 @@
 package karzhoul.jpa.model;
 
 /** What the program keeps of texts and bytes, and refuses beyond. */
-final class Limits {
+public final class Limits {
     /** The most bytes of a text, as UTF-8, or of bytes. */
     static final int LONGEST = 65_535;
 
@@ -12,7 +12,7 @@ final class Limits {
      *
      * @throws IllegalArgumentException where it is too long, or has half a surrogate pair
      */
-    static String text(String text) {
+    public static String text(String text) {
         int bytes = 0;
         for (int i = 0; i < text.length(); i++) {
             char at = text.charAt(i);

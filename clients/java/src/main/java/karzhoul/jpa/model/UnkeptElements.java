@@ -6,7 +6,17 @@ import jakarta.persistence.PersistenceException;
 public final class UnkeptElements extends PersistenceException {
     private static final long serialVersionUID = 1;
 
-    UnkeptElements(String message, Throwable why) {
-        super(message, why);
+    private final String path;
+    private final String reason;
+
+    UnkeptElements(String path, String reason, Throwable why) {
+        super(path + reason, why);
+        this.path = path;
+        this.reason = reason;
+    }
+
+    /** The same, with the owner of the collection. */
+    public UnkeptElements of(Object owner) {
+        return new UnkeptElements(owner + path.substring(path.indexOf('.')), reason, getCause());
     }
 }

@@ -9,6 +9,7 @@ import java.util.IdentityHashMap;
 import java.util.List;
 import java.util.Map;
 import karzhoul.jpa.model.Codec;
+import karzhoul.jpa.model.Limits;
 import karzhoul.jpa.query.Tree.Asked;
 import karzhoul.jpa.query.Tree.Literal;
 import karzhoul.jpa.query.Tree.Now;
@@ -164,6 +165,15 @@ final class Binding {
             throw e;
         } catch (RuntimeException e) {
             throw new PersistenceException(told(source) + ": " + e.getMessage(), e);
+        }
+    }
+
+    /** A text that stands beside no attribute, as the program has it. */
+    static String text(Value source, Object value) {
+        try {
+            return Limits.text(value.toString());
+        } catch (IllegalArgumentException e) {
+            throw new IllegalArgumentException(told(source) + ": " + e.getMessage(), e);
         }
     }
 

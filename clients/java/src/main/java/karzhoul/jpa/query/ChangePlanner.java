@@ -221,7 +221,7 @@ final class ChangePlanner {
         boolean isSameType = value instanceof Reference of && of.attribute().codec().javaType() == java;
         if (most != Long.MAX_VALUE && !isSameType) {
             checks.add(new Check(new Text().add(written.within(0)).add(" > " + most + " OR ").add(written.within(0))
-                    .add(" < -" + (most + 1)), "a number beyond its Java type"));
+                    .add(" < -" + (most + 1)), "a number beyond " + java.getSimpleName() + ", the type of " + named(path)));
         }
         Width width = path.attribute().width();
         boolean isSame = value instanceof Reference of && of.attribute() == path.attribute();

@@ -257,7 +257,7 @@ final class ConditionWriter {
         } else if (unit instanceof Unit.Kept kept) {
             return binding.kept(kept.codec(), source, one);
         } else if (one instanceof String || one instanceof Character) {
-            return one.toString();
+            return Binding.text(source, one);
         }
         throw new IllegalArgumentException("the parameter " + source + ": a text is expected, and " + one + " is of "
                 + one.getClass().getName());

@@ -86,7 +86,7 @@ final class StatementQuery<X> implements TypedQuery<X> {
         List<Object[]> keys;
         try {
             keys = rows(keyed, max);
-        } catch (PersistenceException e) {
+        } catch (PersistenceException | IllegalArgumentException e) {
             throw marked(e);
         }
         PagedRows rows = new PagedRows(asking, plan.items(), keys, page -> {
@@ -115,7 +115,7 @@ final class StatementQuery<X> implements TypedQuery<X> {
             List<X> results = new ArrayList<>();
             finished(plan, rows(plan, most)).forEach(row -> results.add(shaped(row)));
             return results;
-        } catch (PersistenceException e) {
+        } catch (PersistenceException | IllegalArgumentException e) {
             throw marked(e);
         }
     }
@@ -150,7 +150,7 @@ final class StatementQuery<X> implements TypedQuery<X> {
     }
 
     /** What is raised for a refusal; a statement that took too long leaves its transaction as it is (chapter 3.11). */
-    private PersistenceException marked(PersistenceException refusal) {
+    private RuntimeException marked(RuntimeException refusal) {
         return refusal instanceof QueryTimeoutException ? refusal : asking.marked(refusal);
     }
 
@@ -189,7 +189,7 @@ final class StatementQuery<X> implements TypedQuery<X> {
         asking.flushBefore(getFlushMode());
         try {
             return plan.done(binding());
-        } catch (PersistenceException e) {
+        } catch (PersistenceException | IllegalArgumentException e) {
             throw marked(e);
         }
     }
@@ -249,6 +249,9 @@ final class StatementQuery<X> implements TypedQuery<X> {
     @Override
     public TypedQuery<X> setLockMode(LockModeType mode) {
         needSelect();
+        if (mode == null) {
+            throw new IllegalArgumentException("the lock mode is null; NONE is no lock: " + text());
+        }
         lockMode = mode;
         return this;
     }

@@ -396,7 +396,7 @@ final class ValueWriter {
                     : binding.exact(source, value, whole.scale(), isDecimal);
         }
         if (value instanceof String || value instanceof Character) {
-            return value.toString();
+            return Binding.text(source, value);
         }
         throw new IllegalArgumentException("a text is expected, and " + value + " is of " + value.getClass().getName());
     }
