@@ -57,6 +57,20 @@ final class Carry {
         List<Shown> shown = show(refs);
         identities.forgetNumbers();
         number(refs);
+        compare(refs, shown);
+        fresh.forEach(this::makeAnew);
+        repeat();
+        return stored.size() + fresh.size();
+    }
+
+    /** The same of what the manager has read anew, though its instances have what they had before. */
+    void overFailedRefresh(List<Entry> entries) {
+        stored.addAll(entries);
+        List<Object> refs = find();
+        compare(refs, show(refs));
+    }
+
+    private void compare(List<Object> refs, List<Shown> shown) {
         List<Read> reads = new ArrayList<>();
         int place = 0;
         for (int i = 0; i < refs.size(); i++) {
@@ -65,9 +79,6 @@ final class Carry {
             }
         }
         read(reads);
-        fresh.forEach(this::makeAnew);
-        repeat();
-        return stored.size() + fresh.size();
     }
 
     /** What relations lead to, and the context let go, has no number in the new run. */

@@ -109,6 +109,10 @@ final class Entry {
         isHollow = is;
     }
 
+    Blank blank() {
+        return blank;
+    }
+
     /** What it has in its fields while it is hollow; null where what is written to them isn't looked for. */
     void blank(Blank made) {
         blank = made;
@@ -194,6 +198,20 @@ final class Entry {
     /** The row, as far as is known here. */
     Row row() {
         return new Row(rowValues(), rowRelations());
+    }
+
+    /** What the program was told, and the row where that is another, to be put back. */
+    record Told(Object[] values, Object[] relations, Object[] cleanValues, Object[] cleanRelations) {}
+
+    Told told() {
+        return new Told(values.clone(), relations.clone(), cleanValues, cleanRelations);
+    }
+
+    void told(Told before) {
+        System.arraycopy(before.values, 0, values, 0, values.length);
+        System.arraycopy(before.relations, 0, relations, 0, relations.length);
+        cleanValues = before.cleanValues;
+        cleanRelations = before.cleanRelations;
     }
 
     /** The row before it is written, also where a lock alone does that. */

@@ -161,10 +161,21 @@ final class Fill {
         }
     }
 
-    /** Reads the values of a proxy, and nothing that was written to its fields stays. */
+    /** Reads the values of a proxy, and nothing that was written to its fields stays, unless that fails. */
     void anew(Entry proxy) {
+        Blank blank = proxy.blank();
+        Written over = proxy.written();
         proxy.blank(null);
-        proxy(proxy);
+        try {
+            proxy(proxy);
+        } catch (RuntimeException | Error e) {
+            if (proxy.isHollow() && proxy.blank() == null) {
+                proxy.blank(blank);
+            } else if (proxy.isHollow() && over != null) {
+                writeAgain(proxy, over);
+            }
+            throw e;
+        }
     }
 
     /** Reads these objects again, whose values the program has read anew or changed. */

@@ -172,6 +172,7 @@ final class Operations {
         if (context.isTouched()) {
             new ToldElements(context).takeBack(entry);
         }
+        readLinks(entry);
         int from = queue.count();
         queue.refresh(context.manager(), entry.number()).about(entry);
         context.touched(true);
@@ -183,7 +184,25 @@ final class Operations {
                 read.add(known);
             }
         }
-        new Fill(context).again(read);
+        Refreshed before = new Refreshed(read);
+        try {
+            new Fill(context).again(read);
+        } catch (RuntimeException | Error e) {
+            before.takeBack(context, e);
+            throw e;
+        }
+    }
+
+    /** The program goes on along links that it has read, and the door has read some by their keys alone. */
+    private void readLinks(Entry root) {
+        Predicate<Relation> cascades = relation -> relation.cascades().contains(CascadeType.REFRESH);
+        for (Entry entry : new Graph(context).entries(root, cascades)) {
+            for (Relation relation : entry.isManaged() && !entry.isHollow() ? entry.model().relations() : List.<Relation>of()) {
+                if (cascades.test(relation) && !relation.isMany() && entry.relations[relation.place()] != null) {
+                    queue.get(entry.number(), relation.member()).about(entry + "." + relation.path());
+                }
+            }
+        }
     }
 
     private Entry managed(Object instance, String done) {

@@ -160,7 +160,7 @@ class ElementsTest {
         commit(other -> other.persist(page));
         assertEquals(Arrays.asList("a", null, null), read(it -> new ArrayList<>(it.words)));
         PersistenceException refused = assertThrows(PersistenceException.class, () -> change(it -> it.spots.add(null)));
-        assertTrue(told(refused).contains("Page.spots has a member that is null"), told(refused));
+        assertTrue(told(refused).contains("Page 1.spots has a member that is null"), told(refused));
         refused = assertThrows(PersistenceException.class, () -> change(it -> it.marks.add(null)));
         assertTrue(told(refused).contains("required"), told(refused));
         refused = assertThrows(PersistenceException.class,

@@ -117,7 +117,7 @@ class RoomTest extends Tried {
         assertEquals("Ledger ada.count can't be stored: 1000 can't be kept: it has 4 digits as it is kept, and"
             + " @Column(precision = 3, scale = 0) has room for 3; declare a greater precision",
             refused(() -> ada().count = BigInteger.valueOf(1000)));
-        assertEquals("Ledger.parts can't be stored: 100 can't be kept: it has 5 digits as it is kept, and"
+        assertEquals("Ledger ada.parts can't be stored: 100 can't be kept: it has 5 digits as it is kept, and"
             + " @Column(precision = 4, scale = 2) has room for 4; declare a greater precision",
             refused(() -> ada().parts.add(new BigDecimal("100"))));
         commit(() -> ada().parts.add(new BigDecimal("99.99")));
