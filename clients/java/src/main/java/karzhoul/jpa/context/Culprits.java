@@ -38,6 +38,8 @@ final class Culprits {
     private final Set<Entry> made = Collections.newSetFromMap(new IdentityHashMap<>());
     private final List<Entry> entries;
     private final List<Entry> removed;
+    /** What left relations that remove orphans, and which the refused flush was to remove. */
+    private final List<Entry> orphans;
     private final Optional<String> unstored;
     private final WrongMembers members;
     private final List<UniqueValues.Taken> taken;
@@ -47,6 +49,7 @@ final class Culprits {
         written = new IdentityHashMap<>(context.written());
         entries = context.identities().numbered();
         removed = entries.stream().filter(entry -> entry.state() == Entry.State.REMOVED).toList();
+        orphans = List.copyOf(context.takenOut());
         unstored = BrokenLinks.toUnstored(entries);
         members = new WrongMembers(entries);
         taken = context.uniques().taken();
@@ -106,6 +109,7 @@ final class Culprits {
         BrokenLinks links = new BrokenLinks(probe, entries, removed);
         return isOf(refusal, "Persistence(null)") ? suspects.stream().map(Culprits::missing).flatMap(Optional::stream).findFirst()
             : isOf(refusal, "Persistence(reference)") ? links.toNoRow(suspects, this::isWithoutRow)
+                .or(() -> new BrokenLinks(probe, entries, orphans).toNoRow(List.of(), this::isWithoutRow))
             : isOf(refusal, "Persistence(unique):") ? links.toShared(suspects) : Optional.empty();
     }
 

@@ -253,10 +253,10 @@ class CallbacksFirstTest {
     void anElement() {
         commit(() -> stored().words.addAll(List.of("a", LONG)));
         assertEquals(List.of("a"), stored().words);
-        assertEquals("Bill.words can't be stored", refused(() -> {
+        assertEquals("Bill 1.words can't be stored", refused(() -> {
             Bill bill = stored();
             bill.words.add(LONG + "y");
-        }).substring(0, 26));
+        }).substring(0, 28));
     }
 
     @Test

@@ -165,7 +165,7 @@ class ElementsTest {
         assertTrue(told(refused).contains("required"), told(refused));
         refused = assertThrows(PersistenceException.class,
             () -> change(it -> it.prices.add(new BigDecimal("0.0001"))));
-        assertTrue(told(refused).contains("Page.prices can't be stored"), told(refused));
+        assertTrue(told(refused).contains("Page 1.prices can't be stored"), told(refused));
         assertEquals(3, rows());
     }
 

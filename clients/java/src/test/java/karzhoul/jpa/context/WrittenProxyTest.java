@@ -657,7 +657,7 @@ class WrittenProxyTest {
             person.homes.add(new Home("2.999"));
             person.getName();
         });
-        assertEquals("Person.homes can't be stored", cause.getMessage().substring(0, 28));
+        assertEquals("Person 1.homes can't be stored", cause.getMessage().substring(0, 30));
         assertEquals("written", person.name);
     }
 

@@ -58,10 +58,11 @@ class WrongUsesTest {
         Mood mood;
         @Embedded Town home = new Town();
         @ManyToOne Author mentor;
+        @ManyToOne Book favourite;
         @OneToOne Prize best;
         @ManyToMany List<Prize> prizes = new ArrayList<>();
         @ManyToMany(cascade = CascadeType.PERSIST) List<Prize> won = new ArrayList<>();
-        @OneToMany(mappedBy = "author", cascade = CascadeType.ALL) List<Book> books = new ArrayList<>();
+        @OneToMany(mappedBy = "author", cascade = CascadeType.ALL, orphanRemoval = true) List<Book> books = new ArrayList<>();
         @ElementCollection List<Town> towns = new ArrayList<>();
         @ElementCollection Map<String, String> notes = new HashMap<>();
 
@@ -139,7 +140,7 @@ class WrongUsesTest {
             ada.books.add(new Book(1, ada));
             manager.persist(ada.best);
             manager.persist(ada);
-            manager.persist(new Author("bob"));
+            manager.persist(with(new Author("bob"), bob -> bob.favourite = ada.books.get(0)));
         });
     }
 
@@ -257,6 +258,8 @@ class WrongUsesTest {
             }),
             use("what a row leads to is removed", PersistenceException.class, "Persistence(reference), Author ada.best, which leads to the"
                 + " removed Prize 1: ", it -> it.remove(it.find(Prize.class, 1L))),
+            use("what a row leads to is an orphan", PersistenceException.class, "Persistence(reference), Author bob.favourite, which leads to the"
+                + " removed Book [ch, 1]: ", it -> ada(it).books.clear()),
             use("one whose row is gone", state, "IllegalState(reference), Author ada.prizes, which leads to Prize 99, which has no row" + unstored, it -> {
                 Prize gone = new Prize(ada(it));
                 gone.id = 99L;
