@@ -71,6 +71,8 @@ class Entity:
     _karzhoul_foresight: ClassVar[Foresight]
     # The attribute that is the key, and the members that are its parts.
     _karzhoul_key: ClassVar[Tuple[str, Sequence[str]]]
+    # The attribute that is the version, where there is one.
+    _karzhoul_version: ClassVar[str] = ""
 
     _karzhoul_is_typed: ClassVar[bool] = False
     # Of a class that declares an entity: its name of before, what it dropped, whether it is
@@ -452,9 +454,11 @@ class Attribute(property):
         number = entity._karzhoul_number
         try:
             given = entity._karzhoul_run.given(value)
-            return f'{{"call":"set","object":{number}{self.between}{given}}}'.encode()
         except (TypeError, ValueError, OverflowError) as fault:
             raise misfit(fault, f"{type(entity).__name__}.{self.name}", value) from None
+        if self.name == entity._karzhoul_version:
+            entity._karzhoul_run.versions.give(entity, value)
+        return f'{{"call":"set","object":{number}{self.between}{given}}}'.encode()
 
 
 def _reader(place: int) -> Callable[[Entity], Any]:
@@ -502,6 +506,8 @@ def _make_class(
         )
         if base is Entity:
             own["_karzhoul_key"] = _key(entity)
+        if "version" in entity:
+            own["_karzhoul_version"] = entity["version"]["name"]
         kind: Any = type
         bases: Tuple[type, ...] = (base,)
         if binding is not None:
