@@ -17,7 +17,7 @@ from ..classes.fields import (
 )
 from ..wire.lines import LifecycleEvent, line_of, text_spelled
 from .foresight import Foresight
-from .misfits import misfit, unknown
+from .misfits import misfit, no_member, unknown
 
 if TYPE_CHECKING:
     from ..classes.binding import Binding
@@ -324,7 +324,14 @@ class Collection(MutableSequence[E]):
             and given._name == self._name
         ):
             return
-        members, held = list(given), self._members()
+        is_list = isinstance(given, Iterable) and not isinstance(given, (str, bytes, Mapping))
+        if not is_list:
+            raise no_member(self._entity, self._name, given, is_list=True)
+        members = list(given)
+        for member in members:  # Before any is added.
+            if not isinstance(member, Entity):
+                raise no_member(self._entity, self._name, member)
+        held = self._members()
         self.extend(members)
         for member in held:
             self.remove(member)

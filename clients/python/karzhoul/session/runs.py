@@ -10,7 +10,7 @@ from ..objects.concern import Noted
 from ..objects.entities import Entity
 from ..objects.identity import IdentityMap
 from ..objects.kinds import Classes
-from ..objects.misfits import misfit
+from ..objects.misfits import misfit, no_member
 from ..objects.shown import VALUES
 from ..objects.versions import Versions
 from ..refusals import Restarted
@@ -149,5 +149,7 @@ class Run:
 
     def member_line(self, call: str, entity: Entity, name: str, member: Entity) -> bytes:
         """The line that adds a member to a collection, or takes it out."""
+        if not isinstance(member, Entity):
+            raise no_member(entity, name, member)
         number, word, other = self.number(entity), text_spelled(name), self.number(member)
         return f'{{"call":"{call}","object":{number},"name":{word},"member":{other}}}'.encode()
