@@ -186,6 +186,10 @@ class EntityManager(Queries, AbstractContextManager["EntityManager"]):
                 if not self._goes_on(run):
                     raise
                 continue
+            except ProgramEnded:
+                if not keeps:  # What it loaded is gone, and nobody has it.
+                    self._holds_as_before(held, holding)
+                raise
             except (Refused, TypeError, ValueError):
                 # One that a handler of a signal raised may leave the call under way.
                 is_over = not keeps and not self.factory.is_asked(run, before.manager)

@@ -40,6 +40,19 @@ class _Served(ManagerTest):
             return karzhoul.connect(f"unix:{path}")
 
 
+class Handed(unittest.TestCase):
+    def test_connect_refuses_what_open_refuses_and_as_that_does(self) -> None:
+        for wait in (-1, float("nan"), float("inf"), "5", True):
+            for opened in (lambda: karzhoul.open(PERSONS, wait=wait), lambda: karzhoul.connect("unix:/nowhere", wait=wait)):
+                with self.subTest(wait=wait), self.assertRaises(ValueError) as raised:
+                    opened()
+                words = f"wait={wait!r} is no number of seconds from 0 on; wait=None waits without an end"
+                self.assertEqual(str(raised.exception), words)
+        for opened in (lambda: karzhoul.open(PERSONS, lock="l.json"), lambda: karzhoul.connect("unix:/nowhere", lock="l.json")):
+            with self.assertRaisesRegex(TypeError, "^lock= is the file of the numbers of classes, and a mapping has its own$"):
+                opened()
+
+
 @needs_program
 class Together(FolderTest):
     """Several factories over one server, each of them of several threads."""
