@@ -3,7 +3,7 @@
 from __future__ import annotations
 
 import unittest
-from typing import Any, List
+from typing import Any, Callable, List
 
 import karzhoul
 from karzhoul import Entity, generated, key, many_to_one, one_to_many, version
@@ -39,7 +39,8 @@ class OfClasses(unittest.TestCase):
     def test_what_would_be_dropped_is_refused(self) -> None:
         with self.app.begin() as manager:
             words = r"^Wagon\.count is 5, and the store counts the versions of new objects itself, from 0 on"
-            for persist in (manager.persist, lambda it: manager.persist_all([it])):
+            ways: List[Callable[[Wagon], None]] = [manager.persist, lambda it: manager.persist_all([it])]
+            for persist in ways:
                 wagon = Wagon(count=5)
                 with self.assertRaisesRegex(WrongValue, words):
                     persist(wagon)

@@ -72,7 +72,10 @@ class GoesOn(test_runs.RunsTest):
         first = self.app.create_entity_manager()
         os.kill(self.app.program.pid, signal.SIGKILL)
         self.app.program._process.wait()
-        for call in (lambda: first.find("Person", 1), lambda: first.query("SELECT p FROM Person p"), lambda: first.contains(self.Person(name="Eve"))):
+        calls: List[Callable[[], Any]] = [
+            lambda: first.find("Person", 1), lambda: first.query("SELECT p FROM Person p"), lambda: first.contains(self.Person(name="Eve")),
+        ]
+        for call in calls:
             with self.assertRaises(karzhoul.ProgramEnded):
                 call()
         self.app.reopen()
