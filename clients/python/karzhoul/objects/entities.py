@@ -461,11 +461,12 @@ class Attribute(property):
         number = entity._karzhoul_number
         try:
             given = entity._karzhoul_run.given(value)
+            line = f'{{"call":"set","object":{number}{self.between}{given}}}'.encode()
         except (TypeError, ValueError, OverflowError) as fault:
             raise misfit(fault, f"{type(entity).__name__}.{self.name}", value) from None
         if self.name == entity._karzhoul_version:
             entity._karzhoul_run.versions.give(entity, value)
-        return f'{{"call":"set","object":{number}{self.between}{given}}}'.encode()
+        return line
 
 
 def _reader(place: int) -> Callable[[Entity], Any]:

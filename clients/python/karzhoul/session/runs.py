@@ -141,11 +141,12 @@ class Run:
         number, word = self.number(entity), text_spelled(name)
         try:
             given = self.given(value)
+            line = f'{{"call":"set","object":{number},"name":{word},"value":{given}}}'.encode()
         except (TypeError, ValueError, OverflowError) as fault:
             raise misfit(fault, f"{type(entity).__name__}.{name}", value) from None
         if name == entity._karzhoul_version:
             self.versions.give(entity, value)
-        return f'{{"call":"set","object":{number},"name":{word},"value":{given}}}'.encode()
+        return line
 
     def member_line(self, call: str, entity: Entity, name: str, member: Entity) -> bytes:
         """The line that adds a member to a collection, or takes it out."""
