@@ -210,7 +210,8 @@ def _fill(
         where += f" AND ({' OR '.join(others)})"
     count = manager.one(f"SELECT COUNT(e) FROM {entity.name} e {where}")
     if count and member.type is not None and member.field.has_default:
-        LOGGER.info("%s.%s: %s objects get its default", entity.name, member.said, f"{count:,}")
+        told = f"{entity.name}.{member.said}"
+        LOGGER.info("%s: %s objects get its default", told, f"{count:,}", extra={"objects": count})
         _give_default(app, manager, entity, member, where)
         return True
     if count:
@@ -248,7 +249,8 @@ def _set_each(manager: Any, what: str, name: str, values: Sequence[Tuple[Any, An
     for start in range(0, len(values), _AT_ONCE):
         part = values[start : start + _AT_ONCE]
         app.tell_all(run, [run.set_line(each, name, value) for each, value in part])
-        LOGGER.info("%s: %s of %s objects", what, f"{start + len(part):,}", f"{len(values):,}")
+        done, total = f"{start + len(part):,}", f"{len(values):,}"
+        LOGGER.info("%s: %s of %s objects", what, done, total, extra={"objects": len(values)})
     manager.flush()
     manager.clear()  # Else they wouldn't see what an UPDATE gives them.
 

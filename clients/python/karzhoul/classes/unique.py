@@ -468,7 +468,8 @@ def make_keys(app: Any, uniques: Uniques, constraint: Constraint) -> None:
             moved = keeper.keys(constraint, objects)
             keeper.link(constraint, moved, keeper.found(moved))
         total += count
-        LOGGER.info("%s is unique: %s objects have got their keys", what, f"{total:,}")
+        told = "%s is unique: %s objects have got their keys"
+        LOGGER.info(told, what, f"{total:,}", extra={"objects": total})
 
 
 def sweep(app: Any, uniques: Uniques) -> None:

@@ -8,11 +8,16 @@ from typing import Iterator
 
 from ..wire.tally import LOGGER
 
+# Of fewer objects nothing is told, which takes no time.
+_MANY = 1_000
+
 
 @contextmanager
 def telling() -> Iterator[None]:
-    """Within it each message of the client's logger is a line on standard error."""
+    """Within it each message of the client's logger about many objects is a line on standard error.
+    """
     handler, level = logging.StreamHandler(), LOGGER.level
+    handler.addFilter(lambda record: getattr(record, "objects", 0) >= _MANY)
     handler.setFormatter(logging.Formatter("karzhoul: %(message)s"))
     try:
         LOGGER.addHandler(handler)

@@ -108,8 +108,10 @@ class Telling(ClassesTest):
         said, logger = io.StringIO(), logging.getLogger("karzhoul")
         before = logger.level, list(logger.handlers)
         with contextlib.redirect_stderr(said), telling():
-            logger.info("Ticket.price: %s of %s objects", 1, 2)
+            logger.info("Ticket.price: %s of %s objects", "1,000", "2,000", extra={"objects": 2_000})
+            logger.info("Ticket.price: %s of %s objects", 999, 999, extra={"objects": 999})
+            logger.info("of nobody knows how many")
             logger.debug("a line")
         logger.info("no more")
-        self.assertEqual(said.getvalue(), "karzhoul: Ticket.price: 1 of 2 objects\n")
+        self.assertEqual(said.getvalue(), "karzhoul: Ticket.price: 1,000 of 2,000 objects\n")
         self.assertEqual((logger.level, list(logger.handlers)), before)
