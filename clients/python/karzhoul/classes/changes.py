@@ -10,10 +10,11 @@ from dataclasses import replace
 from pathlib import Path
 from types import ModuleType
 from typing import TYPE_CHECKING, Any, Callable, Dict, Iterable, Iterator, List, Mapping
-from typing import NamedTuple, Optional, Set, Tuple, Union
+from typing import NamedTuple, Optional, Sequence, Set, Tuple, Union
 
 from ..told import shown
 from ..refusals import Damaged, KarzhoulError, Refused
+from ..wire.tally import LOGGER
 from . import lock as locks
 from .binding import Binding
 from .declared import Declared, Given, Member, Model, declared_by
@@ -29,6 +30,8 @@ if TYPE_CHECKING:
 Start = Callable[[Mapping[str, Any], Optional[Binding]], "EntityManagerFactory"]
 _FORMS_OF = f"SELECT f.at, f.form FROM {FORMS} f"
 _TOLD = 3
+# So many values are divided by an UPDATE each, and so many objects are set at once.
+_FEW, _AT_ONCE = 100, 5_000
 
 
 class NotBroughtOver(KarzhoulError, ValueError):
@@ -207,6 +210,8 @@ def _fill(
         where += f" AND ({' OR '.join(others)})"
     count = manager.one(f"SELECT COUNT(e) FROM {entity.name} e {where}")
     if count and member.type is not None and member.field.has_default:
+        told = f"{entity.name}.{member.said}"
+        LOGGER.info("%s: %s objects get its default", told, f"{count:,}", extra={"objects": count})
         _give_default(app, manager, entity, member, where)
         return True
     if count:
@@ -233,8 +238,19 @@ def _give_default(
             value=member.type.to_stored(member.default),
         )
         return
-    for each in manager.query(f"SELECT e FROM {entity.name} e {where}"):
-        app.set(each, member.name, member.type.to_stored(member.field.fresh()))
+    objects = manager.query(f"SELECT e FROM {entity.name} e {where}")
+    fresh = ((each, member.type.to_stored(member.field.fresh())) for each in objects)
+    _set_each(manager, f"{entity.name}.{member.said}", member.name, list(fresh))
+
+
+def _set_each(manager: Any, what: str, name: str, values: Sequence[Tuple[Any, Any]]) -> None:
+    """Sets a column of each of many objects, and says how many have it."""
+    app, run = manager.factory, manager._run
+    for start in range(0, len(values), _AT_ONCE):
+        part = values[start : start + _AT_ONCE]
+        app.tell_all(run, [run.set_line(each, name, value) for each, value in part])
+        done, total = f"{start + len(part):,}", f"{len(values):,}"
+        LOGGER.info("%s: %s of %s objects", what, done, total, extra={"objects": len(values)})
     manager.flush()
     manager.clear()  # Else they wouldn't see what an UPDATE gives them.
 
@@ -301,6 +317,8 @@ class _Column(NamedTuple):
     name: str
     form: str
     type: Optional[StoredType] = None
+    was: str = ""
+    """What it was called, where its class has it no more."""
 
 
 _DROPPED = "dropped"
@@ -316,7 +334,9 @@ def _columns(made: Made) -> Iterator[_Column]:
             yield _Column(_at(table, stored), entity, name, form, kind)
         for each in record.get("gone", ()):
             if each.get("cleared"):
-                yield _Column(_at(table, each), entity, gone_name(each), _DROPPED)
+                yield _Column(
+                    _at(table, each), entity, gone_name(each), _DROPPED, was=str(each["name"])
+                )
 
 
 def _at(table: int, stored: locks.Record) -> str:
@@ -335,6 +355,9 @@ def _bring_forms(
         if before == form:
             continue
         try:
+            if before not in (None, _DROPPED):
+                told = f"{column.entity.name}.{column.was or column.name}"
+                LOGGER.info("%s: what is stored as %s becomes %s", told, before, form)
             if form == _DROPPED:
                 _let_go(app, manager, column)
             elif before not in (None, _DROPPED):
@@ -374,9 +397,11 @@ def _let_go(app: EntityManagerFactory, manager: EntityManager, column: _Column) 
     if "." in column.at:
         manager.execute_update(f"UPDATE {name} e SET {path} = NULL")
         return
-    for each in manager.query(f"SELECT e FROM {name} e WHERE {path} IS NOT EMPTY"):
-        for member in app.get(each, column.name):
-            app.take_out(each, column.name, member)
+    objects, run = manager.query(f"SELECT e FROM {name} e WHERE {path} IS NOT EMPTY"), manager._run
+    app.ask_lines(run, [
+        run.member_line("takeOut", each, column.name, member)
+        for each, members in zip(objects, app.get_many(objects, column.name)) for member in members
+    ])
     manager.flush()
     manager.clear()  # A later change of one would write all that it has been read with.
 
@@ -430,16 +455,37 @@ def _divide(manager: Any, column: _Column, by: int) -> None:
     name, path = column.entity.name, f"e.{column.name}"
     conversions, manager.factory.conversions = manager.factory.conversions, None
     try:
-        values = manager.query(f"SELECT DISTINCT {path} FROM {name} e WHERE {path} IS NOT NULL")
+        has = f"{path} IS NOT NULL AND {path} <> 0"
+        values = manager.query(f"SELECT DISTINCT {path} FROM {name} e WHERE {has}", max=_FEW + 1)
+        if len(values) > _FEW:
+            _divide_each(manager, column, by, f"WHERE {has}")
+            return
         # A result may be a value that is still to be divided: those nearest to 0 come first.
         for value in sorted(values, key=abs):
-            if value:
-                manager.execute_update(
-                    f"UPDATE {name} e SET {path} = :new WHERE {path} = :old", old=value,
-                    new=abs(value) // by * (1 if value > 0 else -1),
-                )
+            manager.execute_update(
+                f"UPDATE {name} e SET {path} = :new WHERE {path} = :old", old=value,
+                new=_quotient(value, by),
+            )
     finally:
         manager.factory.conversions = conversions
+
+
+def _divide_each(manager: Any, column: _Column, by: int, where: str) -> None:
+    """The same of each object by itself, where an UPDATE for each value would look at all of them
+    too often; their versions stay, as an UPDATE leaves them."""
+    entity = column.entity
+    found = manager.query(f"SELECT e, e.{column.name} FROM {entity.name} e {where}")
+    values = [(each, _quotient(value, by)) for each, value in found]
+    _set_each(manager, f"{entity.name}.{column.name}", column.name, values)
+    version = manager.factory._classes[entity.name]._karzhoul_version
+    if version:
+        manager.execute_update(
+            f"UPDATE {entity.name} e SET e.{version} = e.{version} - 1 {where}"
+        )
+
+
+def _quotient(value: int, by: int) -> int:
+    return abs(value) // by * (1 if value > 0 else -1)
 
 
 def may_become(before: str, form: str) -> bool:

@@ -21,6 +21,7 @@ from ..objects.concern import Noted
 from ..objects.entities import Entity
 from ..jpql.statements import Bulk, read, tokens_of
 from ..wire.lines import line_of, text_spelled
+from ..wire.tally import LOGGER
 from ..told import shown
 from ..refusals import KarzhoulError, NotUnique, OptimisticLock, Refused, Rollback
 from .checks import chain, member_of
@@ -455,7 +456,8 @@ def linked(constraint: Constraint) -> str:
 
 def make_keys(app: Any, uniques: Uniques, constraint: Constraint) -> None:
     """Gives the objects of a store that have none the keys of their values, some at a time."""
-    text, count = keyless(constraint), _AT_ONCE
+    text, count, total = keyless(constraint), _AT_ONCE, 0
+    what = f"{constraint.entity}.{', '.join(constraint.names)}"
     while count == _AT_ONCE:
         if app._run.made > _DUE:
             app.restart()
@@ -465,6 +467,9 @@ def make_keys(app: Any, uniques: Uniques, constraint: Constraint) -> None:
             keeper = Keeper(manager, uniques)
             moved = keeper.keys(constraint, objects)
             keeper.link(constraint, moved, keeper.found(moved))
+        total += count
+        told = "%s is unique: %s objects have got their keys"
+        LOGGER.info(told, what, f"{total:,}", extra={"objects": total})
 
 
 def sweep(app: Any, uniques: Uniques) -> None:

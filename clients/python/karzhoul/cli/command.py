@@ -33,6 +33,7 @@ from ..store import migration
 from ..store.finding import find_program
 from ..store.opening import why_unopened
 from . import beginnings, carrying, selecting
+from .telling import telling
 
 _MIGRATE = """With --from it brings a database over from the mapping or the classes that it was
 written with to those of --mapping: each object is read, stored in a new file beside the old one,
@@ -58,7 +59,8 @@ def main(words: Optional[List[str]] = None) -> int:
     if left:
         said.words += left
     try:
-        status = int(said.run(said))
+        with telling():
+            status = int(said.run(said))
         sys.stdout.flush()
         return status
     except KeyboardInterrupt:

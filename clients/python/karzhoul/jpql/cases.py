@@ -161,7 +161,7 @@ def _test(place: _Place) -> Told:
     token, found = place.token, place.open
     is_test = token.said in COMPARISONS or any(map(token.is_word, _OF_TESTS))
     if found.is_at("WHEN") and token.is_word("THEN") and "a comparison" in place.expected:
-        way = "CASE o.amount WHEN 1 THEN .. compares a value"
+        way = "CASE o.amount WHEN 1 THEN .. compares a value, and o.paid = TRUE a bool of classes"
         return token, f"behind WHEN stands a test, as o.amount > 1, and a value alone is none: {way}"
     if not is_test or not place.is_level:
         return None

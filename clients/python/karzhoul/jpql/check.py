@@ -73,7 +73,7 @@ def check(
             return teller.limit(f"the text has {cases} words CASE, and {most}")
         statement = jpql.statement_of(text, language)
     except jpql.Unreadable as fault:
-        token, message = syntax_told(fault, _readable_tokens(text, fault.token), language)
+        token, message = syntax_told(fault, _readable_tokens(text), language)
         return teller.tell(SYNTAX, token.at, token.end, message)
     if given is not None and _bare_values(teller, statement, given):
         return teller.findings
@@ -86,10 +86,10 @@ def check(
     return teller.findings
 
 
-def _readable_tokens(text: str, until: Token) -> List[Token]:
-    """The tokens before one that can't stand where it does."""
+def _readable_tokens(text: str) -> List[Token]:
+    """The tokens of a text, where it has no others."""
     try:
-        return jpql.tokens_of(text[: until.at])[:-1]
+        return jpql.tokens_of(text)[:-1]
     except jpql.Unreadable:
         return []
 
@@ -660,19 +660,25 @@ class _Typing:
             last = entity.members.get(name.said)
             length += 1
             if last is None:
-                self._unknown(entity, name)
+                self._unknown(entity, name, names)
                 return None
         if scope.in_on and length > 1:
             way = "JOIN that object under a variable of its own"
             self._wrong(path, f"in ON a path has one step at most: {way}")
         return _Way(entity, last, length)
 
-    def _unknown(self, entity: _Entity, name: Token) -> None:
+    def _unknown(self, entity: _Entity, name: Token, rest: Sequence[Token]) -> None:
         if name.said == entity.embedded:
             parts = ", ".join(each for each in entity.members if each.startswith(f"{name.said}."))
             self._wrong(name, f"{name.said} is an embedded id, of which a part is named: {parts}")
-        else:
-            self._no_member(entity, name, "member", list(entity.members))
+            return
+        # Of classes a part of an embedded value is one member.
+        words = [name, *rest]
+        whole = name._replace(said=".".join(each.said for each in words), end=words[-1].end)
+        is_part = any(each.startswith(f"{name.said}__") for each in entity.members) or (
+            not meant(name.said, entity.members) and meant(whole.said, entity.members)
+        )
+        self._no_member(entity, whole if is_part else name, "member", list(entity.members))
 
     def _no_step(self, path: Node, last: Member) -> None:
         if last.kind is MemberKind.COLLECTION:

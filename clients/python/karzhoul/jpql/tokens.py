@@ -80,7 +80,7 @@ def _token(match: "re.Match[str]", before: List[Token]) -> Token:
 
 def _odd(text: str, at: int) -> Token:
     """What stands where no token can be read."""
-    match = re.compile(r"!=|\|\||'[^']*|[:?]\w*|.", re.DOTALL).match(text, at)
+    match = re.compile(r"!=|\|\||&&|'[^']*|[:?]\w*|.", re.DOTALL).match(text, at)
     said = match[0] if match else ""
     return Token("odd", said, at, at + len(said))
 

@@ -38,6 +38,10 @@ _TRUTH = (
     "TRUE and FALSE stand beside a bool attribute of classes alone, as p.paid = TRUE, or what a CASE "
     "gives that is compared with one: else write 1 and 0, or select p.paid itself"
 )
+_SET = (
+    "SET takes members of the object itself, as p.name, and parts of its embedded values: this path "
+    "is neither"
+)
 _ROWS = "values are compared one by one: a.x = 1 AND a.y = 2 in the place of (a.x, a.y) = (1, 2)"
 _PLACES = "hand in first=.. and max=.. beside the text"
 _MAPS = "maps aren't served"
@@ -94,6 +98,12 @@ UNSERVED: Dict[str, str] = {
 }
 _MARKS = {
     "!=": "'<>' is meant",
+    "==": "'=' is meant",
+    "=>": "'>=' is meant",
+    "=<": "'<=' is meant",
+    "&&": "AND is meant",
+    "&": "AND is meant",
+    "!": "NOT is meant",
     "||": "'||' isn't served: CONCAT is",
     '"': "a text stands in single quotes",
     ";": "a statement ends without ';'",
@@ -128,13 +138,12 @@ def syntax_told(
         return token, fault.why
     if token.sort == "odd":
         return token, _MARKS.get(token.said, f"{spelled(token)} stands in no query")
-    earlier = [each for each in tokens if each.end <= token.at]
+    read = [each for each in tokens if each.end <= token.at]
     # (What stands behind a point is a member's name.)
-    earlier = [
-        each for at, each in enumerate(earlier) if at == 0 or not earlier[at - 1].is_mark(".")
-    ][-2:]
+    earlier = [each for at, each in enumerate(read) if not at or not read[at - 1].is_mark(".")][-2:]
     return (
-        _fraction(token, before)
+        _fraction(token, tokens)
+        or _marked(token, before)
         or case_told(fault, tokens, language)
         or nested_told(fault, tokens, language)
         or _unserved([token], language)
@@ -143,9 +152,9 @@ def syntax_told(
         or _unserved(earlier[::-1], language)
         or _sorted_by_value(token, tokens, language)
         or _called(token, before, language)
-        or _misplaced(token, before)
+        or _misplaced(token, before, fault.expected)
         or _misspelt(before, 0.7, fault.expected, language)
-        or (token, _expected(token, before, fault.expected, language))
+        or (token, _expected(token, read, fault.expected, language))
     )
 
 
@@ -204,13 +213,22 @@ def _called(
     return None
 
 
-def _fraction(token: Token, before: Optional[Token]) -> Optional[Tuple[Token, str]]:
+def _fraction(token: Token, tokens: Sequence[Token]) -> Optional[Tuple[Token, str]]:
     """A number that isn't whole."""
-    sides = [each for each in (token, before) if each is not None]
-    has_point = any(each.is_mark(".") for each in sides)
-    if has_point and any(each.sort == "integer" for each in sides):
-        return token, _FRACTIONS
+    for one, other in zip(tokens, tokens[1:]):
+        if token in (one, other) and one.end == other.at and (
+            {one.sort, other.sort} == {"integer", "mark"} and {one.said, other.said} & {"."}
+        ):
+            return token, _FRACTIONS
     return None
+
+
+def _marked(token: Token, before: Optional[Token]) -> Optional[Tuple[Token, str]]:
+    """Two marks that are one in other languages."""
+    if before is None or before.end != token.at or before.said + token.said not in _MARKS:
+        return None
+    said = before.said + token.said
+    return Token("odd", said, before.at, token.end), _MARKS[said]
 
 
 def _no_function(word: str, language: LanguageName) -> str:
@@ -220,10 +238,14 @@ def _no_function(word: str, language: LanguageName) -> str:
     return f"there is no function {word}{meant}"
 
 
-def _misplaced(token: Token, before: Optional[Token]) -> Optional[Tuple[Token, str]]:
+def _misplaced(
+    token: Token, before: Optional[Token], expected: List[str]
+) -> Optional[Tuple[Token, str]]:
     """Words that stand where they may not."""
     if token.is_word("SELECT"):
         return token, _NESTED
+    if token.is_mark(".") and expected == ["'='"]:
+        return token, _SET
     if token.is_word("NULL"):
         return token, "nothing is compared with NULL: IS NULL and IS NOT NULL ask for it"
     if token.is_mark("*") and before is not None:
@@ -249,10 +271,31 @@ def _misspelt(
     return (token, f"did you mean {near[0]}?") if near else None
 
 
+def _alone(read: Sequence[Token], language: LanguageName) -> str:
+    """The member that stands for a test at the end of what was read; nothing where none does."""
+    at, names = len(read), []
+    while at and read[at - 1].is_mark(")"):
+        at -= 1
+    depth = len(read) - at
+    while at and read[at - 1].sort == "word":
+        at -= 1
+        names.append(read[at].said)
+        if not at or not read[at - 1].is_mark("."):
+            break
+        at -= 1
+    opened = read[max(0, at - depth) : at]
+    at -= depth
+    begins = at > 0 and (_is_keyword(read[at - 1], language) or read[at - 1].is_mark("("))
+    is_test = begins and not _is_function(read[at - 1], language)
+    is_alone = is_test and len(names) > 1 and all(each.is_mark("(") for each in opened)
+    return ".".join(reversed(names)) if is_alone else ""
+
+
 def _expected(
-    token: Token, before: Optional[Token], expected: List[str], language: LanguageName
+    token: Token, read: Sequence[Token], expected: List[str], language: LanguageName
 ) -> str:
     """What may stand there."""
+    before = read[-1] if read else None
     if "a variable" in expected and before is not None and before.sort == "word":
         if token.sort == "end" or _is_keyword(token, language):
             shown = f"{before.said} {before.said[0].lower()}"
@@ -264,4 +307,6 @@ def _expected(
     is_name_wanted = any(word in ("a name", "a variable", "a path") for word in words)
     reserved = ", and it is a keyword" if is_name_wanted and _is_keyword(token, language) else ""
     stands = "the text ends" if token.sort == "end" else f"{spelled(token)} stands"
-    return f"{stands} where {listed or 'nothing'} is expected{reserved}"
+    alone = _alone(read, language) if "a comparison" in words else ""
+    way = f": write {alone} = TRUE where it is a bool of classes, else compare it too" if alone else ""
+    return f"{stands} where {listed or 'nothing'} is expected{reserved}{way}"

@@ -17,7 +17,7 @@ from ..classes.fields import (
 )
 from ..wire.lines import LifecycleEvent, line_of, text_spelled
 from .foresight import Foresight
-from .misfits import misfit, unknown
+from .misfits import misfit, no_member, unknown
 
 if TYPE_CHECKING:
     from ..classes.binding import Binding
@@ -71,6 +71,8 @@ class Entity:
     _karzhoul_foresight: ClassVar[Foresight]
     # The attribute that is the key, and the members that are its parts.
     _karzhoul_key: ClassVar[Tuple[str, Sequence[str]]]
+    # The attribute that is the version, where there is one.
+    _karzhoul_version: ClassVar[str] = ""
 
     _karzhoul_is_typed: ClassVar[bool] = False
     # Of a class that declares an entity: its name of before, what it dropped, whether it is
@@ -322,7 +324,14 @@ class Collection(MutableSequence[E]):
             and given._name == self._name
         ):
             return
-        members, held = list(given), self._members()
+        is_list = isinstance(given, Iterable) and not isinstance(given, (str, bytes, Mapping))
+        if not is_list:
+            raise no_member(self._entity, self._name, given, is_list=True)
+        members = list(given)
+        for member in members:  # Before any is added.
+            if not isinstance(member, Entity):
+                raise no_member(self._entity, self._name, member)
+        held = self._members()
         self.extend(members)
         for member in held:
             self.remove(member)
@@ -452,9 +461,12 @@ class Attribute(property):
         number = entity._karzhoul_number
         try:
             given = entity._karzhoul_run.given(value)
-            return f'{{"call":"set","object":{number}{self.between}{given}}}'.encode()
+            line = f'{{"call":"set","object":{number}{self.between}{given}}}'.encode()
         except (TypeError, ValueError, OverflowError) as fault:
             raise misfit(fault, f"{type(entity).__name__}.{self.name}", value) from None
+        if self.name == entity._karzhoul_version:
+            entity._karzhoul_run.versions.give(entity, value)
+        return line
 
 
 def _reader(place: int) -> Callable[[Entity], Any]:
@@ -502,6 +514,8 @@ def _make_class(
         )
         if base is Entity:
             own["_karzhoul_key"] = _key(entity)
+        if "version" in entity:
+            own["_karzhoul_version"] = entity["version"]["name"]
         kind: Any = type
         bases: Tuple[type, ...] = (base,)
         if binding is not None:

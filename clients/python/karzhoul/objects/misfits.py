@@ -5,6 +5,9 @@ from __future__ import annotations
 
 from typing import Any, Iterable, Iterator, Mapping
 
+from ..classes.values import WrongValue
+from ..told import shown
+
 _HALF = (
     "surrogates not allowed: {what} takes a text of Unicode, and this is half a character: decode "
     "the text anew where it came from, or by errors='replace', or store it as bytes"
@@ -37,6 +40,15 @@ def _texts(value: Any) -> Iterator[str]:
     elif isinstance(value, (tuple, list)):
         for each in value:
             yield from _texts(each)
+
+
+def no_member(entity: object, name: str, value: object, is_list: bool = False) -> WrongValue:
+    """What is no member of a list of this name, or no list of members."""
+    kind = type(entity)
+    target = getattr(getattr(kind, name, None), "target", "") or "object"
+    wanted = "list" if is_list else target
+    told = f"{kind.__name__}.{name} is a list of {target}, and {shown(value)} is no {wanted}"
+    return WrongValue(told)
 
 
 def unknown(

@@ -7,7 +7,9 @@ from functools import partial
 from typing import TYPE_CHECKING, Any, Callable, Dict, FrozenSet, Iterator, List, Mapping
 from typing import NamedTuple, Optional, Tuple, Type, TypeVar, Union
 
+from ..classes.values import WrongValue
 from ..jpql.check import check
+from ..jpql.statements import branches_of, nodes_of, read
 from ..mapping.unit import entities_of
 from ..objects.arguments import check_query, item_class, parameter_name, row_limit
 from ..objects.concern import Concern
@@ -33,6 +35,10 @@ _ABOVE = 4
 _BESIDE_NONE = (
     "over classes a parameter has the type of the attribute that it stands beside, and this one stands "
     "beside none: compare it with one, or hand in what is stored"
+)
+_IN_CASE = (
+    "; or have a THEN or the ELSE of this CASE give an attribute of its type, as ELSE p.price, or let it "
+    "give 1 and 2, and take the values by these"
 )
 # In the place of a text that isn't the first argument: it is the one by the name `text`, if any is.
 _BY_NAME: Any = object()
@@ -328,7 +334,8 @@ class _Asked(NamedTuple):
                 raise TypeError(f"{fault}; and the query is wrong: {wrong[0]}") from None
             if factory.conversions is None:
                 raise
-            raise TypeError(f"{fault}: {_BESIDE_NONE}") from None
+            more = _IN_CASE if _gives_given(text) else ""
+            raise WrongValue(f"{fault}: {_BESIDE_NONE}{more}") from None
 
     def answers(
         self, lines: Callable[[], List[bytes]], is_one: bool = False, text: str = ""
@@ -379,6 +386,12 @@ def _listed(run: Run, values: Mapping[str, Any]) -> Iterator[str]:
             yield f"{text_spelled(name)}:{said}"
         except (TypeError, ValueError, OverflowError) as fault:
             raise misfit(fault, f"the parameter {name!r}", value) from None
+
+
+def _gives_given(text: str) -> bool:
+    """Whether a CASE of a query gives a parameter."""
+    cases = (node for node in nodes_of(read(text)) if node.sort == "case")
+    return any(part.sort == "parameter" for case in cases for part in branches_of(case).results)
 
 
 def _part_lines(asked: _Asked, most: int, text: str, more: Mapping[str, Any]) -> List[bytes]:

@@ -4,7 +4,6 @@ connection, and all else is as with a file."""
 from __future__ import annotations
 
 import json
-import math
 import os
 import select
 import socket
@@ -22,8 +21,8 @@ from typing import (
 from ..store import program as programs
 from ..objects.entities import Entity
 from ..session.factory import EntityManagerFactory
-from ..session.opening import are_classes
-from ..session.places import Places
+from ..session.opening import are_classes, check_no_lock
+from ..session.places import Places, check_wait
 from ..store.program import Exchange, Program, ended_within
 from ..refusals import (
     Disconnected, GivenUp, KarzhoulError, NoFreeManager, ProgramEnded, ProgramNotFound, Restarted,
@@ -101,6 +100,10 @@ class Connected(Program):
         """Until when a server is waited for."""
         begun = time.monotonic() if asked is None else asked
         return begun + (30.0 if self._wait is None else self._wait)
+
+    def has_ended(self) -> bool:
+        """Whether the connection has: of a server's end a call tells."""
+        return self.fault is not None
 
     def await_end(self, lock: ContextManager[Any]) -> None:
         """Where the server is ending, waits until it has let this connection go: other threads may
@@ -305,8 +308,7 @@ def connect(
     it. A connection that ends rolls back what isn't committed; `reopen` connects again, and waits
     for the server as long.
     """
-    if wait is not None and not (wait >= 0 and math.isfinite(wait)):
-        raise ValueError(f"wait={wait!r} is no number of seconds from 0 on")
+    check_wait(wait)
     way = Way(address, token, tls)
 
     def start(said: Optional[Mapping[str, Any]], binding: Any) -> EntityManagerFactory:
@@ -329,6 +331,7 @@ def connect(
             raise
 
     if classes is None:
+        check_no_lock(lock)
         return start(None, None)
     if not are_classes(classes):
         raise TypeError("classes are given in a list, or as their module")

@@ -151,7 +151,7 @@ class EntityManagerFactory(ObjectCalls, AbstractContextManager["EntityManagerFac
             self.program.await_end(self._lock)
         asked = time.monotonic() - waited
         with self._lock:
-            if self.program.fault is not None:
+            if self.program.has_ended():
                 self._asked = asked
                 try:
                     self.restart()

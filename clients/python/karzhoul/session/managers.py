@@ -186,6 +186,10 @@ class EntityManager(Queries, AbstractContextManager["EntityManager"]):
                 if not self._goes_on(run):
                     raise
                 continue
+            except ProgramEnded:
+                if not keeps:  # What it loaded is gone, and nobody has it.
+                    self._holds_as_before(held, holding)
+                raise
             except (Refused, TypeError, ValueError):
                 # One that a handler of a signal raised may leave the call under way.
                 is_over = not keeps and not self.factory.is_asked(run, before.manager)
@@ -282,6 +286,7 @@ class EntityManager(Queries, AbstractContextManager["EntityManager"]):
 
     def persist(self, entity: Entity) -> None:
         """Makes a new object managed; a commit stores it."""
+        self._check_versions(entity)
         self._tell_on("persist", entity)
         self._concern.persisted.append(entity._karzhoul_number)
 
@@ -289,7 +294,14 @@ class EntityManager(Queries, AbstractContextManager["EntityManager"]):
         """Makes new objects managed, as `persist` each of them, sent together. The first refusal is
         raised, with the others as its `later`."""
         told = list(objects)
+        self._check_versions(*told)
         self._done(lambda: self._tell_to_persist(told), keeps=True)
+
+    def _check_versions(self, *objects: Entity) -> None:
+        """Before anything is sent, where a callback would have the transaction roll back."""
+        for entity in objects:
+            if isinstance(entity, Entity) and entity._karzhoul_run is self._run:
+                self._run.versions.check(entity)
 
     def _tell_to_persist(self, objects: List[Entity]) -> None:
         front, number = f'{{"call":"persist","em":{self._em},"object":', self._run.number

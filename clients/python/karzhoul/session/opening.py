@@ -16,7 +16,7 @@ from ..store.finding import find_program
 from ..store.program import Program, Words
 from ..store.starting import started, store_in_memory
 from .factory import EntityManagerFactory
-from .places import Places
+from .places import Places, check_wait
 
 if TYPE_CHECKING:
     from ..classes.binding import Binding
@@ -61,6 +61,7 @@ def open(
         raise ValueError("':memory:' would be a file of that name: leave db out for one in memory")
     if language is not None and language not in LANGUAGES:
         raise ValueError(f"language is \"profile\" or \"wide\", and not {language!r}")
+    check_wait(wait)
     if are_classes(mapping):
         from ..classes.changes import open_classes
 
@@ -72,13 +73,19 @@ def open(
             )
 
         return open_classes(mapping, lock, db is None, start)  # type: ignore[arg-type]
-    if lock is not None:
-        raise TypeError("lock= is the file of the numbers of classes, and a mapping has its own")
+    check_no_lock(lock)
     said: Union[Words, Mapping[str, Any]] = mapping  # type: ignore[assignment]
     return _opened(said, db, program, echo, threads, wait, language or "profile", indexes)
 
 
+def check_no_lock(lock: object) -> None:
+    """Refuses the file of the numbers of classes where there are none."""
+    if lock is not None:
+        raise TypeError("lock= is the file of the numbers of classes, and a mapping has its own")
+
+
 def are_classes(given: object) -> bool:
+    """Whether these are classes, as their module or a list of them, and no mapping."""
     if isinstance(given, type):
         raise TypeError(f"classes are given in a list, as [{given.__name__}]")
     return isinstance(given, ModuleType) or (

@@ -35,6 +35,15 @@ _DUE, _LATE = MOST_OBJECTS // 2, MOST_OBJECTS - MOST_OBJECTS // 10
 _PATIENCE, _STEP = 1.0, MOST_OBJECTS // 20
 
 
+def check_wait(wait: Optional[float]) -> None:
+    """Refuses what is no number of seconds to wait for a manager."""
+    is_number = isinstance(wait, (int, float)) and not isinstance(wait, bool)
+    if wait is not None and not (is_number and wait >= 0 and math.isfinite(wait)):
+        raise ValueError(
+            f"wait={wait!r} is no number of seconds from 0 on; wait=None waits without an end"
+        )
+
+
 class Place:
     """A place of a manager, from before the manager is made until it is closed."""
 
@@ -71,8 +80,6 @@ class Places:
 
     def __init__(self, factory: EntityManagerFactory, wait: Optional[float]) -> None:
         """With how many seconds a place is waited for at most; None is for ever."""
-        if wait is not None and not wait >= 0:
-            raise ValueError(f"wait={wait!r} is no number of seconds from 0 on")
         self.wait = wait
         self._factory, self._process = factory, os.getpid()
         # Where both are held, the factory's lock is taken first.

@@ -10,8 +10,9 @@ from ..objects.concern import Noted
 from ..objects.entities import Entity
 from ..objects.identity import IdentityMap
 from ..objects.kinds import Classes
-from ..objects.misfits import misfit
+from ..objects.misfits import misfit, no_member
 from ..objects.shown import VALUES
+from ..objects.versions import Versions
 from ..refusals import Restarted
 from ..wire.lines import spelled, text_spelled
 from .reading import Reader
@@ -33,7 +34,7 @@ class Run:
 
     __slots__ = (
         "factory", "map", "reader", "marked", "refused", "written", "merged", "removed", "noted",
-        "managers", "opened",
+        "managers", "opened", "versions",
     )
 
     def __init__(
@@ -56,6 +57,7 @@ class Run:
         # What each manager has persisted and removed and no flush has written, by its number, where
         # values are kept unique.
         self.noted: Dict[int, Noted] = {}
+        self.versions = Versions()
         # The managers that are open, by their numbers.
         self.opened: Dict[int, ref[EntityManager]] = {}
         # The numbers of the objects that flushes of each manager's open transaction wrote or
@@ -139,11 +141,16 @@ class Run:
         number, word = self.number(entity), text_spelled(name)
         try:
             given = self.given(value)
-            return f'{{"call":"set","object":{number},"name":{word},"value":{given}}}'.encode()
+            line = f'{{"call":"set","object":{number},"name":{word},"value":{given}}}'.encode()
         except (TypeError, ValueError, OverflowError) as fault:
             raise misfit(fault, f"{type(entity).__name__}.{name}", value) from None
+        if name == entity._karzhoul_version:
+            self.versions.give(entity, value)
+        return line
 
     def member_line(self, call: str, entity: Entity, name: str, member: Entity) -> bytes:
         """The line that adds a member to a collection, or takes it out."""
+        if not isinstance(member, Entity):
+            raise no_member(entity, name, member)
         number, word, other = self.number(entity), text_spelled(name), self.number(member)
         return f'{{"call":"{call}","object":{number},"name":{word},"member":{other}}}'.encode()

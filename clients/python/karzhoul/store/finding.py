@@ -66,7 +66,8 @@ def _of_clone(top: Path, named: Optional[str]) -> Optional[str]:
     words = [str(top / "tools" / "program"), "--any"]
     ran = subprocess.run(words, stdin=subprocess.DEVNULL, capture_output=True, text=True)
     if ran.returncode == 0:
-        if ran.stderr:
+        # Which one it runs is of no concern where one is named: `find_program` says what is started.
+        if ran.stderr and not (named and "runs dist/jpa" in ran.stderr):
             _say(ran.stderr.strip())
         return ran.stdout.rstrip("\n")
     if named:

@@ -200,6 +200,11 @@ class Program:
         # Whether it was ended as its owner wished.
         self._is_stopped = False
 
+    def has_ended(self) -> bool:
+        """Whether it has ended, also where no call has met that yet."""
+        is_own = self._here is _here and not self._ended
+        return self.fault is not None or is_own and self._process.poll() is not None
+
     def await_end(self, lock: ContextManager[Any]) -> None:
         """Waits for the end of what is ending: a program has ended, or it hasn't."""
 

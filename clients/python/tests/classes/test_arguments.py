@@ -129,6 +129,16 @@ class Parameters(OfItems):
                                         "stands beside, and this one stands beside none: compare it with one, or hand in what is stored"):
                 self.asked(item, a=Decimal(2))
 
+    @needs_cases
+    def test_a_case_that_gives_parameters_alone(self) -> None:
+        case = "CASE WHEN i.count > 1 THEN :a ELSE :b END"
+        given: Tuple[Tuple[Any, Any], ...] = ((Decimal(1), Decimal(2)), (True, False), (Rank.LOW, Rank.MID), (timedelta(1), None))
+        for one, other in given:
+            self.refuse(case, "the parameter 'a': .* and no .*, or hand in what is stored; or have a THEN or the ELSE of this CASE give an attribute of its "
+                        "type, as ELSE p.price, or let it give 1 and 2, and take the values by these$", a=one, b=other)
+        self.assertEqual(self.asked(case.replace("ELSE", "WHEN i.count = 0 THEN i.total ELSE"), a=Decimal(1), b=Decimal("2.5")), [Decimal(1)])
+        self.assertEqual(self.asked(case, a=1, b=2), [1])
+
 
 @needs_program
 class TypedByOthers(OfItems):

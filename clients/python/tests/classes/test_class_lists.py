@@ -7,7 +7,7 @@ one.
 
 from __future__ import annotations
 
-from typing import Any, List
+from typing import Any, Callable, List
 
 import karzhoul
 from karzhoul import DeclarationError
@@ -51,6 +51,32 @@ class Loan(Entity):
     id: int = generated()
     member: Member = many_to_one()
 """
+
+
+@needs_program
+class WrongMembers(ClassesTest):
+    def test_what_is_no_list_and_no_member_is_refused_before_anything_is_added(self) -> None:
+        it = self.module(OWNED)
+        with self.open(it, in_memory=True).begin() as manager:
+            member = it.Member(name="Ada")
+            loan = it.Loan(member=member)
+            manager.persist(member)
+            for value, words in (
+                (5, "5 is no list"), ("ab", "'ab' is no list"), ({1: 2}, "{1: 2} is no list"), (None, "None is no list"), (loan, "<Loan id=None> is no list"),
+                ([loan, 5], "5 is no Loan"), ([None], "None is no Loan"),
+            ):
+                with self.subTest(words), self.assertRaises(karzhoul.WrongValue) as raised:
+                    it.Member(name="Bob", loans=value)
+                self.assertEqual(str(raised.exception), f"Member.loans is a list of Loan, and {words}")
+                with self.assertRaises(karzhoul.WrongValue):
+                    member.loans = value
+                self.assertEqual(list(member.loans), [])
+            changes: List[Callable[[], Any]] = [
+                lambda: member.loans.append("x"), lambda: member.loans.extend(["x"]), lambda: member.loans.insert(0, "x"), lambda: member.loans.remove("x"),
+            ]
+            for change in changes:
+                with self.assertRaisesRegex(karzhoul.WrongValue, "^Member.loans is a list of Loan, and 'x' is no Loan$"):
+                    change()
 
 
 @needs_program

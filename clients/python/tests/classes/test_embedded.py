@@ -6,6 +6,7 @@ import copy
 import pickle
 from typing import Any, Callable, Dict, List, Tuple, Type
 
+import karzhoul
 from karzhoul import DeclarationError, NotBroughtOver, NotUnique, WrongValue
 from karzhoul.classes.changes import make
 
@@ -266,6 +267,16 @@ class Asked(ClassesTest):
                 self.ask(text, **({"it": self.homes[0]} if ":it" in text else {}))
         with self.assertRaises(WrongValue), self.app.begin() as manager:
             manager.execute_update("UPDATE Member m SET m.home = NULL")
+
+    def test_a_part_that_there_is_not_is_told_with_the_one_that_is_meant(self) -> None:
+        for path, near in (("home.ctiy", "home.city"), ("hmoe.city", "home.city"), ("home.geo.lta", "home.geo.lat"), ("home.city.x", "home.city")):
+            with self.subTest(path), self.assertRaises(karzhoul.IllegalArgument) as raised:
+                self.ask(f"SELECT m.name FROM Member m WHERE m.{path} = 'a'")
+            words = f"1:37: {path}: Member has no member {path}: did you mean '{near}'? [IllegalArgument(typing)]"
+            self.assertEqual(str(raised.exception), words)
+        words = "27: .: SET takes members of the object itself, as p.name, and parts of its embedded values"
+        with self.assertRaisesRegex(karzhoul.IllegalArgument, words), self.app.begin() as manager:
+            manager.execute_update("UPDATE Member m SET m.home.ctiy = 'a'")
 
     def test_its_parts_are_looked_up(self) -> None:
         with self.assertLogs("karzhoul", "DEBUG") as logs:

@@ -15,6 +15,7 @@ from karzhoul.mapping.unit import entities_of
 from ..support import TOP
 
 DATA = TOP / "crates" / "jpa_examples" / "data"
+ALONE = ": write {} = TRUE where it is a bool of classes, else compare it too"
 KINDS = {"int": INT, "text": TEXT, "bytes": BYTES, "null": None}
 
 
@@ -130,7 +131,17 @@ class Told(unittest.TestCase):
             ("SELECT p FROM Person", "1:21: the end: a variable is missing behind Person, as in Person p"),
             ("SELECT p FROM Person WHERE p.id = 1", "1:22: WHERE: a variable is missing behind Person, as in Person p"),
             ("SELECT p FROM Person p WHERE", "1:29: the end: the text ends where EXISTS, TYPE or a value is expected"),
-            ("SELECT p FROM Person p WHERE p.id", "1:34: the end: the text ends where a comparison, BETWEEN, IN, LIKE, MEMBER or IS is expected"),
+            ("SELECT p FROM Person p WHERE p.id", "1:34: the end: the text ends where a comparison, BETWEEN, IN, LIKE, MEMBER or IS is expected" + ALONE.format("p.id")),
+            ("SELECT p FROM Person p WHERE NOT p.id AND p.id = 1", "1:39: AND: 'AND' stands where a comparison, BETWEEN, IN, LIKE, MEMBER or IS is expected" + ALONE.format("p.id")),
+            ("SELECT p FROM Person p WHERE p.id = 1 OR (p.id) AND p.id = 1", "1:49: AND: 'AND' stands where a comparison, BETWEEN, IN, LIKE or MEMBER is expected" + ALONE.format("p.id")),
+            ("SELECT o FROM Order o WHERE o.person.id", "1:40: the end: the text ends where a comparison, BETWEEN, IN, LIKE, MEMBER or IS is expected" + ALONE.format("o.person.id")),
+            ("SELECT p FROM Person p WHERE LENGTH(p.name)", "1:44: the end: the text ends where a comparison, BETWEEN, IN, LIKE or MEMBER is expected"),
+            ("SELECT p FROM Person p WHERE 1 + p.id", "1:38: the end: the text ends where a comparison, BETWEEN, IN, LIKE or MEMBER is expected"),
+            ("SELECT p FROM Person p WHERE p.id == 1", "1:35: ==: '=' is meant"),
+            ("SELECT p FROM Person p WHERE p.id => 1", "1:35: =>: '>=' is meant"),
+            ("SELECT p FROM Person p WHERE p.id =< 1", "1:35: =<: '<=' is meant"),
+            ("SELECT p FROM Person p WHERE p.id = 1 && p.id = 2", "1:39: &&: AND is meant"),
+            ("SELECT p FROM Person p WHERE ! p.id = 1", "1:30: !: NOT is meant"),
             ("SELECT p FROM Person p WHERE p.id = ", "1:37: the end: the text ends where a value is expected"),
             ("SELECT p.id AS count FROM Person p", "1:16: count: 'count' stands where a name is expected, and it is a keyword"),
             ("SELECT * FROM Person p", "1:8: *: SELECT takes variables and paths, as SELECT p FROM Person p"),
@@ -143,6 +154,9 @@ class Told(unittest.TestCase):
             ("SELECT p FROM Person p WHERE p.id = 9223372036854775808", "1:37: 9223372036854775808: a whole number is at most 9223372036854775807"),
             ("SELECT p FROM Person p WHERE p.id = 1.5", "1:38: .: numbers with a fraction aren't "
              "served: over classes a manager takes a Decimal as a parameter, or in quotes, as '1.50'; by a mapping alone money is whole hundredths, as 150"),
+            *((f"SELECT p FROM Person p WHERE p.id {text}", f"1:{at}: .: numbers with a fraction aren't "
+               "served: over classes a manager takes a Decimal as a parameter, or in quotes, as '1.50'; by a mapping alone money is whole hundredths, as 150")
+              for text, at in (("> .5", 37), ("= -.5", 38), ("IN (.5)", 39), ("BETWEEN 1 AND 2.", 50))),
             ("SELECT p FROM Person p WHERE p.id = ?0", "1:37: ?0: the number of a parameter is 1 or more, with no 0 first"),
             ("SELECT p FROM Person p WHERE p.id = :", "1:37: :: a parameter is :name or ?1"),
             ("SELECT MOD(p.id) FROM Person p", "1:16: ): ')' stands where ',' or the end of 2 values of MOD is expected"),

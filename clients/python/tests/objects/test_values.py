@@ -13,7 +13,7 @@ import time
 import unittest
 import warnings
 from pathlib import Path
-from typing import Any, Callable, Dict, List, Optional
+from typing import Any, Callable, Dict, List, Optional, Sequence
 from unittest import mock
 
 import karzhoul
@@ -493,6 +493,8 @@ class Walk:
         self.managers = [app.create_entity_manager() for _ in range(self.MANAGERS)]
         self.objects: List[Any] = []
         self.codes = 0
+        # A new object that is given another one has the client hear of what is persisted from then on.
+        self.versions: Sequence[Optional[int]] = range(100) if app._events.callbacks else (None, 0)
 
     def hold(self, found: Any) -> None:
         """Holds the objects of an answer, a few in all."""
@@ -509,7 +511,7 @@ class Walk:
         name = self.random.choice(self.STEPS)
         try:
             self.hold(getattr(self, name)(self.random.choice(self.managers)))
-        except (KarzhoulError, LookupError):
+        except (KarzhoulError, LookupError, karzhoul.WrongValue):
             pass
         return name
 
@@ -531,8 +533,8 @@ class Walk:
     def set(self, _: Any) -> None:
         it = self.any()
         name = self.random.choice(list(type(it)._karzhoul_places))
-        value = "text" if name in ("name", "label") else self.random.randrange(100)
-        self.app.set(it, name, value)
+        value: Any = "text" if name in ("name", "label") else self.random.randrange(100)
+        self.app.set(it, name, self.random.choice(self.versions) if name == "version" else value)
 
     def set_by_its_attribute(self, _: Any) -> None:
         it = self.any()

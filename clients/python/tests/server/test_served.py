@@ -9,8 +9,9 @@ import threading
 import time
 import unittest
 from concurrent.futures import ThreadPoolExecutor
+from functools import partial
 from pathlib import Path
-from typing import Any, Dict, List, Type
+from typing import Any, Callable, Dict, List, Type
 
 import karzhoul
 
@@ -38,6 +39,21 @@ class _Served(ManagerTest):
         with karzhoul.connect(f"unix:{path}") as other, other.begin():
             other.new(next(iter(other._classes)))
             return karzhoul.connect(f"unix:{path}")
+
+
+class Handed(unittest.TestCase):
+    def test_connect_refuses_what_open_refuses_and_as_that_does(self) -> None:
+        waits: List[Any] = [-1, float("nan"), float("inf"), "5", True]
+        ways: List[Callable[..., Any]] = [partial(karzhoul.open, PERSONS), partial(karzhoul.connect, "unix:/nowhere")]
+        for wait in waits:
+            for opened in ways:
+                with self.subTest(wait=wait), self.assertRaises(ValueError) as raised:
+                    opened(wait=wait)
+                words = f"wait={wait!r} is no number of seconds from 0 on; wait=None waits without an end"
+                self.assertEqual(str(raised.exception), words)
+        for opened in ways:
+            with self.assertRaisesRegex(TypeError, "^lock= is the file of the numbers of classes, and a mapping has its own$"):
+                opened(lock="l.json")
 
 
 @needs_program

@@ -3,6 +3,8 @@
 from __future__ import annotations
 
 import contextlib
+import os
+import signal
 import threading
 import time
 import unittest
@@ -65,6 +67,30 @@ class GoesOn(test_runs.RunsTest):
         warnings = mock.patch("warnings.warn")  # Of what a close loses.
         warnings.start()
         self.addCleanup(warnings.stop)
+
+    def test_a_program_that_is_killed_before_its_first_call(self) -> None:
+        first = self.app.create_entity_manager()
+        os.kill(self.app.program.pid, signal.SIGKILL)
+        self.app.program._process.wait()
+        calls: List[Callable[[], Any]] = [
+            lambda: first.find("Person", 1), lambda: first.query("SELECT p FROM Person p"), lambda: first.contains(self.Person(name="Eve")),
+        ]
+        for call in calls:
+            with self.assertRaises(karzhoul.ProgramEnded):
+                call()
+        self.app.reopen()
+        self.assertEqual(present(first, "Person", 1).name, "Ada")
+        first.close()
+
+    def test_reopen_where_no_call_has_met_the_end(self) -> None:
+        first, run = self.app.create_entity_manager(), self.app._run
+        self.app.reopen()
+        self.assertIs(self.app._run, run)
+        os.kill(self.app.program.pid, signal.SIGKILL)
+        self.app.program._process.wait()
+        self.app.reopen()
+        self.assertEqual(present(first, "Person", 1).name, "Ada")
+        first.close()
 
     def test_each_call_after_a_restart(self) -> None:
         for name, call in self.calls().items():

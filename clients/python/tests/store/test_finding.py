@@ -140,7 +140,15 @@ class Finding(FolderTest):
         sources = (f"crates/jpa/{part}/lib" for part in ("proofs", "specs", "src"))
         names = ("dist/jpa", "HANDLES", "crates.txt", *sources)
         (self.place / "dist" / "SOURCES").write_text(sums(self.place, *names), encoding="utf-8")
-        self.assertEqual(self.found(package)[0], program)
+        named = os.environ["KARZHOUL_PROGRAM"] = self.started("named")
+        words = f"karzhoul: {program} is started, and not {named}, which KARZHOUL_PROGRAM names: give it as program=..\n"
+        self.assertEqual(self.found(package), (program, words))
+        shutil.rmtree(self.place / "dist" / "out")  # As before anything was said.
+        os.environ["KARZHOUL_PROGRAM"] = program
+        self.assertEqual(self.found(package), (program, ""))
+        shutil.rmtree(self.place / "dist" / "out")
+        del os.environ["KARZHOUL_PROGRAM"]
+        self.assertIn("runs dist/jpa, which these sources generate", self.found(package)[1])
         self.assertEqual(self.found(package), (program, ""))
         (self.place / "crates" / "jpa" / "src" / "lib").write_text("changed", encoding="utf-8")
         with self.assertRaises(karzhoul.ProgramNotFound) as raised:
