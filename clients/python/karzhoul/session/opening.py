@@ -71,7 +71,8 @@ def open(
                 said, db, program, echo, threads, wait, language or "wide", named, binding
             )
 
-        return open_classes(mapping, lock, db is None, start)  # type: ignore[arg-type]
+        file = None if db is None else Path(os.fsdecode(db))
+        return open_classes(mapping, lock, file, start)  # type: ignore[arg-type]
     if lock is not None:
         raise TypeError("lock= is the file of the numbers of classes, and a mapping has its own")
     said: Union[Words, Mapping[str, Any]] = mapping  # type: ignore[assignment]
