@@ -13,11 +13,12 @@ from typing import TYPE_CHECKING, Any, Callable, Dict, Iterable, Iterator, List,
 from typing import NamedTuple, Optional, Set, Tuple, Union
 
 from ..told import shown
-from ..refusals import Damaged, KarzhoulError, Refused
+from ..refusals import Damaged, Refused
 from . import lock as locks
 from .binding import Binding
 from .columns import DROPPED, Column, columns, other_names, places, stored_forms, unknown
 from .declared import Declared, Given, Member, Model, declared_by
+from .faults import NotBroughtOver
 from .fields import MISSING
 from .mapping import FORMS, mapping_of
 from .types import StoredType, Unfit
@@ -30,15 +31,6 @@ if TYPE_CHECKING:
 Start = Callable[[Mapping[str, Any], Optional[Binding]], "EntityManagerFactory"]
 _FORMS_OF = f"SELECT f.at, f.form FROM {FORMS} f"
 _TOLD = 3
-
-
-class NotBroughtOver(KarzhoulError, ValueError):
-    """A store that the classes don't fit any more; each of the `faults` says what stands in it, and
-    what to do. The store is as it was."""
-
-    def __init__(self, faults: List[str]) -> None:
-        super().__init__("\n".join(faults))
-        self.faults = tuple(faults)
 
 
 class Made(NamedTuple):

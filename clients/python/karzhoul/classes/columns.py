@@ -3,9 +3,9 @@ name is another one is of another lock."""
 
 from __future__ import annotations
 
+import sqlite3
 from contextlib import suppress
 from pathlib import Path
-import sqlite3
 from typing import Any, Dict, Iterator, List, Mapping, NamedTuple, Optional, Set, Tuple
 
 from ..store.migration import opened_to_read
@@ -55,6 +55,8 @@ def _at(table: int, stored: Record) -> str:
 
 # ---- names
 
+_NAME = "name "
+
 
 class Place(NamedTuple):
     """A table or a column that a lock has, with its name, and those that it had."""
@@ -70,7 +72,7 @@ class Place(NamedTuple):
     @property
     def row(self) -> str:
         """What the store's row of its name has as its key, beside the row of its form."""
-        return f"name {self.at}"
+        return _NAME + self.at
 
     def is_of(self, name: str) -> bool:
         """Whether it is what a store has by a name: so its class says, or the lock, where there is
@@ -113,7 +115,7 @@ def other_names(
                 "the lock isn't the one that the store was last opened with. Take that one; or "
                 f"where {each.said} is to have what {words_of(name)} has, give it was=\"{name}\""
             )
-        elif name == each.name and each.record.get("again"):
+        elif stored.get(each.row) == each.name and each.record.get("again"):
             was = each.record["says"]
             faults.append(
                 f"{each.said} has was=\"{was}\" again, and was renamed so before, also in {store}: "
@@ -123,23 +125,17 @@ def other_names(
     return faults
 
 
-def unknown(
-    lock: Lock, stored: Mapping[str, str], file: str, store: str
-) -> List[str]:
+def unknown(lock: Lock, stored: Mapping[str, str], file: str, store: str) -> List[str]:
     """What a store has and a lock doesn't know, told with what to do; nothing where it knows all."""
     known = set(_numbers(lock))
-    odd = [stored.get(f"name {at}", f"number {at}") for at in stored if _is_number(at)
-           and at not in known]
+    numbers = dict.fromkeys(at[len(_NAME) :] if at.startswith(_NAME) else at for at in stored)
+    odd = [words_of(stored.get(_NAME + at, f"number {at}")) for at in numbers if at not in known]
     if not odd:
         return []
-    told = f"{', '.join(map(words_of, odd[:3]))}{', ..' if len(odd) > 3 else ''}"
+    told = f"{', '.join(odd[:3])}{', ..' if len(odd) > 3 else ''}"
     return [f"{store} has what {file} doesn't know ({told}): it was last opened with another lock, "
             "mostly a newer one. Take that, as from the version control, and open again; nothing "
             "is lost"]
-
-
-def _is_number(at: str) -> bool:
-    return at.replace(".", "", 1).isdigit()
 
 
 def _numbers(lock: Lock) -> Iterator[str]:

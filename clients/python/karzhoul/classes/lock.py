@@ -7,13 +7,12 @@ import copy
 import fcntl
 import json
 import os
-from contextlib import contextmanager
+from contextlib import contextmanager, suppress
 from pathlib import Path
 from typing import Any, Dict, Iterator, List, Optional, Tuple
 
-from ..refusals import KarzhoulError
 from .declared import TO_MANY, Declared, Member, Model
-from .faults import Faults
+from .faults import Faults, NotBroughtOver
 from .renaming import Claim, refuse, words_of
 
 NAME = "karzhoul.lock.json"
@@ -84,15 +83,15 @@ def write_anew(file: Path, lock: Lock) -> None:
 
 
 def write(file: Path, lock: Lock, before: Optional[str]) -> None:
-    """Writes a lock in the place of the one that it was made of; an `Overtaken` where another
+    """Writes a lock in the place of the one that it was made of; a `NotBroughtOver` where another
     opening wrote that meanwhile, which may have given the same numbers to others."""
     said = _text(lock)
     if said == before:
         return
     with _held(file):
         if text_of(file) not in (before, said):
-            raise Overtaken(f"{file} was written by another opening meanwhile, whose numbers this "
-                            "one doesn't know: open again")
+            raise NotBroughtOver([f"{file} was written by another opening meanwhile, whose numbers "
+                                  "this one doesn't know: open again"])
         _put(file, said)
 
 
@@ -106,10 +105,6 @@ def put_back(file: Path, lock: Lock, before: Optional[str]) -> None:
             file.unlink()
         else:
             _put(file, before)
-
-
-class Overtaken(KarzhoulError):
-    """A lock that isn't any more what its numbers were made of; nothing is written."""
 
 
 def text_of(file: Optional[Path]) -> Optional[str]:
@@ -126,7 +121,8 @@ def _held(file: Path) -> Iterator[None]:
     """Has no other process, nor thread, write the locks of a folder."""
     folder = os.open(file.parent, os.O_RDONLY)
     try:
-        fcntl.flock(folder, fcntl.LOCK_EX)
+        with suppress(OSError):  # Not each file system has locks.
+            fcntl.flock(folder, fcntl.LOCK_EX)
         yield
     finally:
         os.close(folder)
@@ -432,7 +428,7 @@ def _refuse(
         member = entity.members[name]
         faults.add(member.writer, member.said, why)
 
-    refuse(list(claims.values()), add, _was, ", or let them go, by an opening before without {name} "
+    refuse(list(claims.values()), add, _was, ", or let it go, by an opening before without {name} "
            "and with dropped=(\"{name}\",) behind the class's base")
 
 

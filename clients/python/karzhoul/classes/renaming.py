@@ -8,7 +8,6 @@ from dataclasses import dataclass
 from typing import Any, Callable, Dict, List, Optional
 
 Record = Dict[str, Any]
-Lock = Dict[str, Any]
 
 
 @dataclass(frozen=True)
@@ -71,9 +70,8 @@ def refuse(
 
 
 _OWN = (
-    "{name} has values of its own in the store, which would be under no name then: keep them under "
-    "another name, by was=\"{name}\" there in the same opening{let_go}; where this renaming is done, "
-    "take was= away"
+    "what is stored as {name} itself would have no name then: keep it under another one, by "
+    "was=\"{name}\" there in the same opening{let_go}; where this renaming is done, take was= away"
 )
 
 

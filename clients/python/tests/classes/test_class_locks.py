@@ -236,7 +236,7 @@ class AtOneTime(Locks):
 
     def test_two_stores_get_no_number_twice(self) -> None:
         self.store(PERSON, name="Ada")
-        with self.assertRaisesRegex(locks.Overtaken, "was written by another opening meanwhile"):
+        with self.assertRaisesRegex(NotBroughtOver, "was written by another opening meanwhile"):
             self.overtaken(PERSON + MAIL, PERSON + FAX)
         both = PERSON + FAX + MAIL
         self.store(both, name="Bob", fax="12")
@@ -270,7 +270,7 @@ class AtOneTime(Locks):
             try:
                 locks.write(self.lock, lock, None)
                 done.append(name)
-            except locks.Overtaken:
+            except NotBroughtOver:
                 pass
 
         threads = [threading.Thread(target=write, args=(str(it),)) for it in range(8)]

@@ -98,7 +98,7 @@ class OfAttributes(Renamings):
         self.assertEqual(found, {"name": "new", "alias": "N"})
 
     def test_one_whose_values_would_have_no_name(self) -> None:
-        words = ('Person.code has was="name", and code has values of its own in the store',
+        words = ('Person.code has was="name", and what is stored as code itself would have no name',
                  'was="code" there in the same opening', 'dropped=("code",)')
         self.refuse(person(code=was("name"), name=was("alias")), *words)
         self.refuse(person(code=TEXT, name=was("alias")), 'Person.name has was="alias"')
@@ -112,7 +112,7 @@ class OfAttributes(Renamings):
 
     def test_one_that_was_taken_out_before_and_not_let_go(self) -> None:
         self.told(person(name=TEXT, alias=TEXT), "name")
-        self.refuse(person(code=was("name"), alias=TEXT), "code has values of its own in the store")
+        self.refuse(person(code=was("name"), alias=TEXT), "what is stored as code itself would have no name then")
 
     def test_one_that_is_still_there(self) -> None:
         self.refuse(person(name=was("alias"), alias=TEXT, code=TEXT),
@@ -160,6 +160,13 @@ class OfAttributes(Renamings):
         self.refuse(person(title=was("name"), name=was("title"), alias=TEXT, code=TEXT),
                     'Person.name has was="title", and title stays where it is',
                     "rename title to a third name, name to title, and the third to name")
+
+    def test_an_opening_that_changes_nothing_leaves_the_lock(self) -> None:
+        turned = person(name=was("alias"), alias=was("name"), code=TEXT)
+        self.told(turned, "name")
+        lock = self.lock.read_bytes()
+        self.told(turned, "name")
+        self.assertEqual(self.lock.read_bytes(), lock)
 
     def test_what_an_older_client_has_renamed(self) -> None:
         """Its lock doesn't know of it; nothing has the name of before."""
@@ -237,6 +244,8 @@ class Dog(Entity):
             manager.persist(app.new("Dog", name="Eve"))
         self.assertEqual(self.names(plain, "Dog"), ["Tom", "Eve"])
         self.refuse(turned, "Dog has was=\"Cat\" again", kind=NotBroughtOver)
+        with self.open(turned, in_memory=True) as app, app.begin() as manager:
+            self.assertIsNone(manager.find("Dog", 1))
 
     def test_a_class_and_the_one_that_it_extends(self) -> None:
         old = "\nclass Big(Entity):\n    id: int = generated()\n    a: str\nclass Small(Big):\n    b: str\n"
@@ -258,7 +267,7 @@ class Dog(Entity):
     def test_one_whose_objects_would_have_no_name(self) -> None:
         text = self.OLD[self.OLD.index("class Dog") :].replace("Cat", "Dog").replace(
             "class Dog(Entity", "class Dog(Entity, was='Cat'")
-        self.refuse(text, 'Dog has was="Cat", and Dog has values of its own in the store')
+        self.refuse(text, 'Dog has was="Cat", and what is stored as Dog itself would have no name then')
 
     def test_a_name_that_is_none(self) -> None:
         text = self.OLD.replace("Cat", "Lion").replace("class Lion(Entity", "class Lion(Entity, was='Cta'")
