@@ -12,7 +12,7 @@ from unittest import mock
 
 import karzhoul
 from karzhoul import DeclarationError, NotBroughtOver
-from karzhoul.classes import changes, lock as locks
+from karzhoul.classes import changes, columns, lock as locks
 
 from ..classed import ClassesTest
 from ..support import HERE, PROGRAM, needs_program
@@ -224,7 +224,7 @@ class TakenOut(Locks):
 class AtOneTime(Locks):
     def overtaken(self, meanwhile: str, text: str) -> None:
         """An opening of a store, while another one by the same lock is under way."""
-        judge, other = changes.other_names, self.folder / "other.db"
+        judge, other = columns.other_names, self.folder / "other.db"
 
         def told(*given: Any) -> Any:
             with mock.patch.object(changes, "other_names", judge):
