@@ -4,7 +4,10 @@ opening writes meanwhile. Nothing is read under another name, and no number is g
 from __future__ import annotations
 
 import json
+import signal
 import sqlite3
+import subprocess
+import sys
 import threading
 from contextlib import closing
 from typing import Any, List, Type
@@ -13,9 +16,11 @@ from unittest import mock
 import karzhoul
 from karzhoul import DeclarationError, NotBroughtOver
 from karzhoul.classes import changes, columns, lock as locks
+from karzhoul.store import starting
 
 from ..classed import ClassesTest
 from ..support import HERE, PROGRAM, needs_program
+from .test_refused_openings import CHILD
 
 PERSON = "\nclass Person(Entity):\n    id: int = generated()\n    name: str\n"
 FAX, MAIL = "    fax: str | None = None\n", "    mail: str | None = None\n"
@@ -158,6 +163,17 @@ class Tag(Entity):
         self.assertEqual(self.lock.read_bytes(), lock)
         found = self.ask(self.CLASSES, "SELECT l.note, l.reader.fax, l.reader.mail FROM Loan l")
         self.assertEqual(found, [["late", "12", "a@x"]])
+
+    def test_names_are_filled_in_after_a_kill(self) -> None:
+        """Right before the commit that has them, and a column that is new."""
+        module = self.module(self.CLASSES + "    more: str = 'm'\n")
+        words = map(str, (HERE.parent, self.folder, module.__name__, self.db, self.lock, PROGRAM, 1))
+        status = subprocess.run([sys.executable, "-B", "-c", CHILD, *words]).returncode
+        self.assertEqual(status, -signal.SIGKILL)
+        with mock.patch.object(starting, "PATIENCE", 60):
+            self.assertIn("3.1 text", self.names())
+        found = self.ask(self.CLASSES + "    more: str = 'm'\n", "SELECT t.text, t.more FROM Tag t")
+        self.assertEqual(found, [["x", "m"]])
 
     def test_a_renaming_is_its_first_opening(self) -> None:
         text = self.CLASSES.replace("fax: str | None = None", "phone: str | None = field(default=None, was='fax')")
