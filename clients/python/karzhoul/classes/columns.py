@@ -12,7 +12,7 @@ from ..store.migration import opened_to_read
 from .declared import Declared, Model
 from .lock import FORMS_TABLE, Lock, Record, root_of
 from .mapping import gone_name
-from .renaming import words_of
+from .renaming import words_of, written
 from .types import StoredType
 
 DROPPED = "dropped"
@@ -113,10 +113,10 @@ def other_names(
             faults.append(
                 f"{each.said} is number {each.at} in {file}, and {store} has {words_of(name)} there: "
                 "the lock isn't the one that the store was last opened with. Take that one; or "
-                f"where {each.said} is to have what {words_of(name)} has, give it was=\"{name}\""
+                f"where {each.said} is to have what {words_of(name)} has, give it was=\"{written(each.name, name)}\""
             )
         elif stored.get(each.row) == each.name and each.record.get("again"):
-            was = each.record["says"]
+            was = written(each.name, each.record["says"])
             faults.append(
                 f"{each.said} has was=\"{was}\" again, and was renamed so before, also in {store}: "
                 "take was= away. Two that are to change their names once more do so by a third "

@@ -13,7 +13,7 @@ from typing import Any, Dict, Iterator, List, Optional, Tuple
 
 from .declared import TO_MANY, Declared, Member, Model
 from .faults import Faults, NotBroughtOver
-from .renaming import Claim, refuse, words_of
+from .renaming import Claim, refuse, words_of, written
 
 NAME = "karzhoul.lock.json"
 FORMAT = 1
@@ -206,8 +206,7 @@ def _rename_entities(model: Model, lock: Lock, faults: Faults) -> Dict[str, Reco
         Claim(it.name, it.was or "", records.get(it.name), records.get(it.was or ""))
         for it in model.values()
     ]
-    refuse(claims, lambda name, why: faults.add(model[name].kind, None, why),
-           lambda _, was: was)
+    refuse(claims, lambda name, why: faults.add(model[name].kind, None, why))
     now = {id(it.record): it for it in claims if it.record is not None}
     lost = {name for name, record in records.items()
             if id(record) not in now and not record.get("dropped")}
@@ -428,7 +427,7 @@ def _refuse(
         member = entity.members[name]
         faults.add(member.writer, member.said, why)
 
-    refuse(list(claims.values()), add, _was, ", or let it go, by an opening before without {name} "
+    refuse(list(claims.values()), add, ", or let it go, by an opening before without {name} "
            "and with dropped=(\"{name}\",) behind the class's base")
 
 
@@ -465,7 +464,7 @@ def _refuse_new(
         name = claim.was or member.name
         before = _before(name, lost)
         faults.add(member.writer, member.said, f"{_new(claim)}, and {words_of(before)} is gone: "
-                   f"where it is renamed write was=\"{_was(name, before)}\" in its "
+                   f"where it is renamed write was=\"{written(name, before)}\" in its "
                    "word, and where not, was=\"\" there; the values of "
                    f"{words_of(before)} stay in the store")
 
@@ -477,12 +476,6 @@ def _before(name: str, lost: List[str]) -> str:
     same = [each for each in lost if each.rpartition("__")[2] == part]
     beside = [each for each in lost if front and each.rpartition("__")[0] == front]
     return [*same, *beside, *lost][0]
-
-
-def _was(name: str, before: str) -> str:
-    """What was= says: where an embedded value has another name, the one that it had."""
-    (front, _, _), (old, _, part) = name.rpartition("__"), before.rpartition("__")
-    return part if front == old else old.partition("__")[0] or part
 
 
 def _words(said: Record) -> str:

@@ -45,8 +45,7 @@ class Claim:
 
 
 def refuse(
-    claims: List[Claim], add: Callable[[str, str], None], written: Callable[[str, str], str],
-    let_go: str = "",
+    claims: List[Claim], add: Callable[[str, str], None], let_go: str = ""
 ) -> None:
     """Has each claim that can't be met told by its name, with what its was= says, and what to do;
     `let_go` is how values go for good."""
@@ -94,3 +93,10 @@ def _shared(rival: Claim) -> str:
 def words_of(name: str) -> str:
     """The name of an attribute as a user writes it."""
     return name.replace("__", ".")
+
+
+def written(name: str, before: str) -> str:
+    """What was= says of what had another name: of a part of an embedded value that of the part, or
+    where the value has another name, that one."""
+    (front, _, _), (old, _, part) = name.rpartition("__"), before.rpartition("__")
+    return part if front == old else old.partition("__")[0] or part

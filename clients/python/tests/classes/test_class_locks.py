@@ -82,6 +82,17 @@ class Older(Locks):
         for text in (PERSON + mail, PERSON + MAIL):
             self.assertEqual(self.ask(text, "SELECT p.mail FROM Person p"), [None, "12"])
 
+    def test_a_renaming_that_is_taken_back_with_its_lock(self) -> None:
+        for text in (FAX.replace("fax", "phone").replace("= None", '= field(default=None, was="fax")'),
+                     FAX.replace("fax", "phone")):
+            self.open(PERSON + text).close()
+        self.lock.write_bytes(self.newest)
+        self.refuse(PERSON + FAX, f"Person.fax is number 1.2 in {self.lock}, and {self.db} has phone "
+                    "there", 'give it was="phone"')
+        again = FAX.replace("= None", '= field(default=None, was="phone")')
+        for text in (PERSON + again, PERSON + FAX):
+            self.assertEqual(self.ask(text, "SELECT p.fax FROM Person p"), [None, "12"])
+
     def test_what_is_let_go_is_not_what_another_lock_has_there(self) -> None:
         self.lock.write_bytes(self.older)
         self.db, kept = self.folder / "other.db", self.db
