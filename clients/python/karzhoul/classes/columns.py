@@ -110,10 +110,11 @@ def other_names(
     for each in places(model, lock):
         name = stored.get(each.row, each.name)
         if not each.is_of(name):
+            there = words_of(name)
             faults.append(
-                f"{each.said} is number {each.at} in {file}, and {store} has {words_of(name)} there: "
-                "the lock isn't the one that the store was last opened with. Take that one; or "
-                f"where {each.said} is to have what {words_of(name)} has, give it was=\"{written(each.name, name)}\""
+                f"{each.said} is number {each.at} in {file}, and {store} has {there} there: the lock "
+                "isn't the one that the store was last opened with. Take that one; or where "
+                f"{each.said} is to have what {there} has, give it was=\"{written(each.name, name)}\""
             )
         elif stored.get(each.row) == each.name and each.record.get("again"):
             was = written(each.name, each.record["says"])
