@@ -13,9 +13,8 @@
 from typing import TYPE_CHECKING
 
 from . import refusals
-from .classes.changes import NotBroughtOver
 from .classes.embedded import Embedded
-from .classes.faults import DeclarationError
+from .classes.faults import DeclarationError, NotBroughtOver
 from .classes.fields import (
     by_value, embedded, field, generated, json_text, key, many_to_many, many_to_one, money, naive,
     one_to_many, one_to_one, typed, validates, version,

@@ -13,13 +13,15 @@ from typing import TYPE_CHECKING, Any, Callable, Dict, Iterable, Iterator, List,
 from typing import NamedTuple, Optional, Sequence, Set, Tuple, Union
 
 from ..told import shown
-from ..refusals import Damaged, KarzhoulError, Refused
+from ..refusals import Damaged, Refused
 from ..wire.tally import LOGGER
 from . import lock as locks
 from .binding import Binding
+from .columns import DROPPED, Column, columns, other_names, places, stored_forms, unknown
 from .declared import Declared, Given, Member, Model, declared_by
+from .faults import NotBroughtOver
 from .fields import MISSING
-from .mapping import FORMS, gone_name, mapping_of
+from .mapping import FORMS, mapping_of
 from .types import StoredType, Unfit
 from .unique import Constraint, Uniques, doubles, keyless, linked, make_keys, sweep
 
@@ -34,21 +36,14 @@ _TOLD = 3
 _FEW, _AT_ONCE = 100, 5_000
 
 
-class NotBroughtOver(KarzhoulError, ValueError):
-    """A store that the classes don't fit any more; each of the `faults` says what stands in it, and
-    what to do. The store is as it was."""
-
-    def __init__(self, faults: List[str]) -> None:
-        super().__init__("\n".join(faults))
-        self.faults = tuple(faults)
-
-
 class Made(NamedTuple):
-    """What classes make: the model, its lock, the file of that, and the mapping."""
+    """What classes make: the model, its lock, the file of that with what it said before, and the
+    mapping."""
 
     model: Model
     lock: locks.Lock
     file: Optional[Path]
+    before: Optional[str]
     mapping: Dict[str, Any]
 
 
@@ -60,8 +55,9 @@ def make(
     given = given if isinstance(given, ModuleType) else list(given)
     model = declared_by(given)
     file = Path(lock) if lock is not None else _beside(given, model)
-    made = locks.locked(model, locks.empty() if is_anew else locks.read(file))
-    return Made(model, made, file, mapping_of(model, made))
+    before = locks.text_of(file)
+    made = locks.locked(model, locks.empty() if is_anew else locks.parsed(before, file))
+    return Made(model, made, file, before, mapping_of(model, made))
 
 
 def _beside(given: Given, model: Model) -> Optional[Path]:
@@ -73,30 +69,30 @@ def _beside(given: Given, model: Model) -> Optional[Path]:
 
 
 def open_classes(
-    given: Given, lock: Union[None, str, Path], is_in_memory: bool, start: Start
+    given: Given, lock: Union[None, str, Path], db: Optional[Path], start: Start
 ) -> EntityManagerFactory:
     """Opens a store with classes by what starts a program over a mapping, and writes their lock. A
-    store in memory, which goes with the factory, leaves the lock as it is."""
+    store in memory, which goes with the factory, or of a server leaves the lock as it is."""
     made = make(given, lock)
-    if made.file is None and not is_in_memory:
+    if made.file is None and db is not None:
         raise ValueError(
             f"the classes are in no file, beside which {locks.NAME} would be: say where it is to "
             "be, as lock=\"karzhoul.lock.json\""
         )
     uniques = Uniques(made.model, made.lock)
-    app = _opened(made, uniques, None if is_in_memory else made.file, start)
+    app = _opened(made, uniques, db, start)
     app.bind(uniques if uniques.all else None)
     return app
 
 
 def _opened(
-    made: Made, uniques: Uniques, file: Optional[Path], start: Start
+    made: Made, uniques: Uniques, db: Optional[Path], start: Start
 ) -> EntityManagerFactory:
-    """A factory over a store that is as the classes say, with the file of their lock."""
+    """A factory over a store that is as the classes say, whose lock is written."""
     binding = Binding(made.model)
-    app, is_soft = _started(made, binding, start)
+    app, is_soft = _started(made, binding, db, start)
     try:
-        unmade = _bring_over(app, made, uniques, file, is_soft)
+        unmade = _bring_over(app, made, uniques, db, is_soft)
         if is_soft:
             app.close()
             app = start(made.mapping, binding)
@@ -110,7 +106,7 @@ def _opened(
 
 
 def _started(
-    made: Made, binding: Binding, start: Start
+    made: Made, binding: Binding, db: Optional[Path], start: Start
 ) -> Tuple[EntityManagerFactory, bool]:
     """A factory over the store, and whether it lets what is required be null: so it does where
     objects of before have nothing there."""
@@ -119,8 +115,11 @@ def _started(
     except Damaged as damaged:
         try:
             return start(mapping_of(made.model, made.lock, is_soft=True), None), True
-        except Damaged:
-            raise damaged from None  # It is none of these classes, whatever may be null.
+        except Damaged:  # It is none of these classes, whatever may be null.
+            stored = stored_forms(db) if db is not None else {}
+            words = stored, str(made.file), str(db)
+            faults = unknown(made.lock, *words) + other_names(made.model, made.lock, *words)
+            raise (NotBroughtOver(faults) if faults else damaged) from None
 
 
 def settle(app: EntityManagerFactory, made: Made) -> None:
@@ -134,7 +133,7 @@ def settle(app: EntityManagerFactory, made: Made) -> None:
 
 
 def _bring_over(
-    app: EntityManagerFactory, made: Made, uniques: Uniques, file: Optional[Path],
+    app: EntityManagerFactory, made: Made, uniques: Uniques, db: Optional[Path],
     is_soft: bool = False,
 ) -> List[Constraint]:
     """Has a store be as the classes say, all of it in one commit before which all is judged, and
@@ -142,25 +141,29 @@ def _bring_over(
 
     The lock is written right before that commit: a kill between the two leaves numbers that no row
     has yet, and never a row with a number that could be given to something else."""
-    before = locks.text_of(file)
+    file = made.file if db is not None else None
+    lock = locks.finished(made.lock)
     try:
         with app.begin() as manager:
-            unmade = _changed(app, manager, made, uniques, is_soft)
+            unmade = _changed(app, manager, made, uniques, db, is_soft)
             if file is not None:
-                locks.write(file, locks.finished(made.lock))
+                locks.write(file, lock, made.before)
     except Refused:  # Nothing of it is stored.
-        locks.put_back(file, before)
+        if file is not None:
+            locks.put_back(file, lock, made.before)
         raise
     return unmade
 
 
 def _changed(
-    app: EntityManagerFactory, manager: EntityManager, made: Made, uniques: Uniques, is_soft: bool
+    app: EntityManagerFactory, manager: EntityManager, made: Made, uniques: Uniques,
+    db: Optional[Path], is_soft: bool,
 ) -> List[Constraint]:
     """Has each column be in the form that its class says, and what is required be there; and what
     is unique whose keys are to be made."""
-    faults: List[str] = []
     stored: Dict[str, str] = {at: form for at, form in manager.query(_FORMS_OF)}
+    _say_names(app, manager, made, stored, db)
+    faults: List[str] = []
     unfit = _bring_forms(app, manager, made, stored, faults)
     filled = _fill_required(app, manager, made, faults) if is_soft else set()
     filled |= _fill_parts(app, manager, made, faults)
@@ -171,16 +174,31 @@ def _changed(
         # What was stored by the mapping alone, as by a load, has no key. And where the making of
         # keys was stopped, some have keys that the store doesn't speak of.
         odd = manager.query(keyless(each) if is_on else linked(each), max=1)
-        if before == (each.form if is_on else _DROPPED) and not (names & filled or odd):
+        if before == (each.form if is_on else DROPPED) and not (names & filled or odd):
             continue
         if is_on and not names & unfit:
             faults += doubles(manager, each)
         manager.execute_update(f"UPDATE {each.entity} e SET e.{each.link} = NULL")
-        _say_form(app, manager, each.at, _DROPPED, is_new=before is None)
+        _say_form(app, manager, each.at, DROPPED, is_new=before is None)
         unmade += [each] if is_on else []
     if faults:
         raise NotBroughtOver(faults)
     return unmade
+
+
+def _say_names(
+    app: EntityManagerFactory, manager: EntityManager, made: Made, stored: Mapping[str, str],
+    db: Optional[Path],
+) -> None:
+    """Has the store say the name of each number; a `NotBroughtOver` where one is another's, by which
+    nothing can be told of its values."""
+    store = str(db or "the store")
+    faults = other_names(made.model, made.lock, stored, str(made.file or "the lock"), store)
+    if faults:
+        raise NotBroughtOver(faults)
+    for each in places(made.model, made.lock):
+        if stored.get(each.row) != each.name:
+            _say_form(app, manager, each.row, each.name, is_new=each.row not in stored)
 
 
 # ---- what is required now
@@ -306,43 +324,6 @@ def _needed(whole: Member, default: Any = MISSING) -> Iterator[Member]:
 # ---- the forms of columns
 
 
-class _Column(NamedTuple):
-    """A column or a list, with the form that it is to have: `link`, `list`, `dropped`, or that of a
-    type."""
-
-    at: str
-    """The name that a store has it by: its table and its number, of a list the number of its own.
-    """
-    entity: Declared
-    name: str
-    form: str
-    type: Optional[StoredType] = None
-    was: str = ""
-    """What it was called, where its class has it no more."""
-
-
-_DROPPED = "dropped"
-
-
-def _columns(made: Made) -> Iterator[_Column]:
-    for entity in made.model.values():
-        record = made.lock["entities"][entity.name]
-        table = made.lock["entities"][locks.root_of(made.lock, entity.name)]["table"]
-        for name, stored in record["members"].items():
-            kind = entity.members[name].type
-            form = "list" if "table" in stored else "link" if kind is None else kind.form
-            yield _Column(_at(table, stored), entity, name, form, kind)
-        for each in record.get("gone", ()):
-            if each.get("cleared"):
-                yield _Column(
-                    _at(table, each), entity, gone_name(each), _DROPPED, was=str(each["name"])
-                )
-
-
-def _at(table: int, stored: locks.Record) -> str:
-    return str(stored["table"]) if "table" in stored else f"{table}.{stored['column']}"
-
-
 def _bring_forms(
     app: EntityManagerFactory, manager: EntityManager, made: Made, stored: Mapping[str, str],
     faults: List[str],
@@ -350,17 +331,17 @@ def _bring_forms(
     """Brings the columns whose stored form is another one over to that of their class, and answers
     the names of those that can't be; one more of the faults says of each why."""
     unfit: Set[str] = set()
-    for column in _columns(made):
+    for column in columns(made.model, made.lock):
         before, form = stored.get(column.at), column.form
         if before == form:
             continue
         try:
-            if before not in (None, _DROPPED):
+            if before not in (None, DROPPED):
                 told = f"{column.entity.name}.{column.was or column.name}"
                 LOGGER.info("%s: what is stored as %s becomes %s", told, before, form)
-            if form == _DROPPED:
+            if form == DROPPED:
                 _let_go(app, manager, column)
-            elif before not in (None, _DROPPED):
+            elif before not in (None, DROPPED):
                 _bring(manager, column, str(before))
         except Unfit as why:
             unfit.add(column.name)
@@ -391,7 +372,7 @@ def _make_keys(app: EntityManagerFactory, uniques: Uniques, unmade: List[Constra
         sweep(app, uniques)
 
 
-def _let_go(app: EntityManagerFactory, manager: EntityManager, column: _Column) -> None:
+def _let_go(app: EntityManagerFactory, manager: EntityManager, column: Column) -> None:
     """Lets the values of a column go, or the members of a list."""
     name, path = column.entity.name, f"e.{column.name}"
     if "." in column.at:
@@ -412,7 +393,7 @@ _OTHER = (
 )
 
 
-def _bring(manager: Any, column: _Column, before: str) -> None:
+def _bring(manager: Any, column: Column, before: str) -> None:
     """Brings a column over to the form of its attribute; `Unfit` says what is in the way."""
     old, new = scale_of(before), scale_of(column.form)
     if old is not None and new is not None:
@@ -429,7 +410,7 @@ def scale_of(form: str) -> Optional[int]:
     return 0 if form == "int" else int(found[1]) if found else None
 
 
-def _rescale(manager: Any, column: _Column, old: int, new: int) -> None:
+def _rescale(manager: Any, column: Column, old: int, new: int) -> None:
     """Has whole units be those of another scale, where all of them are whole there."""
     name, path, by = column.entity.name, f"e.{column.name}", 10 ** abs(new - old)
     if new < old:
@@ -450,7 +431,7 @@ def _rescale(manager: Any, column: _Column, old: int, new: int) -> None:
     manager.execute_update(f"UPDATE {name} e SET {path} = {path} * {by}")
 
 
-def _divide(manager: Any, column: _Column, by: int) -> None:
+def _divide(manager: Any, column: Column, by: int) -> None:
     # Queries have no division: each value that there is, once.
     name, path = column.entity.name, f"e.{column.name}"
     conversions, manager.factory.conversions = manager.factory.conversions, None
@@ -470,7 +451,7 @@ def _divide(manager: Any, column: _Column, by: int) -> None:
         manager.factory.conversions = conversions
 
 
-def _divide_each(manager: Any, column: _Column, by: int, where: str) -> None:
+def _divide_each(manager: Any, column: Column, by: int, where: str) -> None:
     """The same of each object by itself, where an UPDATE for each value would look at all of them
     too often; their versions stay, as an UPDATE leaves them."""
     entity = column.entity
@@ -502,7 +483,7 @@ def may_become(before: str, form: str) -> bool:
     return before == "int" and own[1] in ("bool", "enum", "typed")
 
 
-def _check_values(manager: Any, column: _Column, kind: StoredType) -> None:
+def _check_values(manager: Any, column: Column, kind: StoredType) -> None:
     """Each value that is stored is one of the type; else `Unfit` names one that isn't."""
     entity, path = column.entity, f"e.{column.name}"
     conversions, manager.factory.conversions = manager.factory.conversions, None

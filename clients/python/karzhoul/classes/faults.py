@@ -20,6 +20,15 @@ class DeclarationError(KarzhoulError, TypeError):
         self.faults = tuple(faults)
 
 
+class NotBroughtOver(KarzhoulError, ValueError):
+    """A store that the classes don't fit any more; each of the `faults` says what stands in it, and
+    what to do. The store is as it was."""
+
+    def __init__(self, faults: Sequence[str]) -> None:
+        super().__init__("\n".join(faults))
+        self.faults = tuple(faults)
+
+
 class Faults:
     """What is found to be wrong, all of which is told together."""
 

@@ -4,13 +4,16 @@ the classes: each keeps its number for ever, also once its class has it no more.
 from __future__ import annotations
 
 import copy
+import fcntl
 import json
 import os
+from contextlib import contextmanager, suppress
 from pathlib import Path
 from typing import Any, Dict, Iterator, List, Optional, Tuple
 
 from .declared import TO_MANY, Declared, Member, Model
-from .faults import Faults
+from .faults import Faults, NotBroughtOver
+from .renaming import Claim, refuse, words_of, written
 
 NAME = "karzhoul.lock.json"
 FORMAT = 1
@@ -26,11 +29,17 @@ def empty() -> Lock:
 
 
 def read(file: Optional[Path]) -> Lock:
-    """The lock of a file, an empty one where there is none; a `ValueError` where it is no lock."""
-    if file is None or not file.exists():
+    """The lock of a file, as `parsed` says."""
+    return parsed(text_of(file), file)
+
+
+def parsed(text: Optional[str], file: Optional[Path]) -> Lock:
+    """The lock that a file says, an empty one where there is none; a `ValueError` where it is no
+    lock."""
+    if text is None or file is None:
         return empty()
     try:
-        said = json.loads(file.read_text(encoding="utf-8"))
+        said = json.loads(text)
     except ValueError as fault:
         raise ValueError(f"{file} is no lock: {fault}") from None
     if not isinstance(said, dict) or said.get("lock") != FORMAT:
@@ -68,22 +77,55 @@ def _stored(record: Record) -> Iterator[Tuple[str, Record]]:
         yield f"unique {', '.join(each['of'])}", each
 
 
-def write(file: Path, lock: Lock) -> None:
-    """Writes a lock where it is another one than the file's, by one rename."""
-    _put(file, json.dumps(lock, indent=1, ensure_ascii=False) + "\n")
+def write_anew(file: Path, lock: Lock) -> None:
+    """Writes a lock, whatever the file said before, by one rename."""
+    _put(file, _text(lock))
+
+
+def write(file: Path, lock: Lock, before: Optional[str]) -> None:
+    """Writes a lock in the place of the one that it was made of; a `NotBroughtOver` where another
+    opening wrote that meanwhile, which may have given the same numbers to others."""
+    said = _text(lock)
+    if said == before:
+        return
+    with _held(file):
+        if text_of(file) not in (before, said):
+            raise NotBroughtOver([f"{file} was written by another opening meanwhile, whose numbers "
+                                  "this one doesn't know: open again"])
+        _put(file, said)
+
+
+def put_back(file: Path, lock: Lock, before: Optional[str]) -> None:
+    """Has a file that `write` wrote say again what it said before, or be gone where it wasn't
+    there."""
+    with _held(file):
+        if text_of(file) != _text(lock):
+            return
+        if before is None:
+            file.unlink()
+        else:
+            _put(file, before)
 
 
 def text_of(file: Optional[Path]) -> Optional[str]:
-    """What a file says, which `put_back` takes; None where there is none."""
+    """What a file says; None where there is none."""
     return file.read_text(encoding="utf-8") if file is not None and file.exists() else None
 
 
-def put_back(file: Optional[Path], said: Optional[str]) -> None:
-    """Has a file say again what it said before, or be gone where it wasn't there."""
-    if file is not None and said is not None:
-        _put(file, said)
-    elif file is not None:
-        file.unlink(missing_ok=True)
+def _text(lock: Lock) -> str:
+    return json.dumps(lock, indent=1, ensure_ascii=False) + "\n"
+
+
+@contextmanager
+def _held(file: Path) -> Iterator[None]:
+    """Has no other process, nor thread, write the locks of a folder."""
+    folder = os.open(file.parent, os.O_RDONLY)
+    try:
+        with suppress(OSError):  # Not each file system has locks.
+            fcntl.flock(folder, fcntl.LOCK_EX)
+        yield
+    finally:
+        os.close(folder)
 
 
 def _put(file: Path, said: str) -> None:
@@ -113,28 +155,33 @@ def locked(model: Model, before: Lock) -> Lock:
     must be said, and how."""
     faults = Faults()
     lock = copy.deepcopy(before)
-    _rename_entities(model, lock, faults)
+    told = _rename_entities(model, lock, faults)
     faults.tell()
+    numbers = _Numbers(lock)
     for entity in model.values():
-        _lock_entity(model, lock, entity, faults)
+        _lock_entity(lock, entity, told[entity.name], numbers, faults)
     faults.tell()
-    taken: Dict[str, List[Record]] = {}
+    left = {entity.name: _leave(lock, entity) for entity in model.values()}
     for entity in model.values():
-        taken[entity.name] = _leave(lock, entity)
+        claims = _claims(lock, entity, left)
+        _refuse(entity, claims, left[entity.name], faults)
+        made: Dict[str, Record] = {}
+        for name, claim in claims.items():
+            member = entity.members[name]
+            if claim.record is None:
+                _refuse_new(entity, member, claim, left[entity.name], faults)
+            made[name] = _lock_member(entity, member, claim, numbers, faults)
+        record = lock["entities"][entity.name]
+        record["members"] = {name: made[name] for name in [*record["members"], *made]}
     for entity in model.values():
-        _refuse_swaps(entity, faults)
-        for member in entity.members.values():
-            _lock_member(lock, entity, member, taken, faults)
-    for entity in model.values():
-        left = taken[entity.name]
-        for each in left:
+        for each in left[entity.name]:
             if _is_dropped(each["name"], entity):
                 each["cleared"] = True
-        if left:
-            lock["entities"][entity.name]["gone"] = sorted(left, key=lambda it: str(it["name"]))
+        if gone := left[entity.name]:
+            lock["entities"][entity.name]["gone"] = sorted(gone, key=lambda it: str(it["name"]))
     faults.tell()
     for entity in model.values():
-        _lock_unique(model, lock, entity)
+        _lock_unique(model, lock, entity, numbers)
     for name, record in lock["entities"].items():
         record.pop("dropped", None)
         if name not in model:
@@ -151,32 +198,43 @@ def _is_dropped(name: str, entity: Declared) -> bool:
 # ---- entities
 
 
-def _rename_entities(model: Model, lock: Lock, faults: Faults) -> None:
+def _rename_entities(model: Model, lock: Lock, faults: Faults) -> Dict[str, Record]:
+    """Has what a lock has be of the names that classes have now, and answers what it is to know of
+    these."""
     records: Dict[str, Record] = lock["entities"]
-    lost = {name for name in records if name not in model and not records[name].get("dropped")}
-    for entity in model.values():
-        if entity.name in records:
-            continue
-        if entity.was and entity.was in records and entity.was not in model:
-            _rename(lock, entity.was, entity.name)
-            lost.discard(entity.was)
-        elif entity.was is None and (near := _like(records, lost, entity)):
-            faults.add(
-                entity.kind, None, f"is new and has the attributes of {near}, which is gone: where "
-                f"it is renamed write class {entity.name}(.., was=\"{near}\"), else was=\"\"",
-            )
-
-
-def _rename(lock: Lock, old: str, new: str) -> None:
-    lock["entities"] = {
-        new if name == old else name: record for name, record in lock["entities"].items()
+    claims = [
+        Claim(it.name, it.was or "", records.get(it.name), records.get(it.was or ""))
+        for it in model.values()
+    ]
+    refuse(claims, lambda name, why: faults.add(model[name].kind, None, why))
+    now = {id(it.record): it for it in claims if it.record is not None}
+    lost = {name for name, record in records.items()
+            if id(record) not in now and not record.get("dropped")}
+    for claim in claims:
+        entity = model[claim.name]
+        near = _like(records, lost, entity) if claim.record is None and entity.was != "" else ""
+        if near:
+            faults.add(entity.kind, None, f"{_new(claim)} and has the attributes of {near}, which "
+                       f"is gone: where it is renamed write class {entity.name}(.., was=\"{near}\")"
+                       ", else was=\"\"")
+    names = {
+        old: now[id(record)].name if id(record) in now else old for old, record in records.items()
     }
-    for record in lock["entities"].values():
-        if record.get("extends") == old:
-            record["extends"] = new
-        for _, stored in _stored(record):
-            if stored.get("target") == old:
-                stored["target"] = new
+    lock["entities"] = {names[old]: _renamed(it, names) for old, it in records.items()}
+    return {it.name: it.remembered() for it in claims}
+
+
+def _new(claim: Claim) -> str:
+    return f"is new (the lock has no {words_of(claim.was)})" if claim.was else "is new"
+
+
+def _renamed(record: Record, names: Dict[str, str]) -> Record:
+    """A record that leads to others by the names that they have now."""
+    for each in [record, *(it for _, it in _stored(record))]:
+        for word in ("extends", "target"):
+            if word in each:
+                each[word] = names[each[word]]
+    return record
 
 
 def _like(records: Dict[str, Record], lost: "set[str]", entity: Declared) -> str:
@@ -189,16 +247,18 @@ def _like(records: Dict[str, Record], lost: "set[str]", entity: Declared) -> str
     return ""
 
 
-def _lock_entity(model: Model, lock: Lock, entity: Declared, faults: Faults) -> None:
+def _lock_entity(
+    lock: Lock, entity: Declared, told: Record, numbers: _Numbers, faults: Faults
+) -> None:
     record = lock["entities"].get(entity.name)
     key = entity.key()
     version = next(iter(entity.of("version")), None)
     if record is None:
-        place: Record = {"extends": entity.parent} if entity.parent else {"table": _table(lock)}
+        place: Record = {"extends": entity.parent} if entity.parent else {"table": numbers.table()}
         record = {"mark": _mark(lock, entity.name), **place, "members": {}}
         lock["entities"][entity.name] = record
         if version is not None:
-            record["version"] = _column(lock, entity.name)
+            record["version"] = numbers.column(entity.name)
     elif record.get("extends") != entity.parent:
         faults.add(entity.kind, None, f"extended {record.get('extends', 'Entity')} before, and "
                    f"extends {entity.parent or 'Entity'} now: its rows are of a table for good. "
@@ -208,6 +268,9 @@ def _lock_entity(model: Model, lock: Lock, entity: Declared, faults: Faults) -> 
         faults.add(entity.kind, None, "has a version where it had none, or none where it had one: "
                    "an entity keeps that for good. Take the change back, or bring the store over by "
                    "karzhoul migrate (docs/OPERATING.md)")
+    if "says" not in told:
+        record.pop("says", None)
+    record.update(told)
     if key:
         kinds = [part.type for part in key if part.type is not None]
         said = {"form": ", ".join(it.form for it in kinds),
@@ -232,28 +295,35 @@ def _mark(lock: Lock, name: str) -> str:
     return name
 
 
-def _table(lock: Lock) -> int:
-    tables = [record["table"] for record in lock["entities"].values() if "table" in record]
-    for record in lock["entities"].values():
-        tables += [each["table"] for _, each in _stored(record) if "table" in each]
-    return max(tables, default=0) + 1
+class _Numbers:
+    """The numbers that are free in a lock: none of them is one that it had as it was read."""
 
+    def __init__(self, lock: Lock) -> None:
+        self._lock, self._table = lock, 0
+        self._columns: Dict[str, int] = {}
+        for name, record in lock["entities"].items():
+            told = [record, *(it for _, it in _stored(record))]
+            self._table = max(self._table, *(it.get("table", 0) for it in told))
+            columns = [record.get("version", 0), *(it.get("column", 0) for it in told)]
+            top = root_of(lock, name)
+            self._columns[top] = max(self._columns.get(top, 0), *columns)
 
-def _column(lock: Lock, name: str) -> int:
-    """The next column of a hierarchy."""
-    top, columns = root_of(lock, name), [0]
-    for each, record in lock["entities"].items():
-        if root_of(lock, each) == top:
-            columns += [it["column"] for _, it in _stored(record) if "column" in it]
-            columns += [record.get("version", 0)]
-            columns += record.get("held", [])
-    return max(columns) + 1
+    def table(self) -> int:
+        """The next table."""
+        self._table += 1
+        return self._table
+
+    def column(self, name: str) -> int:
+        """The next column of the hierarchy that an entity is of."""
+        top = root_of(self._lock, name)
+        self._columns[top] = self._columns.get(top, 0) + 1
+        return self._columns[top]
 
 
 # ---- what is unique
 
 
-def _lock_unique(model: Model, lock: Lock, entity: Declared) -> None:
+def _lock_unique(model: Model, lock: Lock, entity: Declared, numbers: _Numbers) -> None:
     """The link of each list of unique attributes to its keys, by the columns of these, which stay
     where an attribute is renamed. One that isn't unique any more keeps its number."""
     record = lock["entities"][entity.name]
@@ -263,7 +333,7 @@ def _lock_unique(model: Model, lock: Lock, entity: Declared) -> None:
     for names in entity.unique:
         columns = ",".join(_place_of(model, lock, entity, name) for name in names)
         if columns not in known:
-            known[columns] = {"column": _column(lock, entity.name)}
+            known[columns] = {"column": numbers.column(entity.name)}
         known[columns] = {"column": known[columns]["column"], "of": list(names)}
     if not known:
         del record["unique"]
@@ -302,44 +372,73 @@ def _leave(lock: Lock, entity: Declared) -> List[Record]:
     """Takes what the class has no more out of its record, and answers that."""
     record = lock["entities"][entity.name]
     left: List[Record] = list(record.pop("gone", []))
-    for name in [name for name in record["members"] if name not in entity.members]:
+    stored = {name for name, member in entity.members.items() if is_stored(member)}
+    for name in [name for name in record["members"] if name not in stored]:
         left.append({"name": name, **record["members"].pop(name), "now": True})
-    # Their numbers are theirs while others are given.
-    record["held"] = [each["column"] for each in left if "column" in each]
     return left
 
 
-def _refuse_swaps(entity: Declared, faults: Faults) -> None:
-    """Two attributes of which each was the other keep their numbers, so this would change nothing."""
+def _claims(lock: Lock, entity: Declared, left: Dict[str, List[Record]]) -> Dict[str, Claim]:
+    """What the stored members of a class go on with: what the class has or had, or what another
+    class of its hierarchy has no more. That is left by it then."""
+    found: Dict[str, Claim] = {}
+    for member in filter(is_stored, entity.members.values()):
+        was = member.field.was if member.field.was != member.name else None
+        own, other = (_own(lock, entity, left, name) for name in (member.name, was or ""))
+        other = other or _of_others(lock, entity, left, was or "")
+        own = own or (_of_others(lock, entity, left, member.name) if other is None else None)
+        found[member.name] = Claim(member.name, was or "", own, other)
+    claimed = {id(it.record) for it in found.values()}
+    for gone in left.values():
+        gone[:] = [each for each in gone if id(each) not in claimed]
+    return found
+
+
+def _own(
+    lock: Lock, entity: Declared, left: Dict[str, List[Record]], name: str
+) -> Optional[Record]:
+    """What a class has, or had, by a name."""
+    known: Optional[Record] = lock["entities"][entity.name]["members"].get(name)
+    return known or next((it for it in left[entity.name] if it["name"] == name), None)
+
+
+def _of_others(
+    lock: Lock, entity: Declared, left: Dict[str, List[Record]], name: str
+) -> Optional[Record]:
+    """What another class of the hierarchy has no more by a name."""
+    top = root_of(lock, entity.name)
+    return next((
+        each for where, gone in left.items() if root_of(lock, where) == top
+        for each in gone if each["name"] == name and each.get("now")
+    ), None)
+
+
+def _refuse(
+    entity: Declared, claims: Dict[str, Claim], left: List[Record], faults: Faults
+) -> None:
+    """Refuses each was= that isn't carried out."""
+    gone = {each["name"] for each in left if each.get("now")}
     for member in entity.members.values():
-        other = entity.members.get(member.field.was or "")
-        if other is not None and other is not member and other.field.was == member.name:
-            faults.add(member.writer, member.said, f"and {_words_of(other.name)} can't change their "
-                       "names with each other at one time: rename one of them to a third name, open "
-                       "the store, and then go on")
+        if member.kind is None and not is_stored(member) and member.field.was in gone:
+            faults.add(member.writer, member.said, f"has was=\"{member.field.was}\", and isn't "
+                       "stored as that was: take was= away; what is stored there stays so")
+
+    def add(name: str, why: str) -> None:
+        member = entity.members[name]
+        faults.add(member.writer, member.said, why)
+
+    refuse(list(claims.values()), add, ", or let it go, by an opening before without {name} "
+           "and with dropped=(\"{name}\",) behind the class's base")
 
 
 def _lock_member(
-    lock: Lock, entity: Declared, member: Member, left: Dict[str, List[Record]], faults: Faults
-) -> None:
-    if not is_stored(member):
-        return
-    record, said = lock["entities"][entity.name], _said(member)
-    known = record["members"].get(member.name) or _found(lock, entity, member, left)
+    entity: Declared, member: Member, claim: Claim, numbers: _Numbers, faults: Faults
+) -> Record:
+    said, known = _said(member), claim.record
     if known is None:
-        lost = [each["name"] for each in left[entity.name] if each.get("now") and
-                each.get("type") == said.get("type") and each.get("target") == said.get("target")
-                and not _is_dropped(each["name"], entity)]
-        if lost and member.field.was is None:
-            before = _before(member.name, lost)
-            faults.add(member.writer, member.said, f"is new, and {_words_of(before)} is gone: "
-                       f"where it is renamed write was=\"{_was(member.name, before)}\" in its "
-                       "word, and where not, was=\"\" there; the values of "
-                       f"{_words_of(before)} stay in the store")
-        number = {"table": _table(lock)} if said.get("many") else {
-            "column": _column(lock, entity.name)}
-        record["members"][member.name] = {**number, **said}
-        return
+        number = {"table": numbers.table()} if said.get("many") else {
+            "column": numbers.column(entity.name)}
+        return {**number, **said, **claim.remembered()}
     if known.get("type") != said.get("type") or known.get("many") != said.get("many"):
         faults.add(member.writer, member.said, f"is stored as {_words(said)}, and was stored as "
                    f"{_words(known)}: give the new one another name, with was=\"\", and fill it "
@@ -348,12 +447,26 @@ def _lock_member(
         faults.add(member.writer, member.name, f"leads to {said['target']}, and led to "
                    f"{known['target']}: give the new one another name, with was=\"\"")
     kept = {name: known[name] for name in ("table", "column") if name in known}
-    record["members"][member.name] = {**kept, **said}
+    return {**kept, **said, **claim.remembered()}
 
 
-def _words_of(name: str) -> str:
-    """The name of a member as a user writes it."""
-    return name.replace("__", ".")
+def _refuse_new(
+    entity: Declared, member: Member, claim: Claim, left: List[Record], faults: Faults
+) -> None:
+    """Asks of a member that is new whether it is what the class has no more, which nobody says."""
+    said = _said(member)
+    gone = [each for each in left if each.get("now") and not _is_dropped(each["name"], entity)]
+    lost = [each["name"] for each in gone if each.get("type") == said.get("type") and
+            each.get("target") == said.get("target")]
+    if claim.was and not member.path:
+        lost += [each["name"] for each in gone]
+    if lost and member.field.was != "":
+        name = claim.was or member.name
+        before = _before(name, lost)
+        faults.add(member.writer, member.said, f"{_new(claim)}, and {words_of(before)} is gone: "
+                   f"where it is renamed write was=\"{written(name, before)}\" in its "
+                   "word, and where not, was=\"\" there; the values of "
+                   f"{words_of(before)} stay in the store")
 
 
 def _before(name: str, lost: List[str]) -> str:
@@ -365,40 +478,15 @@ def _before(name: str, lost: List[str]) -> str:
     return [*same, *beside, *lost][0]
 
 
-def _was(name: str, before: str) -> str:
-    """What was= says: where an embedded value has another name, the one that it had."""
-    (front, _, _), (old, _, part) = name.rpartition("__"), before.rpartition("__")
-    return part if front == old else old.partition("__")[0] or part
-
-
 def _words(said: Record) -> str:
     return str(said.get("form") or ("a list" if said.get("many") else "a link"))
-
-
-def _found(
-    lock: Lock, entity: Declared, member: Member, left: Dict[str, List[Record]]
-) -> Optional[Record]:
-    """What a member was before: of another name, of another class of its hierarchy, or of a time
-    when its class had it."""
-    top = root_of(lock, entity.name)
-    names = [name for name in (member.name, member.field.was) if name]
-    own = [entity.name, *(name for name in left if root_of(lock, name) == top)]
-    for name in names:
-        for where in own:
-            for each in left[where]:
-                if each["name"] == name and (where == entity.name or each.get("now")):
-                    left[where].remove(each)
-                    return each
-    return None
 
 
 def finished(lock: Lock) -> Lock:
     """A lock as it is written."""
     made = copy.deepcopy(lock)
     for record in made["entities"].values():
-        record.pop("held", None)
-        for each in record.get("gone", ()):
+        for each in [record, *(it for _, it in _stored(record))]:
+            each.pop("again", None)
             each.pop("now", None)
     return made
-
-

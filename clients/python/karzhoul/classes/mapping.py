@@ -27,7 +27,8 @@ def mapping_of(model: Model, lock: Lock, is_soft: bool = False) -> Dict[str, Any
 
     What a class has no more stays in it, by a name of no attribute, so that its values stay in the
     store. So do classes that are gone, where rows of a class or links lead to them, or where they
-    lead to others: else that could be removed, and the class couldn't come back.
+    lead to others: else that could be removed, and the class couldn't come back. And so do those
+    with generated keys, of which the store has the next number.
     """
     hidden = _hidden_entities(model, lock)
     entities = [_entity(model[name], lock, is_soft) for name in model]
@@ -42,7 +43,8 @@ def _hidden_entities(model: Model, lock: Lock) -> List[str]:
     found: Dict[str, None] = dict.fromkeys(model)
     found.update(dict.fromkeys(
         name for name, record in records.items()
-        if any(map(_is_link, [*record["members"].values(), *record.get("gone", ())]))
+        if record.get("key", {}).get("generated")
+        or any(map(_is_link, [*record["members"].values(), *record.get("gone", ())]))
     ))
     size = -1
     while size != len(found):

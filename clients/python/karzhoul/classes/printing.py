@@ -56,5 +56,5 @@ def run(said: argparse.Namespace) -> int:
     else:
         sys.stdout.write(text)
     if made.file is not None:
-        locks.write(made.file, locks.finished(made.lock))
+        locks.write(made.file, locks.finished(made.lock), made.before)
     return 0

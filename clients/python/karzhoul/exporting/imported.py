@@ -104,7 +104,7 @@ class _Import:
             put_new(self._new, self._db)
             made = self._side.made
             if lock is not None and made is not None and made.file is not None:
-                locks.write(made.file, locks.read(lock))
+                locks.write(made.file, locks.read(lock), made.before)
         except Damaged as damaged:
             return stopped([f"the tables are no store of the mapping: {damaged}"],
                            f"{self._db} was not made")
@@ -118,7 +118,7 @@ class _Import:
         if self._side.made is None:
             return None
         lock = self._folder / locks.NAME
-        locks.write(lock, locks.finished(self._side.made.lock))
+        locks.write_anew(lock, locks.finished(self._side.made.lock))
         return lock
 
     def _written(self) -> Optional[Dict[str, int]]:

@@ -68,7 +68,7 @@ class Places:
         self.folder.mkdir()
         self.new.touch()
         if lock is not None:
-            locks.write(self.new_lock, locks.finished(lock))
+            locks.write_anew(self.new_lock, locks.finished(lock))
         self._begun.touch()
 
     # ---- the end
@@ -94,7 +94,7 @@ class Places:
         if self._old.exists():
             self._keep()
         if self._lock is not None and self.new_lock.exists():
-            locks.write(self._lock, locks.read(self.new_lock))
+            locks.write_anew(self._lock, locks.read(self.new_lock))
         for each in self.folder.iterdir():
             if each != self._begun:
                 each.unlink()

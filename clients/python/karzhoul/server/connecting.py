@@ -337,7 +337,7 @@ def connect(
         raise TypeError("classes are given in a list, or as their module")
     from ..classes.changes import open_classes
 
-    return open_classes(classes, lock, True, start)
+    return open_classes(classes, lock, None, start)
 
 
 def _again_of(app: EntityManagerFactory) -> Program:

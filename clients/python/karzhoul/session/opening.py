@@ -72,7 +72,8 @@ def open(
                 said, db, program, echo, threads, wait, language or "wide", named, binding
             )
 
-        return open_classes(mapping, lock, db is None, start)  # type: ignore[arg-type]
+        file = None if db is None else Path(os.fsdecode(db))
+        return open_classes(mapping, lock, file, start)  # type: ignore[arg-type]
     check_no_lock(lock)
     said: Union[Words, Mapping[str, Any]] = mapping  # type: ignore[assignment]
     return _opened(said, db, program, echo, threads, wait, language or "profile", indexes)

@@ -126,9 +126,12 @@ class Changed(ClassesTest):
     def test_names_that_are_swapped(self) -> None:
         changes = ("name: str", 'name: str = field(was="fax")',
                    "fax: str | None = None", 'fax: str | None = field(default=None, was="name")')
-        with self.assertRaisesRegex(DeclarationError, "name and fax can't change their names with each other"):
-            self.changed(*changes)
-        self.assertEqual(self.lock.read_text(), self.before)
+        self.refused(NotBroughtOver, "Member.name may not be None, and is in 1 stored: Company id=2",
+                     *changes)
+        changes = (changes[0], changes[1].replace("was", 'default="-", was'), *changes[2:])
+        for _ in range(2):
+            self.assertEqual(self.told("SELECT m.name, m.fax FROM Member m", *changes),
+                             [["12", "Ada"], ["-", "Firm"]])
 
     def test_a_renamed_link(self) -> None:
         change = ("member: Member = many_to_one()", 'by: Member = many_to_one(was="member")')
