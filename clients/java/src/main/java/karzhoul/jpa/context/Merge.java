@@ -46,13 +46,13 @@ final class Merge {
     /** Detached proxies that nobody has read, with what was written to their fields. */
     private final Map<Object, Written> unread = new IdentityHashMap<>();
     private final MergedKeys mergedKeys;
-    private final JoinedOrphans orphans;
+    private final MergedOrphans orphans;
 
     Merge(Context context) {
         this.context = context;
         queue = context.queue();
         mergedKeys = new MergedKeys(context, sources, images, imagesByInstance);
-        orphans = new JoinedOrphans(context);
+        orphans = new MergedOrphans(context);
     }
 
     /** The managed instance onto which this one was copied. */
@@ -373,7 +373,7 @@ final class Merge {
         Reply reply = context.ask(from)[0];
         readBack(reply.events(), reply.number());
         push.unfit().forEach(this::giveUnfit);
-        orphans.remove();
+        orphans.settle();
         return context.identities().of(reply.number());
     }
 
