@@ -227,6 +227,9 @@ final class Merge {
             new Fill(context).found(models, keys);
         }
         reached.forEach(this::makeSource);
+        if (sources.size() > 1) {
+            new MergedCopies(context).check(sources);
+        }
         for (Entry source : sources.keySet()) {
             Entry image = images.get(source);
             if (image != null && !direct.containsKey(image) && isToldDirectly(source, image)) {

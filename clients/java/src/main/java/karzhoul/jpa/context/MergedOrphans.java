@@ -1,8 +1,7 @@
 package karzhoul.jpa.context;
 
 import java.util.ArrayList;
-import java.util.Collection;
-import java.util.IdentityHashMap;
+import java.util.HashSet;
 import java.util.LinkedHashMap;
 import java.util.LinkedHashSet;
 import java.util.List;
@@ -13,7 +12,7 @@ import karzhoul.jpa.model.Relation;
 /** What a merge takes out of relations that remove orphans (chapter 2.9). */
 final class MergedOrphans {
     private final Context context;
-    private final Map<Entry, Object[]> before = new IdentityHashMap<>();
+    private final Map<Entry, Map<Relation, List<Entry>>> before = new LinkedHashMap<>();
 
     MergedOrphans(Context context) {
         this.context = context;
@@ -24,7 +23,7 @@ final class MergedOrphans {
         Map<Relation, Set<Entry>> merged = new LinkedHashMap<>();
         images.forEach((source, image) -> {
             for (Relation relation : image.model().relations()) {
-                if (relation.isMany() && relation.removesOrphans() && source.model().isA(image.model())
+                if (relation.removesOrphans() && (relation.isMany() || !relation.isOwner()) && source.model().isA(image.model())
                         && !Unread.is(relation.get(source.instance()))) {
                     merged.computeIfAbsent(relation, none -> new LinkedHashSet<>()).add(image);
                 }
@@ -42,28 +41,23 @@ final class MergedOrphans {
             if (image.isUnread(relation)) {         // the application has another list there
                 new Targets(context).read(image, relation);
             }
-            before.computeIfAbsent(image, it -> new Object[it.relations.length])[relation.place()] =
-                image.relations[relation.place()];
+            before.computeIfAbsent(image, none -> new LinkedHashMap<>()).put(relation, Revived.members(image, relation));
         }
     }
 
     /** Removes elements that they don't have any more; what else they have lost the flush looks at. */
     void settle() {
         List<Entry> elements = new ArrayList<>();
-        before.forEach((image, members) -> {
-            for (int place = 0; place < members.length; place++) {
-                if (members[place] instanceof List<?> had && image.relations[place] instanceof Collection<?> has) {
-                    Relation relation = image.model().relations().get(place);
-                    for (Object each : had) {
-                        Entry member = (Entry) each;
-                        if (has.contains(member)) {
-                            continue;
-                        } else if (relation.elements().isEmpty()) {
-                            context.orphans().left(image, relation, member);
-                        } else if (member.isManaged()) {
-                            elements.add(member);
-                        }
-                    }
+        before.forEach((image, had) -> {
+            for (Relation relation : had.keySet()) {
+                List<Entry> lost = new ArrayList<>(had.get(relation));
+                lost.removeAll(new HashSet<>(Revived.members(image, relation)));
+                if (image.isUnread(relation)) {
+                    continue;
+                } else if (relation.elements().isPresent()) {
+                    lost.stream().filter(Entry::isManaged).forEach(elements::add);
+                } else {
+                    lost.forEach(member -> context.orphans().left(image, relation, member));
                 }
             }
         });

@@ -1,17 +1,15 @@
 package karzhoul.jpa.context;
 
 import jakarta.persistence.CascadeType;
+import jakarta.persistence.PersistenceException;
 import java.util.ArrayDeque;
 import java.util.ArrayList;
 import java.util.Collection;
 import java.util.Deque;
 import java.util.HashSet;
-import java.util.LinkedHashMap;
 import java.util.LinkedHashSet;
 import java.util.List;
-import java.util.Map;
 import java.util.Set;
-import karzhoul.jpa.engine.Lines;
 import karzhoul.jpa.model.Relation;
 
 /**
@@ -23,12 +21,17 @@ final class Orphans {
     private record Left(Entry owner, Relation relation, Entry member) {
         /** Whether its owner hasn't taken it in again, read its members anew, or was let go. */
         boolean isOut() {
-            return owner.state() != Entry.State.DETACHED
-                && owner.relations[relation.place()] instanceof List<?> members && !members.contains(member);
+            return owner.state() != Entry.State.DETACHED && !owner.isUnread(relation)
+                && !Revived.members(owner, relation).contains(member);
         }
 
         boolean isElement() {
             return relation.elements().isPresent();
+        }
+
+        /** What stands in its place; null where nothing does, and in a collection. */
+        Entry inItsPlace() {
+            return owner.relations[relation.place()] instanceof Entry other ? other : null;
         }
     }
 
@@ -40,8 +43,11 @@ final class Orphans {
         this.context = context;
     }
 
+    /** A relation to one is compared with what it led to at the last flush: what it led to between is no orphan. */
     void left(Entry owner, Relation relation, Entry member) {
-        left.add(new Left(owner, relation, member));
+        if (relation.isMany() || left.stream().noneMatch(each -> each.owner() == owner && each.relation() == relation)) {
+            left.add(new Left(owner, relation, member));
+        }
     }
 
     void forget() {
@@ -63,8 +69,18 @@ final class Orphans {
         moved.clear();
         for (Left each : left) {
             if (!each.relation().isJoined() && each.isOut() && stays(each.owner(), kept) && kept.contains(each.member())) {
+                checkPlace(each);
                 moved.add(each);
             }
+        }
+    }
+
+    /** The flush persists along what a relation has: a new one whose place is lent would be lost without a word. */
+    private static void checkPlace(Left each) {
+        Entry other = each.inItsPlace();
+        if (other != null && other.state() == Entry.State.NEW) {
+            throw new PersistenceException(each.owner() + "." + each.relation().path() + " leads to " + other + ", and "
+                + each.member() + ", to which it led, moved: persist the new one before the flush");
         }
     }
 
@@ -122,46 +138,51 @@ final class Orphans {
     /** Gives what moved back to the relations that it left: to the program it isn't an orphan. */
     void lend() {
         for (Left each : moved) {
-            context.queue().add(each.owner().number(), each.relation().member(), each.member().number()).about(each.owner());
+            if (each.relation().isMany()) {
+                context.queue().add(each.owner().number(), each.relation().member(), each.member().number()).about(each.owner());
+            } else {
+                link(each.owner(), each.relation(), each.member());
+            }
         }
     }
 
     /** Takes away again what {@link #lend} gave. */
     void takeBack() {
-        moved.forEach(this::takeOut);
-    }
-
-    private void takeOut(Left each) {
-        takeOut(each.owner(), each.relation(), each.member());
+        for (Left each : moved) {
+            if (each.relation().isMany()) {
+                takeOut(each.owner(), each.relation(), each.member());
+            } else {
+                link(each.owner(), each.relation(), each.inItsPlace());
+            }
+        }
     }
 
     private void takeOut(Entry owner, Relation relation, Entry member) {
         context.queue().takeOut(owner.number(), relation.member(), member.number()).about(owner);
     }
 
+    private void link(Entry owner, Relation relation, Entry target) {
+        context.queue().link(owner.number(), relation.member(), target == null ? 0 : target.number()).about(owner);
+    }
+
     /** All is written: the program reads anew who has lent, so that what moved was never there. */
     void written() {
-        Map<Entry, Entry> owners = new LinkedHashMap<>();
-        for (Left each : moved) {
-            takeOut(each);
-            owners.put(each.owner(), each.owner());
-        }
-        owners.keySet().forEach(this::readAnew);
+        takeBack();
+        moved.stream().map(Left::owner).distinct().forEach(this::readAnew);
         forget();
     }
 
     /** Refresh goes on along what was read, which needn't be managed: it finds nothing there. */
     private void readAnew(Entry owner) {
-        Lines queue = context.queue();
         for (Relation relation : owner.model().relations()) {
             if (relation.cascades().contains(CascadeType.REFRESH)) {
                 if (relation.isMany()) {
                     Revived.members(owner, relation).forEach(member -> takeOut(owner, relation, member));
                 } else {
-                    queue.link(owner.number(), relation.member(), 0).about(owner);
+                    link(owner, relation, null);
                 }
             }
         }
-        queue.refresh(context.manager(), owner.number()).about(owner);
+        context.queue().refresh(context.manager(), owner.number()).about(owner);
     }
 }

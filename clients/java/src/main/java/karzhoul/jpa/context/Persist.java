@@ -117,7 +117,7 @@ final class Persist {
             throw context.marked(new EntityExistsException("EntityExists: a detached " + model.name()
                 + " can't be persisted, nor be reached by persist: merge it"));
         }
-        if (entry != null && entry.state() == Entry.State.REMOVED) {
+        if (entry != null && entry.state() == Entry.State.REMOVED && entry.isStored()) {
             new WholeRows(context).read(List.of(entry));        // the cascade goes on along what was read
         }
         fresh.add(instance);

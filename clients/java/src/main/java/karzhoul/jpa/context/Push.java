@@ -233,6 +233,9 @@ class Push {
         touch(entry);
         queue.link(entry.number(), relation.member(), target == null ? 0 : target.number()).about(entry);
         entry.relations[relation.place()] = target;
+        if (before != null && relation.removesOrphans() && !relation.isOwner()) {
+            context.orphans().left(entry, relation, before);
+        }
     }
 
     /**
