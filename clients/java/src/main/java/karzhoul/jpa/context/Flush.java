@@ -55,7 +55,7 @@ final class Flush {
     void commit() {
         prepare();
         if (hasChanged() && writesFirst()) {
-            write();                    // nothing is asked behind the commit: an end there would tell as refused what stands
+            write();        // nothing is asked behind the commit: an end there would tell as refused what stands
         }
         if (!context.isTouched() && !context.isBegunThere()) {
             context.committed();
@@ -73,6 +73,7 @@ final class Flush {
         context.committed();
     }
 
+    /** What is to be asked or told behind the writes is done before the commit. */
     private boolean writesFirst() {
         return context.orphans().hasMoved() || !keyless().isEmpty()
             || context.factory().writesFirst(context.identities().models());

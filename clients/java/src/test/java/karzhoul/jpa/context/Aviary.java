@@ -73,7 +73,12 @@ final class Aviary {
     public static class Toy {
         @Id long id;
         @Version int version;
-        String name;
+
+        protected Toy() {}
+
+        Toy(long id) {
+            this.id = id;
+        }
     }
 
     @Entity(name = "Egg")

@@ -33,6 +33,7 @@ class OrphanMovesTest extends Tried {
     private static final String HOME = "Ada v0 pen1 [seed][10][10]10";
     private static final String MOVED = "Ada v1 pen2 [seed][10][10]10";
     private static final String GONE = "";
+    private static final List<String> UPDATE = List.of("PreUpdate");
     private static final String DAN = "Dan v0 cage1 [seed][11][11]11";
 
     @BeforeEach
@@ -50,9 +51,7 @@ class OrphanMovesTest extends Tried {
         Bird dan = Aviary.bird(11, "Dan");
         dan.cage = pen;
         pen.caged.add(dan);
-        Toy toy = new Toy();
-        toy.id = 20;
-        pen.toys.add(toy);
+        pen.toys.add(new Toy(20));
         store(pen, other, dan);
         manager = factory.createEntityManager();
         Aviary.HEARD.clear();
@@ -90,18 +89,17 @@ class OrphanMovesTest extends Tried {
         return Arguments.of(what, ada, dan, heard, work);
     }
 
-    private static Stream<Arguments> moves() {
-        List<String> update = List.of("PreUpdate");
+    private static Stream<Arguments> movesToAList() {
         return Stream.of(
-            row("managed", MOVED, DAN, update, (it, em) -> Aviary.move(it.pen(1), it.pen(2))),
+            row("managed", MOVED, DAN, UPDATE, (it, em) -> Aviary.move(it.pen(1), it.pen(2))),
             row("changed behind a flush", "Eve v2 pen2 [seed][10][10]10", DAN, List.of("PreUpdate", "PreUpdate"), (it, em) -> {
                 Bird ada = Aviary.move(it.pen(1), it.pen(2));
                 em.flush();
                 ada.name = "Eve";
             }),
-            row("the old owner merged first", "Eve v1 pen2 [seed][10][10]10", DAN, update, (it, em) -> it.merge(true)),
-            row("the new owner merged first", "Eve v1 pen2 [seed][10][10]10", DAN, update, (it, em) -> it.merge(false)),
-            row("to a new pen", "Ada v1 pen3 [seed][10][10]10", DAN, update, (it, em) -> {
+            row("the old owner merged first", "Eve v1 pen2 [seed][10][10]10", DAN, UPDATE, (it, em) -> it.merge(true)),
+            row("the new owner merged first", "Eve v1 pen2 [seed][10][10]10", DAN, UPDATE, (it, em) -> it.merge(false)),
+            row("to a new pen", "Ada v1 pen3 [seed][10][10]10", DAN, UPDATE, (it, em) -> {
                 Pen pen = new Pen();
                 pen.id = 3;
                 Aviary.move(it.pen(1), pen);
@@ -112,22 +110,26 @@ class OrphanMovesTest extends Tried {
                 em.flush();
                 Aviary.move(it.pen(2), it.pen(1));
             }),
-            row("given to the other list first, and taken out behind a flush", MOVED, DAN, update, (it, em) -> {
+            row("given to the other list first, and taken out behind a flush", MOVED, DAN, UPDATE, (it, em) -> {
                 Bird ada = it.pen(1).birds.get(0);
                 ada.pen = it.pen(2);
                 ada.pen.birds.add(ada);
                 em.flush();
                 it.pen(1).birds.remove(ada);
-            }),
-            row("the parent alone is set, in no list", MOVED, DAN, update, (it, em) -> it.ada().pen = it.pen(2)),
+            }));
+    }
+
+    private static Stream<Arguments> otherMoves() {
+        return Stream.of(
+            row("the parent alone is set, in no list", MOVED, DAN, UPDATE, (it, em) -> it.ada().pen = it.pen(2)),
             row("taken out, and in no other list", GONE, DAN, List.of("PreRemove"), (it, em) ->
                 it.pen(1).birds.remove(0).pen = it.pen(2)),
-            row("between lists without cascade", HOME, "Dan v1 cage2 [seed][11][11]11", update, (it, em) -> {
+            row("between lists without cascade", HOME, "Dan v1 cage2 [seed][11][11]11", UPDATE, (it, em) -> {
                 Bird dan = it.pen(1).caged.remove(0);
                 dan.cage = it.pen(2);
                 dan.cage.caged.add(dan);
             }),
-            row("between lists of two kinds", "Ada v1 cage2 [seed][10][10]10", DAN, update, (it, em) -> {
+            row("between lists of two kinds", "Ada v1 cage2 [seed][10][10]10", DAN, UPDATE, (it, em) -> {
                 Bird ada = it.pen(1).birds.remove(0);
                 ada.pen = null;
                 ada.cage = it.pen(2);
@@ -142,7 +144,7 @@ class OrphanMovesTest extends Tried {
     }
 
     @ParameterizedTest(name = "{0}")
-    @MethodSource("moves")
+    @MethodSource({"movesToAList", "otherMoves"})
     void isStored(String what, String ada, String dan, List<String> heard, Work work) {
         commit(() -> work.accept(this, manager));
         assertEquals(ada + " | " + dan, stored());
@@ -214,6 +216,20 @@ class OrphanMovesTest extends Tried {
         manager.clear();
         manager.getTransaction().begin();
         assertThrows(OptimisticLockException.class, () -> manager.merge(stale));
+    }
+
+    @Test
+    void anOwnerOfBeforeAnotherCommitIsStale() {
+        Pen pen = pen(1);
+        pen.toys.size();
+        other(it -> it.find(Pen.class, 1L).toys.add(new Toy(21)));
+        commit(() -> Aviary.move(pen, pen(2)));
+        manager.getTransaction().begin();
+        pen.toys.clear();
+        assertThrows(OptimisticLockException.class, manager::flush);
+        manager.getTransaction().rollback();
+        assertEquals("v1 [0, 0] v0 []", toys());
+        assertEquals(MOVED + " | " + DAN, stored());
     }
 
     @Test
