@@ -10,8 +10,6 @@ import java.util.HashSet;
 import java.util.LinkedHashSet;
 import java.util.List;
 import java.util.Set;
-import karzhoul.jpa.engine.Reply;
-import karzhoul.jpa.model.Attribute;
 import karzhoul.jpa.model.Relation;
 
 /**
@@ -167,42 +165,10 @@ final class Orphans {
         context.queue().link(owner.number(), relation.member(), target == null ? 0 : target.number()).about(owner);
     }
 
-    /** All is written: the program reads anew who has lent, so that what moved was never there. */
+    /** All is written: what moved was never where it was. */
     void written() {
         takeBack();
-        List<Entry> owners = moved.stream().map(Left::owner).distinct().toList();
-        owners.forEach(this::readAnew);
-        checkVersions(owners.stream().filter(owner -> owner.model().version().isPresent()).toList());
+        moved.stream().map(Left::owner).distinct().forEach(new ReadAnew(context)::of);
         forget();
-    }
-
-    /** Who is older than the transaction has another commit's version there now, and would overwrite what that one set. */
-    private void checkVersions(List<Entry> owners) {
-        if (owners.isEmpty()) {
-            return;
-        }
-        int from = context.queue().count();
-        owners.forEach(owner -> context.queue().get(owner.number(), owner.model().version().get().member()).about(owner));
-        Reply[] replies = context.ask(from);
-        for (int i = 0; i < replies.length; i++) {
-            Attribute version = owners.get(i).model().version().get();
-            if (!Values.isKept(version, replies[i].ok(), owners.get(i).values[version.place()])) {
-                context.setStale(owners.get(i));
-            }
-        }
-    }
-
-    /** Refresh goes on along what was read, which needn't be managed: it finds nothing there. */
-    private void readAnew(Entry owner) {
-        for (Relation relation : owner.model().relations()) {
-            if (relation.cascades().contains(CascadeType.REFRESH)) {
-                if (relation.isMany()) {
-                    Revived.members(owner, relation).forEach(member -> takeOut(owner, relation, member));
-                } else {
-                    link(owner, relation, null);
-                }
-            }
-        }
-        context.queue().refresh(context.manager(), owner.number()).about(owner);
     }
 }

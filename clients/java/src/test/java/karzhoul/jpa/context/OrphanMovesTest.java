@@ -232,6 +232,45 @@ class OrphanMovesTest extends Tried {
         assertEquals(MOVED + " | " + DAN, stored());
     }
 
+    private Bird kim(Pen pen) {
+        Bird kim = Aviary.bird(12, "Kim");
+        kim.pen = pen;
+        return kim;
+    }
+
+    private String nameOfKim() {
+        return read(it -> it.find(Bird.class, 12L) == null ? "none" : it.find(Bird.class, 12L).name);
+    }
+
+    @Test
+    void cascadesGoOnAlongTheOldList() {
+        Pen pen = pen(1);
+        commit(() -> pen.birds.add(kim(pen)));
+        commit(() -> {
+            Aviary.move(pen, pen(2));
+            manager.flush();
+            manager.remove(pen.birds.get(0));       // it stands in the list still, which cascades PERSIST
+        });
+        assertEquals("Kim", nameOfKim());
+        commit(() -> pen.birds.clear());
+        assertEquals("none", nameOfKim());
+    }
+
+    @Test
+    void whatTheOldListNeverHadStays() {
+        commit(() -> {
+            Pen pen = pen(1);
+            pen.birds.size();
+            manager.persist(kim(pen));
+            Aviary.move(pen, pen(2));
+            manager.flush();
+            pen.birds.add(Aviary.bird(13, "Lea"));
+            pen.birds.get(0).pen = pen;
+        });
+        assertEquals("Kim", nameOfKim());
+        assertEquals(MOVED + " | " + DAN, stored());
+    }
+
     @Test
     void theListsShowIt() {
         commit(() -> {
