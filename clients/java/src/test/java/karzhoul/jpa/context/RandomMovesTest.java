@@ -11,6 +11,7 @@ import java.util.TreeMap;
 import java.util.stream.Collectors;
 import karzhoul.jpa.context.Aviary.Bird;
 import karzhoul.jpa.context.Aviary.Pen;
+import karzhoul.jpa.context.Aviary.Toy;
 import org.junit.jupiter.api.BeforeEach;
 import org.junit.jupiter.api.Test;
 
@@ -31,6 +32,8 @@ class RandomMovesTest extends Tried {
     /** Birds that a flush of this transaction has dropped. */
     private final List<Bird> dropped = new ArrayList<>();
     private Map<Long, Row> rows = new TreeMap<>();
+    /** The toys of each pen, as a flush has written them. */
+    private String toys;
     private Random random;
     private long first;
     private long next;
@@ -67,6 +70,7 @@ class RandomMovesTest extends Tried {
         for (int i = 0; i < PENS; i++) {
             Pen pen = new Pen();
             pen.id = id + i;
+            pen.toys.add(new Toy(pen.id));
             pens.add(pen);
         }
         commit(() -> {
@@ -98,13 +102,14 @@ class RandomMovesTest extends Tried {
     }
 
     private void step() {
-        switch (random.nextInt(9)) {
+        switch (random.nextInt(10)) {
             case 0, 1, 2 -> move();
             case 3 -> add();
             case 4 -> takeOut();
             case 5 -> removeBird();
             case 6 -> change();
             case 7 -> putBack();
+            case 8 -> moveToy(pen(), pen());
             default -> flush();
         }
     }
@@ -138,6 +143,17 @@ class RandomMovesTest extends Tried {
             to.birds.add(bird);
         }
         bird.pen = to;
+    }
+
+    private void moveToy(Pen from, Pen to) {
+        if (!from.toys.isEmpty()) {
+            Toy toy = from.toys.remove(random.nextInt(from.toys.size()));
+            boolean isLost = random.nextInt(4) == 0;
+            done.append(" toy ").append(toy.id).append(isLost ? " lost" : " to " + to.id);
+            if (!isLost) {
+                to.toys.add(toy);
+            }
+        }
     }
 
     private void add() {
@@ -224,6 +240,7 @@ class RandomMovesTest extends Tried {
             return;
         }
         put(from, both.get(1), bird);
+        moveToy(from, both.get(1));
         bird.name += "m";
         Bird lost = any(random, from);
         if (lost != null && random.nextBoolean()) {
@@ -247,6 +264,11 @@ class RandomMovesTest extends Tried {
             }
         }
         rows = now;
+        toys = toysOf(pens) + pens.stream().mapToInt(pen -> pen.toys.size()).sum();
+    }
+
+    private static String toysOf(List<Pen> pens) {
+        return pens.stream().map(pen -> pen.toys.stream().map(toy -> toy.id + " v" + toy.version).sorted().toList()).toList().toString();
     }
 
     private String expected() {
@@ -255,7 +277,7 @@ class RandomMovesTest extends Tried {
             String id = String.valueOf(each.getKey());
             return id + " " + row.name + " v" + row.version + " pen" + row.pen + " " + sorted(row.meals)
                 + "[" + id + "][" + id + "]" + id;
-        }).collect(Collectors.joining("\n"));
+        }).collect(Collectors.joining("\n")) + toys;
     }
 
     private static List<String> sorted(List<String> meals) {
@@ -269,7 +291,10 @@ class RandomMovesTest extends Tried {
             return birds.stream().map(bird -> {
                 bird.meals.sort(null);
                 return bird.id + " " + Aviary.shown(bird);
-            }).collect(Collectors.joining("\n"));
+            }).collect(Collectors.joining("\n"))
+                + toysOf(pens.stream().map(pen -> other.find(Pen.class, pen.id)).toList())
+                + other.createQuery("SELECT COUNT(t) FROM Toy t WHERE t.id >= :first", Long.class)
+                    .setParameter("first", first).getSingleResult();
         });
     }
 }
