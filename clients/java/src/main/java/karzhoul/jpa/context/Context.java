@@ -10,7 +10,6 @@ import java.util.BitSet;
 import java.util.EnumSet;
 import java.util.HashMap;
 import java.util.IdentityHashMap;
-import java.util.LinkedHashSet;
 import java.util.List;
 import java.util.Map;
 import java.util.Set;
@@ -53,8 +52,7 @@ final class Context {
     private final List<Entry> touched = new ArrayList<>();
     private final List<Entry> locked = new ArrayList<>();
     private final List<Entry> made = new ArrayList<>();
-    private final List<Push.Orphan> orphans = new ArrayList<>();
-    private final Set<Entry> takenOut = new LinkedHashSet<>();
+    private final Orphans orphans = new Orphans(this);
     private final Map<Entry, Entry.Row> written = new IdentityHashMap<>();
     private final HiddenRows hiddenRows = new HiddenRows(this);
     private final UniqueValues uniques = new UniqueValues(this);
@@ -371,14 +369,9 @@ final class Context {
         touched.add(entry);
     }
 
-    /** What the next flush is to remove, if it is an orphan still. */
-    List<Push.Orphan> orphans() {
+    /** What left relations that remove orphans, since the last flush. */
+    Orphans orphans() {
         return orphans;
-    }
-
-    /** What left relations of which the program removes orphans, since the last flush. */
-    Set<Entry> takenOut() {
-        return takenOut;
     }
 
     /** All that was told is written. */
@@ -735,8 +728,6 @@ final class Context {
         touched.clear();
         locked.clear();
         made.clear();
-        orphans.clear();
-        takenOut.clear();
         clear(written);
         forgetHidden();
         isTouched = false;
@@ -745,6 +736,7 @@ final class Context {
     }
 
     private void forgetHidden() {
+        orphans.forget();
         hiddenRows.forget();
         uniques.forget();
         listOrders.forget();

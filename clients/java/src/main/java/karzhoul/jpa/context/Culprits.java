@@ -49,7 +49,7 @@ final class Culprits {
         written = new IdentityHashMap<>(context.written());
         entries = context.identities().numbered();
         removed = entries.stream().filter(entry -> entry.state() == Entry.State.REMOVED).toList();
-        orphans = List.copyOf(context.takenOut());
+        orphans = context.orphans().leaving();
         unstored = BrokenLinks.toUnstored(entries);
         members = new WrongMembers(entries);
         taken = context.uniques().taken();

@@ -1,10 +1,10 @@
 package karzhoul.jpa.context;
 
-import jakarta.persistence.CascadeType;
 import jakarta.persistence.LockModeType;
 import jakarta.persistence.OptimisticLockException;
 import jakarta.persistence.PersistenceException;
 import java.util.ArrayList;
+import java.util.Collection;
 import java.util.HashSet;
 import java.util.List;
 import java.util.Set;
@@ -16,7 +16,6 @@ import karzhoul.jpa.engine.Ref;
 import karzhoul.jpa.engine.Reply;
 import karzhoul.jpa.engine.StoreFault;
 import karzhoul.jpa.model.Callbacks;
-import karzhoul.jpa.model.Relation;
 
 /**
  * The flush (chapters 3.2.4 and 3.5). What changed is told, the program is asked which callbacks are due, and these
@@ -29,6 +28,8 @@ final class Flush {
     private final Lines queue;
     /** What the last push didn't tell, since it can't be kept. */
     private List<Push.Unfit> unfit = List.of();
+    /** Whether the transaction goes on behind it. */
+    private boolean goesOn;
     /** Those that heard PreUpdate for such a value. */
     private final Set<Entry> unfitHeard = new HashSet<>();
 
@@ -39,6 +40,7 @@ final class Flush {
 
     /** Flushes, where anything changed. */
     void flush() {
+        goesOn = true;
         prepare();
         if (context.isTouched()) {
             write();
@@ -53,11 +55,7 @@ final class Flush {
     void commit() {
         prepare();
         if (hasChanged() && writesFirst()) {
-            write();                    // nothing is asked behind the commit: an end there would tell as refused what stands
-            if (isReviving()) {
-                prepare();
-                write();
-            }
+            write();        // nothing is asked behind the commit: an end there would tell as refused what stands
         }
         if (!context.isTouched() && !context.isBegunThere()) {
             context.committed();
@@ -75,9 +73,9 @@ final class Flush {
         context.committed();
     }
 
-    /** What left one relation, and stands in another one, is removed by a flush and managed again by the next one. */
+    /** What is to be asked or told behind the writes is done before the commit. */
     private boolean writesFirst() {
-        return !context.takenOut().isEmpty() || !keyless().isEmpty()
+        return context.orphans().hasMoved() || !keyless().isEmpty()
             || context.factory().writesFirst(context.identities().models());
     }
 
@@ -163,9 +161,9 @@ final class Flush {
         Push push = context.push();
         push.waits();
         push.all();
-        context.takenOut().forEach(this::readWhole);
         unfit = push.unfit();
-        removeOrphans();
+        context.orphans().settle();
+        readWhole();
         if (unfit.stream().anyMatch(value -> isRemoved(value.entry()))) {
             Set<Entry> revived = Revived.of(context);
             unfit = unfit.stream().filter(value -> !isRemoved(value.entry()) || revived.contains(value.entry())).toList();
@@ -176,32 +174,14 @@ final class Flush {
         }
     }
 
-    /** What it hasn't read goes with its row; read before, it comes back with it where that is put back. */
-    private void readWhole(Entry entry) {
-        if (entry.isManaged() && entry.isStored()) {
-            for (Relation relation : entry.model().relations()) {
-                if (relation.isMany() && goesAlong(relation) && entry.isUnread(relation)) {
-                    new Targets(context).read(entry, relation);
-                }
-            }
+    /** What is put back by this flush, or may be before the transaction ends, is to come back with all that its row has. */
+    private void readWhole() {
+        List<Entry> entries = new ArrayList<>(goesOn ? context.orphans().leaving() : List.of());
+        if (context.hasRemoved()) {
+            Collection<Entry> removed = goesOn ? context.identities().numbered() : Revived.of(context);
+            removed.stream().filter(Flush::isRemoved).forEach(entries::add);
         }
-    }
-
-    private static boolean goesAlong(Relation relation) {
-        return relation.isOwner() || relation.removesOrphans() || relation.cascades().contains(CascadeType.REMOVE);
-    }
-
-    /** Those of calls before the flush too. */
-    private void removeOrphans() {
-        while (!context.orphans().isEmpty()) {
-            List<Push.Orphan> orphans = List.copyOf(context.orphans());
-            context.orphans().clear();
-            for (Push.Orphan orphan : orphans) {
-                if (orphan.isLeft()) {
-                    new Operations(context).remove(orphan.member());
-                }
-            }
-        }
+        new WholeRows(context).read(entries);
     }
 
     /** What the program tells of an orphan that the flush is going to remove. */
@@ -237,8 +217,10 @@ final class Flush {
     }
 
     private List<Event> pending() {
+        context.orphans().lend();
         int from = queue.count();
         queue.pending(context.manager());
+        context.orphans().takeBack();
         return events(context.ask(from)[0].list());
     }
 
@@ -277,12 +259,14 @@ final class Flush {
 
     private void write() {
         context.send();
+        context.orphans().lend();
+        int from = queue.count();
         queue.flush(context.manager());
-        List<Event> events = context.ask(0)[0].events();
+        List<Event> events = context.ask(from)[0].events();
         take(events, true);
         context.uniques().settle();
         context.listOrders().settle();
-        context.takenOut().clear();
+        context.orphans().written();
         after(events);
     }
 

@@ -46,13 +46,13 @@ final class Merge {
     /** Detached proxies that nobody has read, with what was written to their fields. */
     private final Map<Object, Written> unread = new IdentityHashMap<>();
     private final MergedKeys mergedKeys;
-    private final JoinedOrphans orphans;
+    private final MergedOrphans orphans;
 
     Merge(Context context) {
         this.context = context;
         queue = context.queue();
         mergedKeys = new MergedKeys(context, sources, images, imagesByInstance);
-        orphans = new JoinedOrphans(context);
+        orphans = new MergedOrphans(context);
     }
 
     /** The managed instance onto which this one was copied. */
@@ -227,6 +227,9 @@ final class Merge {
             new Fill(context).found(models, keys);
         }
         reached.forEach(this::makeSource);
+        if (sources.size() > 1) {
+            new MergedCopies(context).check(sources);
+        }
         for (Entry source : sources.keySet()) {
             Entry image = images.get(source);
             if (image != null && !direct.containsKey(image) && isToldDirectly(source, image)) {
@@ -373,7 +376,7 @@ final class Merge {
         Reply reply = context.ask(from)[0];
         readBack(reply.events(), reply.number());
         push.unfit().forEach(this::giveUnfit);
-        orphans.remove();
+        orphans.settle();
         return context.identities().of(reply.number());
     }
 

@@ -117,6 +117,9 @@ final class Persist {
             throw context.marked(new EntityExistsException("EntityExists: a detached " + model.name()
                 + " can't be persisted, nor be reached by persist: merge it"));
         }
+        if (entry != null && entry.state() == Entry.State.REMOVED && entry.isStored()) {
+            new WholeRows(context).read(List.of(entry));        // the cascade goes on along what was read
+        }
         fresh.add(instance);
         if (entry == null || entry.state() == Entry.State.NEW || !entry.isStored()) {
             new Keys(context).give(model, instance);

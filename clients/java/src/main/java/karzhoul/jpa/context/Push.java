@@ -30,15 +30,6 @@ class Push {
      */
     record Unfit(Entry entry, Attribute attribute, Object value, PersistenceException refusal) {}
 
-    /** What left a joined relation that removes orphans, which the program doesn't know as such. */
-    record Orphan(Entry owner, Relation relation, Entry member) {
-        /** Whether its owner, which may be removed itself, hasn't taken it in again, read its members anew, or was let go. */
-        boolean isLeft() {
-            return member.isManaged() && owner.state() != Entry.State.DETACHED
-                && owner.relations[relation.place()] instanceof List<?> members && !members.contains(member);
-        }
-    }
-
     private final Context context;
     private final Identities identities;
     private final Lines queue;
@@ -242,6 +233,9 @@ class Push {
         touch(entry);
         queue.link(entry.number(), relation.member(), target == null ? 0 : target.number()).about(entry);
         entry.relations[relation.place()] = target;
+        if (before != null && relation.removesOrphans() && !relation.isOwner()) {
+            context.orphans().left(entry, relation, before);
+        }
     }
 
     /**
@@ -336,7 +330,7 @@ class Push {
                 more.merge(member, 1, Integer::sum);
                 queue.takeOut(entry.number(), relation.member(), numbered(member).number()).about(entry);
                 if (relation.removesOrphans() && !now.contains(member)) {
-                    left(entry, relation, member);
+                    context.orphans().left(entry, relation, member);
                 }
             }
         }
@@ -345,14 +339,6 @@ class Push {
                 more.merge(member, -1, Integer::sum);
                 queue.add(entry.number(), relation.member(), member.number()).about(entry);
             }
-        }
-    }
-
-    private void left(Entry owner, Relation relation, Entry member) {
-        if (relation.isJoined()) {
-            context.orphans().add(new Orphan(owner, relation, member));
-        } else {
-            context.takenOut().add(member);
         }
     }
 

@@ -16,18 +16,30 @@ final class Revived {
     private Revived() {}
 
     static Set<Entry> of(Context context) {
+        return of(context, Set.of());
+    }
+
+    /**
+     * Also those of these, which would be removed, that stand in a relation of others: one that cascades PERSIST, or that
+     * removes orphans itself.
+     */
+    static Set<Entry> of(Context context, Set<Entry> leaving) {
         Deque<Entry> work = new ArrayDeque<>();
         for (Entry entry : context.identities().numbered()) {
-            if (entry.isManaged() || entry.state() == Entry.State.NEW) {
+            if ((entry.isManaged() || entry.state() == Entry.State.NEW) && !leaving.contains(entry)) {
                 work.add(entry);
             }
         }
         Set<Entry> revived = new HashSet<>();
         for (Entry at; (at = work.poll()) != null; ) {
             for (Relation relation : at.model().relations()) {
-                for (Entry member : members(at, relation)) {
-                    if (member.state() == Entry.State.REMOVED && revived.add(member)) {
-                        work.add(member);
+                boolean persists = relation.cascades().contains(CascadeType.PERSIST);
+                if (persists || relation.removesOrphans()) {
+                    for (Entry member : members(at, relation)) {
+                        boolean isRemoved = member.state() == Entry.State.REMOVED;
+                        if ((isRemoved ? persists : leaving.contains(member)) && revived.add(member)) {
+                            work.add(member);
+                        }
                     }
                 }
             }
@@ -35,9 +47,10 @@ final class Revived {
         return revived;
     }
 
+    /** What a relation has, as far as it was read. */
     @SuppressWarnings("unchecked")
-    private static List<Entry> members(Entry owner, Relation relation) {
-        Object told = relation.cascades().contains(CascadeType.PERSIST) ? owner.relations[relation.place()] : null;
+    static List<Entry> members(Entry owner, Relation relation) {
+        Object told = owner.relations[relation.place()];
         return told instanceof Entry one ? List.of(one) : told instanceof List<?> many ? (List<Entry>) many : List.of();
     }
 }

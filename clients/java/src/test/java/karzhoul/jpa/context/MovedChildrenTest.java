@@ -117,6 +117,23 @@ class MovedChildrenTest extends Tried {
     }
 
     @Test
+    void itIsStoredWhereBothOwnersAreMerged() {
+        List<Pen> pens = read(it -> {
+            List<Pen> both = List.of(it.find(Pen.class, one), it.find(Pen.class, other));
+            both.forEach(pen -> pen.birds.size());
+            return both;
+        });
+        Bird bird = pens.get(0).birds.remove(0);
+        bird.pen = pens.get(1);
+        bird.pen.birds.add(bird);
+        commit(() -> pens.forEach(manager::merge));
+        assertEquals("Ada of " + other + " 1", read(it -> {
+            Bird found = it.find(Bird.class, moved);
+            return found == null ? "none" : found.name + " of " + found.pen.id + " " + found.version;
+        }));
+    }
+
+    @Test
     void anOrphanGoes() {
         manager = factory.createEntityManager();
         commit(() -> manager.find(Pen.class, one).birds.remove(0));
