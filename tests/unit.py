@@ -5,6 +5,7 @@ that is skipped is told at the end, in the words that ./test counts: 'skipped: N
 from __future__ import annotations
 
 import os
+import signal
 import sys
 import unittest
 from typing import Any
@@ -22,4 +23,6 @@ class Runner(unittest.TextTestRunner):
 
 if __name__ == "__main__":
     sys.path[0] = os.getcwd()
+    # A script has what it starts by & ignore Ctrl-C, and that would go on to what a test starts.
+    signal.signal(signal.SIGINT, signal.default_int_handler)
     unittest.main(module=None, testRunner=Runner)
