@@ -12,7 +12,7 @@ from ..store.migration import opened_to_read
 from .declared import Declared, Model
 from .lock import FORMS_TABLE, Lock, Record, root_of
 from .mapping import gone_name
-from .renaming import words_of, written
+from .renaming import AGAIN, words_of, written
 from .types import StoredType
 
 DROPPED = "dropped"
@@ -123,9 +123,7 @@ def other_names(
         elif stored.get(each.row) == each.name and each.record.get("again"):
             was = written(each.name, each.record["says"])
             faults.append(
-                f"{each.said} has was=\"{was}\" again, and was renamed so before, also in {store}: "
-                "take was= away. Two that are to change their names once more do so by a third "
-                "name, in three openings"
+                f"{each.said} has was=\"{was}\" again, and {AGAIN.format(where=f', also in {store}')}"
             )
     return faults
 

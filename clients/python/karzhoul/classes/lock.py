@@ -162,11 +162,16 @@ def locked(model: Model, before: Lock) -> Lock:
         _lock_entity(lock, entity, told[entity.name], numbers, faults)
     faults.tell()
     left = {entity.name: _leave(lock, entity) for entity in model.values()}
+    claims = {entity.name: _own_claims(lock, entity, left) for entity in model.values()}
+    _take(claims, left)
     for entity in model.values():
-        claims = _claims(lock, entity, left)
-        _refuse(entity, claims, left[entity.name], faults)
+        _claim_others(lock, entity, claims[entity.name], left, faults)
+    _refuse_two(model, claims, left, faults)
+    _take(claims, left)
+    for entity in model.values():
+        _refuse(entity, claims[entity.name], left[entity.name], faults)
         made: Dict[str, Record] = {}
-        for name, claim in claims.items():
+        for name, claim in claims[entity.name].items():
             member = entity.members[name]
             if claim.record is None:
                 _refuse_new(entity, member, claim, left[entity.name], faults)
@@ -378,20 +383,64 @@ def _leave(lock: Lock, entity: Declared) -> List[Record]:
     return left
 
 
-def _claims(lock: Lock, entity: Declared, left: Dict[str, List[Record]]) -> Dict[str, Claim]:
-    """What the stored members of a class go on with: what the class has or had, or what another
-    class of its hierarchy has no more. That is left by it then."""
+def _own_claims(lock: Lock, entity: Declared, left: Dict[str, List[Record]]) -> Dict[str, Claim]:
+    """What the stored members of a class go on with of what it has or had itself."""
     found: Dict[str, Claim] = {}
     for member in filter(is_stored, entity.members.values()):
-        was = member.field.was if member.field.was != member.name else None
-        own, other = (_own(lock, entity, left, name) for name in (member.name, was or ""))
-        other = other or _of_others(lock, entity, left, was or "")
-        own = own or (_of_others(lock, entity, left, member.name) if other is None else None)
-        found[member.name] = Claim(member.name, was or "", own, other)
-    claimed = {id(it.record) for it in found.values()}
-    for gone in left.values():
-        gone[:] = [each for each in gone if id(each) not in claimed]
+        was = (member.field.was if member.field.was != member.name else None) or ""
+        own, other = (_own(lock, entity, left, name) for name in (member.name, was))
+        found[member.name] = Claim(member.name, was, own, other)
     return found
+
+
+def _claim_others(
+    lock: Lock, entity: Declared, claims: Dict[str, Claim], left: Dict[str, List[Record]],
+    faults: Faults,
+) -> None:
+    """Has members also go on with what another class of their hierarchy has no more, where no member
+    of that one does."""
+    def moved(member: Member, name: str) -> Optional[Record]:
+        found = _of_others(lock, entity, left, name)
+        if len(found) > 1:
+            told = " and ".join(f"{where}.{words_of(name)}" for where in found)
+            faults.add(member.writer, member.said, f"would be {told}, each with values of its own: "
+                       "keep all but one in its class, by another name, with "
+                       f"was=\"{written('', name)}\" there, {_MIGRATE}")
+        return next(iter(found.values()), None)
+
+    for name, claim in claims.items():
+        member = entity.members[name]
+        other = claim.other or moved(member, claim.was)
+        own = claim.own or (moved(member, name) if other is None else None)
+        claims[name] = Claim(name, claim.was, own, other)
+
+
+_MIGRATE = "or bring the store over by karzhoul migrate, which takes all (docs/OPERATING.md)"
+
+
+def _refuse_two(
+    model: Model, claims: Dict[str, Dict[str, Claim]], left: Dict[str, List[Record]],
+    faults: Faults,
+) -> None:
+    """Refuses members of two classes that would go on with one of a third class."""
+    places = {id(it): f"{where}.{words_of(it['name'])}" for where, gone in left.items()
+              for it in gone}
+    takers: Dict[int, Tuple[str, str]] = {}
+    for where, found in claims.items():
+        for name, claim in found.items():
+            at = id(claim.record)
+            first = takers.setdefault(at, (where, name))
+            if at in places and first[0] != where:
+                member = model[where].members[name]
+                faults.add(member.writer, member.said, f"would be {places[at]}, and so would "
+                           f"{first[0]}.{words_of(first[1])}: leave it where it was, {_MIGRATE}")
+
+
+def _take(claims: Dict[str, Dict[str, Claim]], left: Dict[str, List[Record]]) -> None:
+    """Takes what members go on with out of what is left."""
+    taken = {id(it.record) for found in claims.values() for it in found.values()}
+    for gone in left.values():
+        gone[:] = [each for each in gone if id(each) not in taken]
 
 
 def _own(
@@ -404,13 +453,13 @@ def _own(
 
 def _of_others(
     lock: Lock, entity: Declared, left: Dict[str, List[Record]], name: str
-) -> Optional[Record]:
-    """What another class of the hierarchy has no more by a name."""
+) -> Dict[str, Record]:
+    """What other classes of the hierarchy have no more by a name, by these."""
     top = root_of(lock, entity.name)
-    return next((
-        each for where, gone in left.items() if root_of(lock, where) == top
+    return {
+        where: each for where, gone in left.items() if root_of(lock, where) == top
         for each in gone if each["name"] == name and each.get("now")
-    ), None)
+    }
 
 
 def _refuse(

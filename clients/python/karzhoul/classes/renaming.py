@@ -49,25 +49,46 @@ def refuse(
 ) -> None:
     """Has each claim that can't be met told by its name, with what its was= says, and what to do;
     `let_go` is how values go for good."""
+    unmet = _unmet(claims)
     for each in claims:
-        if each.record is each.own:
-            continue
-        rival = next((it for it in claims if it is not each and it.record is each.other), None)
-        why = ""
-        if rival is not None:
-            why = _shared(rival)
-        elif each.own is not None and not each.own.get("cleared") and all(
-            it.record is not each.own for it in claims
+        name = words_of(each.name)
+        if each.name in unmet:
+            add(each.name, unmet[each.name])
+        elif each.record is not each.own and each.own is not None and (
+            not each.own.get("cleared") and all(it.record is not each.own for it in claims)
         ):
-            why = _OWN
-        if why:
-            add(each.name, f"has was=\"{written(each.name, each.was)}\", and " + why.format(
-                name=words_of(each.name), was=words_of(each.was),
-                let_go=let_go.format(name=words_of(each.name)),
-                rival=words_of(rival.name) if rival is not None else "",
-            ))
+            add(each.name, _says(each) + _OWN.format(
+                name=name, let_go=let_go.format(name=name)))
 
 
+def refused(claims: List[Claim]) -> Dict[str, str]:
+    """Why claims can't be met, by their names, where no store is opened that could tell that a
+    renaming is meant anew, and what goes is said elsewhere."""
+    again = {it.name: _says(it, " again") + AGAIN.format(where="") for it in claims
+             if it.remembered().get("again")}
+    return {**again, **_unmet(claims)}
+
+
+def _unmet(claims: List[Claim]) -> Dict[str, str]:
+    """Why claims can't be met whose was= says what another one goes on with."""
+    found: Dict[str, str] = {}
+    for each in claims:
+        rival = None if each.record is each.own else next(
+            (it for it in claims if it is not each and it.record is each.other), None)
+        if rival is not None:
+            found[each.name] = _says(each) + _shared(rival).format(
+                name=words_of(each.name), was=words_of(each.was), rival=words_of(rival.name))
+    return found
+
+
+def _says(claim: Claim, word: str = "") -> str:
+    return f"has was=\"{written(claim.name, claim.was)}\"{word}, and "
+
+
+AGAIN = (
+    "was renamed so before{where}: take was= away. Two that are to change their names once more do "
+    "so by a third name, in three openings"
+)
 _OWN = (
     "what is stored as {name} itself would have no name then: keep it under another one, by "
     "was=\"{name}\" there in the same opening{let_go}; where this renaming is done, take was= away"

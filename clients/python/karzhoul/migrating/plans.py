@@ -13,6 +13,7 @@ from ..classes.fields import MISSING
 from ..mapping.converters import value_of
 from ..records.records import Key, Record, Shape, Value
 from ..mapping.unit import OWN_MEMBERS, Member
+from .claims import Names, said_of
 from .forms import conversion, keeps, plain_type
 from .sides import Side
 
@@ -85,12 +86,12 @@ class Plan:
     """The new classes that no class of before becomes."""
     drops: Collection[str]
     """What may be lost: classes, and `Class.member`."""
-    matches: Mapping[str, str]
-    """The new class of each old one."""
+    names: Names
 
     def faults(self) -> List[str]:
         """What must be told, and isn't, or is told of nothing."""
-        found = [why for each in self.classes.values() for why in each.faults()]
+        found = [*self.names.refused, *(
+            why for each in self.classes.values() for why in each.faults())]
         known = [*self.classes, *(
             f"{it.old.name}.{self.old.shown(it.old.name, name)}" for it in self.classes.values()
             for name in it.gone
@@ -104,23 +105,19 @@ class Plan:
 
 def planned(old: Side, new: Side, functions: Optional[ModuleType], drops: Collection[str]) -> Plan:
     """What becomes of a store of the one side on the other."""
-    matches = _matches(old, new)
-    classes: Dict[str, ClassPlan] = {}
-    for name, shape in old.shapes.items():
-        target = matches.get(name)
-        classes[name] = (
-            _Matched(old, new, shape, new.shapes[target], matches).plan() if target
-            else ClassPlan(shape, None)
-        )
+    names = Names(old, new)
+    classes = {name: ClassPlan(shape, None) for name, shape in old.shapes.items()}
+    for name, target in names.matches.items():
+        classes[name] = _Matched(names, old.shapes[name], new.shapes[target]).plan()
     for name, function in _functions(functions, old.shapes).items():
         classes[name].function = function
-    added = [name for name in new.shapes if name not in matches.values()]
-    return Plan(old, new, classes, added, drops, matches)
+    added = [name for name in new.shapes if name not in names.matches.values()]
+    return Plan(old, new, classes, added, drops, names)
 
 
 def matched(plan: Plan, before: Shape, after: Shape) -> ClassPlan:
     """What becomes of objects of one class that are of another one now."""
-    return _Matched(plan.old, plan.new, before, after, plan.matches).plan()
+    return _Matched(plan.names, before, after).plan()
 
 
 def _functions(
@@ -140,45 +137,18 @@ def _functions(
     return found
 
 
-# ---- which class becomes which
-
-
-def _matches(old: Side, new: Side) -> Dict[str, str]:
-    """The new class of each old one."""
-    found: Dict[str, str] = {}
-    marks = {_mark(old, name): name for name in old.shapes}
-    for name in new.shapes:
-        declared = new.made.model.get(name) if new.made else None
-        was = marks.get(_mark(new, name)) if declared is None else declared.was
-        for each in (name, was or ""):
-            if each in old.shapes and each not in found:
-                found[each] = name
-                break
-    return found
-
-
-def _mark(side: Side, name: str) -> str:
-    entity = next(each for each in side.mapping["entities"] if each["name"] == name)
-    return str(entity.get("discriminator", name))
-
-
 # ---- which member becomes which
 
 
 class _Matched:
     """A class of before, and the one that it becomes."""
 
-    def __init__(
-        self, old: Side, new: Side, before: Shape, after: Shape, matches: Mapping[str, str]
-    ) -> None:
-        self._old, self._new, self._before, self._after = old, new, before, after
-        self._matches = matches
-        self._members = new.class_members(after.name)
-        self._said = _said(new, after)
-        self._places = {} if old.made or new.made else {
-            each["column"]: name for name, each in _said(old, before).items() if "column" in each
-        }
-        self._taken: List[str] = []
+    def __init__(self, names: Names, before: Shape, after: Shape) -> None:
+        self._old, self._new, self._before, self._after = names.old, names.new, before, after
+        self._matches = names.matches
+        self._members = self._new.class_members(after.name)
+        self._said = said_of(self._new, after)
+        self._sources, self._refused = names.sources(before, after)
 
     def plan(self) -> ClassPlan:
         before, after = self._before, self._after
@@ -186,8 +156,13 @@ class _Matched:
         made.values = [self._value(each) for each in after.values.values()]
         made.links = [self._link(each) for each in after.links.values()]
         made.pairs = [self._pair(each) for each in after.pairs.values()]
+        for part in made.parts():
+            if part.name in self._refused:
+                part.get, part.words = None, ""
+                part.missing = (f"{after.name}.{self._new.shown(after.name, part.name)} "
+                                f"{self._refused[part.name]}")
         held = [*before.values, *before.links, *before.pairs]
-        made.gone = [name for name in held if name not in self._taken]
+        made.gone = [name for name in held if name not in self._sources.values()]
         return made
 
     def _key(self) -> str:
@@ -212,33 +187,11 @@ class _Matched:
     def _type(side: Side, shape: Shape, member: Member) -> Any:
         return side.types.get((shape.name, member.name)) or plain_type(member.type)
 
-    def _source(self, name: str) -> Optional[str]:
-        """The member of before that a member was."""
-        before = self._before
-        known = {*before.values, *before.links, *before.pairs, *(it.name for it in before.key)}
-        declared: Optional[ClassMember] = self._members.get(name)
-        said = self._said.get(name, {})
-        found: Optional[str] = name
-        if "since" in said:
-            found = None
-        elif name not in known and declared is not None:
-            found = declared.field.was
-        elif name not in known:
-            found = self._places.get(said.get("was", said.get("column")))
-            found = None if found in self._after_names() else found
-        if found not in known or (found in self._taken):
-            return None
-        self._taken.append(str(found))
-        return found
-
-    def _after_names(self) -> List[str]:
-        return [*self._after.values, *self._after.links, *self._after.pairs]
-
     # ---- values
 
     def _value(self, member: Member) -> Part:
         part, before = Part(member.name), self._before
-        source, name = self._source(member.name), self._new.shown(self._after.name, member.name)
+        source, name = self._sources.get(member.name), self._new.shown(self._after.name, member.name)
         own = self._type(self._new, self._after, member)
         what = f"{self._after.name}.{name}"
         if source is None:
@@ -293,7 +246,7 @@ class _Matched:
 
     def _link(self, member: Member) -> Part:
         name, before = member.name, self._before
-        part, source = Part(name), self._source(name)
+        part, source = Part(name), self._sources.get(name)
         what = f"{self._after.name}.{name}"
         if source is None:
             part.get, part.words = _always(None), f"{name} is new, and leads to nothing"
@@ -318,7 +271,7 @@ class _Matched:
 
     def _pair(self, member: Member) -> Part:
         name, before = member.name, self._before
-        part, source = Part(name, _always(())), self._source(name)
+        part, source = Part(name, _always(())), self._sources.get(name)
         if source is None:
             part.words = f"{name} is new, and empty"
             return part
@@ -332,15 +285,6 @@ class _Matched:
         else:
             part.get = _pairs_of(old.type, source)
         return part
-
-
-def _said(side: Side, shape: Shape) -> Dict[str, Dict[str, Any]]:
-    """What a mapping says of each member of a class."""
-    entities = {each["name"]: each for each in side.mapping["entities"]}
-    return {
-        each["name"]: each for name in shape.chain for sort in ("attributes", "relations")
-        for each in entities[name].get(sort, ())
-    }
 
 
 # ---- what a record gives
