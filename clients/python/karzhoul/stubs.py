@@ -38,7 +38,7 @@ class TypedEntity(Entity, metaclass=_ByName):
         __setattr__: None  # type: ignore
     else:
 
-        def __new__(cls, /, **values):
+        def __new__(cls, /, *given, **values):
             """Refuses: of which factory would the object be?"""
             raise TypeError(
                 f"{cls.__name__} alone makes no objects: app.entity({cls.__name__}) does, or "

@@ -7,7 +7,7 @@ from typing import TYPE_CHECKING, Any, Callable, Dict, Iterator, List, Mapping, 
 from typing import Tuple, Type, Union
 from weakref import WeakKeyDictionary, WeakSet
 
-from ..objects.entities import Attribute, Entity, Event, check_names
+from ..objects.entities import Attribute, Entity, Event, check_given, check_names
 from ..mapping.indexes import WHY_NOT, Known, index_line
 from ..wire.lines import LifecycleEvent
 from ..told import shown, with_article
@@ -316,12 +316,12 @@ def _teller(heard: Mapping[str, str]) -> Callable[[Event], None]:
     return tell
 
 
-def new_of(kind: type, /, *_: Any, **__: Any) -> Any:
+def new_of(kind: type, /, *given: Any, **_: Any) -> Any:
     """A new object of the class that a user wrote, of the one store that it is open in."""
     found = list(_OPEN.get(kind, ()))
     if len(found) == 1:
         bound: Any = found[0].entity(kind)
-        return bound.__new__(bound)
+        return bound.__new__(bound, *given)
     name = kind.__name__
     if found:
         raise RuntimeError(
@@ -334,7 +334,9 @@ def new_of(kind: type, /, *_: Any, **__: Any) -> Any:
     )
 
 
-def _new(kind: Type[Any], /, *_: Any, **__: Any) -> Any:
+def _new(kind: Type[Any], /, *given: Any, **_: Any) -> Any:
+    if given:
+        check_given(kind, given)
     return kind._karzhoul_factory.ask_object(None, kind._karzhoul_line, kind)
 
 

@@ -15,6 +15,7 @@ from ..classes.fields import (
     by_value, dataclass_transform, embedded, field, generated, json_text, key, many_to_many,
     many_to_one, money, naive, one_to_many, one_to_one, typed, version,
 )
+from ..told import shown
 from ..wire.lines import LifecycleEvent, line_of, text_spelled
 from .foresight import Foresight
 from .misfits import misfit, no_member, unknown
@@ -98,7 +99,9 @@ class Entity:
 
     if not TYPE_CHECKING:  # To a type checker a class's own `__init__` says what it takes.
 
-        def __new__(cls, /, **values):
+        def __new__(cls, /, *given, **values):
+            if given:
+                check_given(cls, given)
             if values:
                 check_names(cls, values)  # Before anything is made.
             factory = cls._karzhoul_factory
@@ -175,14 +178,28 @@ def _new_declared(kind: Type[Entity], /, *given: Any, **values: Any) -> Any:
     return new_of(kind, *given, **values)
 
 
+def check_given(kind: Type[Entity], given: Sequence[Any]) -> None:
+    """Refuses values that have no names, where no constructor of a user's own takes them."""
+    if kind.__init__ is Entity.__init__:
+        own = (kind._karzhoul_key[0], kind._karzhoul_version)
+        names = _attribute_names(kind)
+        name = next((it for it in names if it not in own), names[0])
+        made = f"{kind.__name__}({name}={shown(given[0])}, ..)"
+        raise TypeError(f"{kind.__name__} takes values by their names: write {made}")
+
+
 def check_names(kind: Type[Entity], names: Iterable[str]) -> None:
     """Refuses names that are no attributes of an entity's class: an `AttributeError` says which is
     meant."""
     for name in names:
         if not isinstance(getattr(kind, name, None), Attribute):
-            members = [item for each in kind.__mro__[::-1] for item in vars(each).items()]
-            known = [name for name, member in members if isinstance(member, Attribute)]
-            raise unknown(kind.__name__, name, known)
+            raise unknown(kind.__name__, name, _attribute_names(kind))
+
+
+def _attribute_names(kind: Type[Entity]) -> List[str]:
+    """The names of the attributes of an entity's class, those of the classes above first."""
+    members = [item for each in kind.__mro__[::-1] for item in vars(each).items()]
+    return [name for name, member in members if isinstance(member, Attribute)]
 
 
 def _named(entity: Entity, key: Optional[Sequence[Any]]) -> str:

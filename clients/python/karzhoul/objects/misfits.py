@@ -51,6 +51,12 @@ def no_member(entity: object, name: str, value: object, is_list: bool = False) -
     return WrongValue(told)
 
 
+def stranger(value: object) -> ValueError:
+    """What is no object of a factory, where one is to be."""
+    return ValueError(f"{value!r} is no object of this factory: hand in one that a class of it makes, "
+                      "or that it finds")
+
+
 def unknown(
     kind: str, name: str, known: Iterable[str], sort: str = "attribute"
 ) -> AttributeError:

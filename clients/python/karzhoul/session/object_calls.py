@@ -8,6 +8,7 @@ from typing import (
 
 from ..objects.arguments import entity_named
 from ..objects.entities import Attribute, E, Entity, check_names
+from ..objects.misfits import stranger
 from ..refusals import KarzhoulError
 from .calls import Calls
 from .runs import Run
@@ -147,4 +148,4 @@ class ObjectCalls(Calls):
         """The run of an object of this factory."""
         if isinstance(entity, Entity) and entity._karzhoul_factory is self:
             return entity._karzhoul_run
-        raise ValueError(f"{entity!r} is no object of this factory")
+        raise stranger(entity)

@@ -10,7 +10,7 @@ from ..objects.concern import Noted
 from ..objects.entities import Entity
 from ..objects.identity import IdentityMap
 from ..objects.kinds import Classes
-from ..objects.misfits import misfit, no_member
+from ..objects.misfits import misfit, no_member, stranger
 from ..objects.shown import VALUES
 from ..objects.versions import Versions
 from ..refusals import Restarted
@@ -102,7 +102,7 @@ class Run:
         if isinstance(entity, Entity) and entity._karzhoul_run is self:
             return f"{entity._karzhoul_number}"
         if not isinstance(entity, Entity) or entity._karzhoul_factory is not self.factory:
-            raise ValueError(f"{entity!r} is no object of this factory")
+            raise stranger(entity)
         if entity._karzhoul_run is not self.factory._run:
             raise Restarted(
                 f"object {entity._karzhoul_number} is of before a restart: make or find it again"

@@ -119,6 +119,15 @@ class Mirroring(Exporting):
             self.assertLess(time.monotonic(), until, "the tables don't follow the store")
             time.sleep(0.2)
 
+    def wait_until_closed(self) -> None:
+        """Waits until the mirror has closed the file, whose log goes with the last that closes it."""
+        until = time.monotonic() + 2 * SECONDS
+        while self.out.with_name("out.db-wal").exists():
+            self.assertLess(time.monotonic(), until, "the file stays open")
+            time.sleep(0.1)
+            with contextlib.closing(sqlite3.connect(self.out)) as store:
+                store.execute("SELECT 1 FROM sqlite_master")
+
 
 @needs_program
 class Follows(Mirroring):
@@ -376,6 +385,7 @@ class WrongMirrors(Mirroring):
                               self.stopped(*self.words))
         running = self.started("--mapping", self.models)
         self.wait_for("SELECT name FROM Member WHERE id = 5", [("new",)])
+        self.wait_until_closed()
         self.assertIn("another mirror writes out.db already", self.stopped(*self.words))
         running.kill()
 

@@ -8,6 +8,9 @@ import unittest
 from datetime import date
 from typing import Any, Callable, Type
 
+import karzhoul
+from karzhoul import Entity, generated, version
+
 from ..support import ProgramTest, counted, needs_program
 
 HALF = "Ada \ud800"
@@ -31,6 +34,15 @@ class Misfits(ProgramTest):
         rows = [{"number": 1}, {"number": 2, "amuont": 3}]
         told = self.told(AttributeError, lambda: self.app.new_many("Order", rows))
         self.assertEqual(told, "Order has no attribute 'amuont': did you mean 'amount'?")
+
+    def test_a_value_without_a_name(self) -> None:
+        told = self.told(TypeError, lambda: self.Person("Ada"))
+        self.assertEqual(told, "Person takes values by their names: write Person(name='Ada', ..)")
+
+    def test_what_is_no_object(self) -> None:
+        for value in (5, self.Person, None):
+            self.told(ValueError, lambda: self.em.persist(value), f"{value!r} is no object of this "
+                      "factory: hand in one that a class of it makes, or that it finds")
 
     def test_half_a_character(self) -> None:
         person = self.Person()
@@ -82,6 +94,30 @@ class Misfits(ProgramTest):
         self.assertIs(copy.deepcopy({"a": [person]})["a"][0], person)
         place = self.Place(at=(1, "a", b""))
         self.assertEqual(copy.deepcopy(place.at), place.at)
+
+
+class Showman(Entity):
+    id: int = generated()
+    version: int = version()
+    name: str
+
+
+class Named(Showman):
+    def __init__(self, name: str) -> None:
+        super().__init__(name=name)
+
+
+@needs_program
+class OfClasses(unittest.TestCase):
+    def test_a_value_without_a_name(self) -> None:
+        with karzhoul.open([Showman, Named]) as app:
+            make: Any = Showman
+            with counted(app) as sent, self.assertRaises(TypeError) as raised:
+                make("b")
+            self.assertEqual(str(raised.exception),
+                             "Showman takes values by their names: write Showman(name='b', ..)")
+            self.assertEqual(sent, [])
+            self.assertEqual(Named("b").name, "b")
 
 
 if __name__ == "__main__":
