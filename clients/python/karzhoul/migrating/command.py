@@ -12,6 +12,8 @@ from typing import Any, Dict, Iterator, List, Optional
 
 from ..session import opening
 from ..session.factory import EntityManagerFactory
+from ..classes.columns import other_names
+from ..classes.faults import NotBroughtOver
 from ..classes.mapping import FORMS
 from ..records.dumping import Stored
 from ..store.finding import find_program
@@ -146,17 +148,28 @@ class _Migration:
 
     def _look(self, app: EntityManagerFactory) -> OldStore:
         """What the old store says of itself."""
-        old = self._plan.old
         manager = app.create_entity_manager()
-        if old.made is None and any(it["name"] == FORMS for it in old.mapping["entities"]):
-            old.take_forms({at: form for at, form in manager.query(_FORMS_OF)})
-            self._plan = planned(
-                old, self._plan.new, _functions(self._said.functions), self._said.drop
-            )
+        if any(it["name"] == FORMS for it in self._plan.old.mapping["entities"]):
+            self._take_forms({at: form for at, form in manager.query(_FORMS_OF)})
+        old = self._plan.old
         for name in old.shapes:
             where = f"FROM {name} e WHERE TYPE(e) = {name}"
             self._counts[name] = int(manager.one(f"SELECT COUNT(e) {where}"))
         return OldStore(old, app)
+
+    def _take_forms(self, stored: Dict[str, str]) -> None:
+        """Takes note of the forms and the names that the old store says; a `NotBroughtOver` where it
+        has another name for a number than the lock of its classes."""
+        old = self._plan.old
+        if old.made is None:
+            old.take_forms(stored)
+            self._plan = planned(
+                old, self._plan.new, _functions(self._said.functions), self._said.drop
+            )
+        elif faults := other_names(
+            old.made.model, old.made.lock, stored, str(old.made.file), str(self._places.db)
+        ):
+            raise NotBroughtOver(faults)
 
     def _told_lost(self, app: EntityManagerFactory) -> List[str]:
         """What would be lost, and isn't said to go; what is said is told with its number."""

@@ -87,6 +87,7 @@ class Plan:
     drops: Collection[str]
     """What may be lost: classes, and `Class.member`."""
     names: Names
+    """What goes on with what."""
 
     def faults(self) -> List[str]:
         """What must be told, and isn't, or is told of nothing."""

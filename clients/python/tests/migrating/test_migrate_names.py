@@ -106,7 +106,14 @@ class Names(Migrated):
         with self.open(classes(*SWAPPED)):
             pass
         self.db.write_bytes(store)
-        status, _, err = self.migrated(self.changed(classes(*SWAPPED, more=ANEW)))
+        self.before, self.before_lock = cells(self.db), self.lock.read_text()
+        after = self.changed(classes(*SWAPPED, more=ANEW))
+        status, out, err = self.migrated(after, before=self.old)
+        self.assertEqual(status, 4, out)
+        self.assertIn("Person.name is number 1.2 in karzhoul.lock.json, and app.db has alias there: the "
+                      "lock isn't the one", err.replace(f"{self.folder}/", ""))
+        self.is_as_before()
+        status, _, err = self.migrated(after)
         self.assertEqual((status, err), (0, ""))
         with self.open(imported(self.folder / "karzhoul_after.py")) as app, app.begin() as manager:
             self.assertEqual(list(manager.query(self.ASKED)), [["A", "N", "C"]])

@@ -6,7 +6,7 @@ import copy
 import pickle
 import unittest
 from datetime import date
-from typing import Any, Callable, Type
+from typing import Any, Callable, Sequence, Type
 
 import karzhoul
 from karzhoul import Entity, generated, version
@@ -36,11 +36,13 @@ class Misfits(ProgramTest):
         self.assertEqual(told, "Order has no attribute 'amuont': did you mean 'amount'?")
 
     def test_a_value_without_a_name(self) -> None:
-        told = self.told(TypeError, lambda: self.Person("Ada"))
+        person: Any = self.Person
+        told = self.told(TypeError, lambda: person("Ada"))
         self.assertEqual(told, "Person takes values by their names: write Person(name='Ada', ..)")
 
     def test_what_is_no_object(self) -> None:
-        for value in (5, self.Person, None):
+        values: Sequence[Any] = (5, self.Person, None)
+        for value in values:
             self.told(ValueError, lambda: self.em.persist(value), f"{value!r} is no object of this "
                       "factory: hand in one that a class of it makes, or that it finds")
 
