@@ -123,7 +123,8 @@ def other_names(
         elif stored.get(each.row) == each.name and each.record.get("again"):
             was = written(each.name, each.record["says"])
             faults.append(
-                f"{each.said} has was=\"{was}\" again, and {AGAIN.format(where=f', also in {store}')}"
+                f"{each.said} has was=\"{was}\" again, and "
+                + AGAIN.format(where=f", also in {store}")
             )
     return faults
 

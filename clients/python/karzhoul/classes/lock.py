@@ -397,8 +397,8 @@ def _claim_others(
     lock: Lock, entity: Declared, claims: Dict[str, Claim], left: Dict[str, List[Record]],
     faults: Faults,
 ) -> None:
-    """Has members also go on with what another class of their hierarchy has no more, where no member
-    of that one does."""
+    """Has members also go on with what another class of their hierarchy has no more, and none of
+    its own does."""
     def moved(member: Member, name: str) -> Optional[Record]:
         found = _of_others(lock, entity, left, name)
         if len(found) > 1:

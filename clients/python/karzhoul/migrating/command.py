@@ -158,8 +158,8 @@ class _Migration:
         return OldStore(old, app)
 
     def _take_forms(self, stored: Dict[str, str]) -> None:
-        """Takes note of the forms and the names that the old store says; a `NotBroughtOver` where it
-        has another name for a number than the lock of its classes."""
+        """Takes note of the forms that the old store says; a `NotBroughtOver` where it has another
+        name for a number than the lock of its classes."""
         old = self._plan.old
         if old.made is None:
             old.take_forms(stored)

@@ -192,7 +192,8 @@ class _Matched:
 
     def _value(self, member: Member) -> Part:
         part, before = Part(member.name), self._before
-        source, name = self._sources.get(member.name), self._new.shown(self._after.name, member.name)
+        source = self._sources.get(member.name)
+        name = self._new.shown(self._after.name, member.name)
         own = self._type(self._new, self._after, member)
         what = f"{self._after.name}.{name}"
         if source is None:

@@ -53,8 +53,8 @@ def no_member(entity: object, name: str, value: object, is_list: bool = False) -
 
 def stranger(value: object) -> ValueError:
     """What is no object of a factory, where one is to be."""
-    return ValueError(f"{value!r} is no object of this factory: hand in one that a class of it makes, "
-                      "or that it finds")
+    return ValueError(f"{value!r} is no object of this factory: hand in one that a class of it "
+                      "makes, or that it finds")
 
 
 def unknown(
