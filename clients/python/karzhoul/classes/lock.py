@@ -162,12 +162,7 @@ def locked(model: Model, before: Lock) -> Lock:
         _lock_entity(lock, entity, told[entity.name], numbers, faults)
     faults.tell()
     left = {entity.name: _leave(lock, entity) for entity in model.values()}
-    claims = {entity.name: _own_claims(lock, entity, left) for entity in model.values()}
-    _take(claims, left)
-    for entity in model.values():
-        _claim_others(lock, entity, claims[entity.name], left, faults)
-    _refuse_two(model, claims, left, faults)
-    _take(claims, left)
+    claims = _claims(model, lock, left, faults)
     for entity in model.values():
         _refuse(entity, claims[entity.name], left[entity.name], faults)
         made: Dict[str, Record] = {}
@@ -383,6 +378,19 @@ def _leave(lock: Lock, entity: Declared) -> List[Record]:
     return left
 
 
+def _claims(
+    model: Model, lock: Lock, left: Dict[str, List[Record]], faults: Faults
+) -> Dict[str, Dict[str, Claim]]:
+    """What the stored members of classes go on with, which isn't left then."""
+    claims = {entity.name: _own_claims(lock, entity, left) for entity in model.values()}
+    _take(claims, left)
+    for entity in model.values():
+        _claim_others(model, lock, entity, claims[entity.name], left, faults)
+    _refuse_two(model, claims, left, faults)
+    _take(claims, left)
+    return claims
+
+
 def _own_claims(lock: Lock, entity: Declared, left: Dict[str, List[Record]]) -> Dict[str, Claim]:
     """What the stored members of a class go on with of what it has or had itself."""
     found: Dict[str, Claim] = {}
@@ -394,18 +402,23 @@ def _own_claims(lock: Lock, entity: Declared, left: Dict[str, List[Record]]) -> 
 
 
 def _claim_others(
-    lock: Lock, entity: Declared, claims: Dict[str, Claim], left: Dict[str, List[Record]],
-    faults: Faults,
+    model: Model, lock: Lock, entity: Declared, claims: Dict[str, Claim],
+    left: Dict[str, List[Record]], faults: Faults,
 ) -> None:
     """Has members also go on with what another class of their hierarchy has no more, and none of
-    its own does."""
+    its own does, where that isn't to go."""
+
     def moved(member: Member, name: str) -> Optional[Record]:
-        found = _of_others(lock, entity, left, name)
+        found = {
+            where: record for where, record in _of_others(lock, entity, left, name).items()
+            if not _is_dropped(name, model[where])
+        }
         if len(found) > 1:
             told = " and ".join(f"{where}.{words_of(name)}" for where in found)
+            was = written("", name)
             faults.add(member.writer, member.said, f"would be {told}, each with values of its own: "
-                       "keep all but one in its class, by another name, with "
-                       f"was=\"{written('', name)}\" there, {_MIGRATE}")
+                       f"keep all but one in its class, by another name, with was=\"{was}\" there, or "
+                       f"let it go by dropped=(\"{was}\",) behind its base, {_MIGRATE}")
         return next(iter(found.values()), None)
 
     for name, claim in claims.items():

@@ -34,12 +34,17 @@ class Moves(Renamings):
         self.fill(classes("", f"code: {TEXT}", f"code: {TEXT}"), code="F")
         for base in (f"code: {TEXT}", f"mark: {was('code')}"):
             self.refuse(classes(base), "would be Club.code and Firm.code, each with values of its own",
-                        'by another name, with was="code" there, or bring the store over')
+                        'by another name, with was="code" there, or let it go by dropped=("code",)', "karzhoul migrate")
         kept = classes(f"code: {TEXT}", "", f"own: {was('code')}")
         for _ in range(2):
             self.assertEqual(self.found(kept, "SELECT p.code FROM Person p ORDER BY p.id"),
                              ["C", None])
         self.assertEqual(self.found(kept, "SELECT f.own FROM Firm f"), ["F"])
+
+    def test_one_of_two_that_is_let_go(self) -> None:
+        self.fill(classes("", f"code: {TEXT}", f"code: {TEXT}"), code="F")
+        after = classes(f"code: {TEXT}").replace("Club(Person)", 'Club(Person, dropped=("code",))')
+        self.assertEqual(self.found(after, "SELECT p.code FROM Person p ORDER BY p.id"), [None, "F"])
 
     def test_one_that_goes_to_the_class_above(self) -> None:
         self.fill(classes("", f"code: {TEXT}", f"mark: {TEXT}"))
