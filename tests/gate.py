@@ -172,9 +172,11 @@ class Skips(Copy):
     def test_a_unittest_in_the_background_may_be_interrupted(self) -> None:
         self.put("tests/unit.py", (TOP / "tests/unit.py").read_text())
         self.put("tests/some.py", "import signal, unittest\nclass A(unittest.TestCase):\n"
-                 "    def test_b(self) -> None:\n        self.assertIs(signal.getsignal("
-                 "signal.SIGINT), signal.default_int_handler)\n")
-        self.put("tests/two.sh", f"cd {self.top}; python3 tests/unit.py tests.some 2>&1 & wait $!\n")
+                 "    def test_b(self) -> None:\n        found = map(signal.getsignal, ("
+                 "signal.SIGINT, signal.SIGQUIT, signal.SIGHUP))\n        self.assertEqual("
+                 "list(found), [signal.default_int_handler, signal.SIG_DFL, signal.SIG_DFL])\n")
+        self.put("tests/two.sh",
+                 f"cd {self.top}; nohup python3 tests/unit.py tests.some 2>&1 & wait $!\n")
         self.quick("2 passed, 0 failed", 0)
 
     def modules(self, folder: str, after: str = "") -> None:

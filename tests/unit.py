@@ -23,6 +23,9 @@ class Runner(unittest.TextTestRunner):
 
 if __name__ == "__main__":
     sys.path[0] = os.getcwd()
-    # A script has what it starts by & ignore Ctrl-C, and that would go on to what a test starts.
+    # A script has what it starts by & ignore these, as nohup does the third, and that would go on to
+    # what a test starts.
     signal.signal(signal.SIGINT, signal.default_int_handler)
+    for number in (signal.SIGQUIT, signal.SIGHUP):
+        signal.signal(number, signal.SIG_DFL)
     unittest.main(module=None, testRunner=Runner)
