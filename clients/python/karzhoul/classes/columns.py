@@ -87,17 +87,27 @@ class Place(NamedTuple):
 
 
 def places(model: Model, lock: Lock) -> Iterator[Place]:
-    """All tables that a lock has, and the columns of the classes of a model."""
-    names = set(model)
+    """All tables that a lock has, and the columns and parts of keys of the classes of a
+    model."""
+    classes = set(model)
     for name, record in lock["entities"].items():
         if "table" in record:
-            yield Place(str(record["table"]), name, name, record, names)
+            yield Place(str(record["table"]), name, name, record, classes)
     for entity in model.values():
         record, table = lock["entities"][entity.name], _table(lock, entity.name)
         members = set(entity.members)
         for name, stored in _named(record):
             said = f"{entity.name}.{words_of(name)}"
             yield Place(_at(table, stored), said, name, stored, members)
+        parts = record.get("key", {}).get("parts", ())
+        names = {part["name"] for part in parts}
+        for at, part in enumerate(parts):
+            said = f"{entity.name}.{words_of(part['name'])}"
+            yield Place(_key_at(table, at), said, part["name"], part, names)
+
+
+def _key_at(table: int, place: int) -> str:
+    return f"{table}.key{place + 1}"
 
 
 def _named(record: Record) -> Iterator[Tuple[str, Record]]:
@@ -149,6 +159,8 @@ def _numbers(lock: Lock) -> Iterator[str]:
         told = [it for _, it in _named(record)]
         for each in [*told, *record.get("unique", {}).values()]:
             yield _at(table, each)
+        for at in range(len(record["key"]["type"].split(", ")) if "key" in record else 0):
+            yield _key_at(table, at)
 
 
 def stored_forms(db: Path) -> Dict[str, str]:

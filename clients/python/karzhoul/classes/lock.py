@@ -13,6 +13,7 @@ from typing import Any, Dict, Iterator, List, Optional, Tuple
 
 from .declared import TO_MANY, Declared, Member, Model
 from .faults import Faults, NotBroughtOver
+from .keys import lock_key
 from .renaming import Claim, refuse, words_of, written
 
 NAME = "karzhoul.lock.json"
@@ -272,19 +273,7 @@ def _lock_entity(
         record.pop("says", None)
     record.update(told)
     if key:
-        kinds = [part.type for part in key if part.type is not None]
-        said = {"form": ", ".join(it.form for it in kinds),
-                "type": ", ".join(it.stored for it in kinds),
-                "generated": key[0].field.sort == "generated"}
-        before = record.setdefault("key", said)
-        if before != said:
-            faults.add(key[0].writer, key[0].said, f"is a key of {_key_words(said)}, and was one "
-                       f"of {_key_words(before)}: a key stays as it is. Take the change back, or "
-                       "bring the store over by karzhoul migrate (docs/OPERATING.md)")
-
-
-def _key_words(said: Record) -> str:
-    return f"{said['form']}{', generated' if said['generated'] else ''}"
+        lock_key(record, key, faults)
 
 
 def _mark(lock: Lock, name: str) -> str:
