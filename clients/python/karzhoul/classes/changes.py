@@ -17,7 +17,9 @@ from ..refusals import Damaged, Refused
 from ..wire.tally import LOGGER
 from . import lock as locks
 from .binding import Binding
-from .columns import DROPPED, Column, columns, other_names, places, stored_forms, unknown
+from .columns import (
+    DROPPED, Column, columns, misplaced, other_names, places, stored_forms, unknown,
+)
 from .declared import Declared, Given, Member, Model, declared_by
 from .faults import NotBroughtOver
 from .fields import MISSING
@@ -119,6 +121,7 @@ def _started(
             stored = stored_forms(db) if db is not None else {}
             words = stored, str(made.file), str(db)
             faults = unknown(made.lock, *words) + other_names(made.model, made.lock, *words)
+            faults += misplaced(made.model, made.lock, db) if db is not None else []
             raise (NotBroughtOver(faults) if faults else damaged) from None
 
 
