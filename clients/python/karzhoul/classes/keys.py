@@ -24,6 +24,8 @@ def lock_key(record: Record, key: Sequence[Member], faults: Faults) -> None:
         faults.add(key[0].writer, key[0].said, f"is a key of {_words(said)}, and was one of "
                    f"{_words(before)}: a key stays as it is. Take the change back, {_MIGRATE}")
         return
+    if len(key) == 1:  # It can be no other one, and so its name may change unsaid.
+        return
     known = before.get("parts") or [{"name": _name(part)} for part in key]
     claims = [_claim(part, each) for part, each in zip(key, known)]
     _refuse(key, claims, [each["name"] for each in known], faults)
