@@ -160,7 +160,7 @@ def locked(model: Model, before: Lock) -> Lock:
     faults.tell()
     numbers = _Numbers(lock)
     for entity in model.values():
-        _lock_entity(lock, entity, told[entity.name], numbers, faults)
+        _lock_entity(model, lock, entity, told[entity.name], numbers, faults)
     faults.tell()
     left = {entity.name: _leave(lock, entity) for entity in model.values()}
     claims = _claims(model, lock, left, faults)
@@ -249,7 +249,7 @@ def _like(records: Dict[str, Record], lost: "set[str]", entity: Declared) -> str
 
 
 def _lock_entity(
-    lock: Lock, entity: Declared, told: Record, numbers: _Numbers, faults: Faults
+    model: Model, lock: Lock, entity: Declared, told: Record, numbers: _Numbers, faults: Faults
 ) -> None:
     record = lock["entities"].get(entity.name)
     key = entity.key()
@@ -262,9 +262,7 @@ def _lock_entity(
             record["version"] = numbers.column(entity.name)
     elif record.get("extends") != entity.parent:
         faults.add(entity.kind, None, f"extended {record.get('extends', 'Entity')} before, and "
-                   f"extends {entity.parent or 'Entity'} now: its rows are of a table for good. "
-                   "Let it be a new class, by another name and was=\"\", and carry its objects "
-                   "over (docs/OPERATING.md)")
+                   f"extends {entity.parent or 'Entity'} now: {_other_base(model, record)}")
     elif bool(record.get("version")) != (version is not None):
         faults.add(entity.kind, None, "has a version where it had none, or none where it had one: "
                    "an entity keeps that for good. Take the change back, or bring the store over by "
@@ -274,6 +272,16 @@ def _lock_entity(
     record.update(told)
     if key:
         lock_key(record, key, faults)
+
+
+def _other_base(model: Model, record: Record) -> str:
+    """What to do where a class extends another one than before."""
+    swapped = [name for name in record.get("was", ()) if name in model]
+    if swapped:
+        return (f"it swapped its name with {swapped[0]} before. Two that are to change their names "
+                "once more do so by a third name, in three openings")
+    return ("its rows are of a table for good. Let it be a new class, by another name and was=\"\", "
+            "and carry its objects over (docs/OPERATING.md)")
 
 
 def _mark(lock: Lock, name: str) -> str:

@@ -89,3 +89,19 @@ class Moves(Renamings):
         for lock in (self.lock.read_bytes(), before):
             self.lock.write_bytes(lock)
             self.refuse(below, "Person.code is stored in 1 of Person", kind=NotBroughtOver)
+
+    def test_two_classes_that_swap_their_names_again(self) -> None:
+        text = ("\nclass {}(Entity{}):\n    id: int = generated()\n    code: " + TEXT +
+                "\n\nclass {}({}{}):\n    mark: " + TEXT + "\n")
+        module = self.module(text.format("A", "", "B", "A", ""))
+        with self.open(module) as app, app.begin() as manager:
+            manager.persist_all([module.A(code="a"), module.B(code="b")])
+        self.open(text.format("B", ", was='A'", "A", "B", ", was='B'")).close()
+        for back in (text.format("A", "", "B", "A", ""),
+                     text.format("A", ", was='B'", "B", "A", ", was='A'")):
+            self.refuse(back, "A extended B before, and extends Entity now: it swapped its name with B",
+                        "by a third name, in three openings")
+        for names in (("B", "", "C", "B", ", was='A'"), ("A", ", was='B'", "C", "A", ""),
+                      ("A", "", "B", "A", ", was='C'")):
+            self.open(text.format(*names)).close()
+        self.assertEqual(self.found(text.format("A", "", "B", "A", ""), "SELECT b.code FROM B b"), ["b"])
