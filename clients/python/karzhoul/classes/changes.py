@@ -17,12 +17,14 @@ from ..refusals import Damaged, Refused
 from ..wire.tally import LOGGER
 from . import lock as locks
 from .binding import Binding
-from .columns import DROPPED, Column, columns, other_names, places, stored_forms, unknown
+from .columns import (
+    DROPPED, Column, columns, misplaced, other_names, places, stored_forms, unknown,
+)
 from .declared import Declared, Given, Member, Model, declared_by
 from .faults import NotBroughtOver
 from .fields import MISSING
 from .mapping import FORMS, mapping_of
-from .types import StoredType, Unfit
+from .types import Listed, StoredType, Unfit
 from .unique import Constraint, Uniques, doubles, keyless, linked, make_keys, sweep
 
 if TYPE_CHECKING:
@@ -119,6 +121,7 @@ def _started(
             stored = stored_forms(db) if db is not None else {}
             words = stored, str(made.file), str(db)
             faults = unknown(made.lock, *words) + other_names(made.model, made.lock, *words)
+            faults += misplaced(made.model, made.lock, db) if db is not None else []
             raise (NotBroughtOver(faults) if faults else damaged) from None
 
 
@@ -398,6 +401,9 @@ def _bring(manager: Any, column: Column, before: str) -> None:
     old, new = scale_of(before), scale_of(column.form)
     if old is not None and new is not None:
         _rescale(manager, column, old, new)
+    elif isinstance(column.type, Listed) and column.type.reads_others(before):
+        raise Unfit("what is stored by name and by value has the same texts, each of another member. "
+                    f"Take by_value() back as it was, and the order of the members; or {_OTHER}")
     elif column.type is not None and may_become(before, column.form):
         _check_values(manager, column, column.type)
     else:

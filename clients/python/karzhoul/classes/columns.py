@@ -87,17 +87,27 @@ class Place(NamedTuple):
 
 
 def places(model: Model, lock: Lock) -> Iterator[Place]:
-    """All tables that a lock has, and the columns of the classes of a model."""
-    names = set(model)
+    """All tables that a lock has, and the columns and parts of keys of the classes of a
+    model."""
+    classes = set(model)
     for name, record in lock["entities"].items():
         if "table" in record:
-            yield Place(str(record["table"]), name, name, record, names)
+            yield Place(str(record["table"]), name, name, record, classes)
     for entity in model.values():
         record, table = lock["entities"][entity.name], _table(lock, entity.name)
         members = set(entity.members)
         for name, stored in _named(record):
             said = f"{entity.name}.{words_of(name)}"
             yield Place(_at(table, stored), said, name, stored, members)
+        parts = record.get("key", {}).get("parts", ())
+        names = {part["name"] for part in parts}
+        for at, part in enumerate(parts):
+            said = f"{entity.name}.{words_of(part['name'])}"
+            yield Place(_key_at(table, at), said, part["name"], part, names)
+
+
+def _key_at(table: int, place: int) -> str:
+    return f"{table}.key{place + 1}"
 
 
 def _named(record: Record) -> Iterator[Tuple[str, Record]]:
@@ -149,6 +159,43 @@ def _numbers(lock: Lock) -> Iterator[str]:
         told = [it for _, it in _named(record)]
         for each in [*told, *record.get("unique", {}).values()]:
             yield _at(table, each)
+        for at in range(len(record["key"]["type"].split(", ")) if "key" in record else 0):
+            yield _key_at(table, at)
+
+
+_HOLDERS = (
+    "SELECT mark.v, COUNT(*) FROM cell held JOIN cell mark ON mark.t = held.t AND mark.r = held.r "
+    "WHERE held.t = ? AND held.c = ? AND mark.c = 0 GROUP BY mark.v ORDER BY mark.v"
+)
+
+
+def misplaced(model: Model, lock: Lock, db: Path) -> List[str]:
+    """What objects in a store that can't be opened hold and only a class below theirs, or beside it,
+    has now, told with what to do."""
+    faults: List[str] = []
+    kinds = {record["mark"]: name for name, record in lock["entities"].items()}
+    with suppress(sqlite3.Error, UnicodeDecodeError), opened_to_read(db) as connection:
+        for entity in filter(lambda it: it.parent, model.values()):
+            table = _table(lock, entity.name)
+            for name, stored in lock["entities"][entity.name]["members"].items():
+                held = connection.execute(_HOLDERS, (table, stored.get("column")))
+                for kind, count in ((kinds.get(_text(mark), ""), count) for mark, count in held):
+                    if kind and not _is_below(lock, kind, entity.name):
+                        said = words_of(name)
+                        faults.append(
+                            f"{kind}.{said} is stored in {count:,} of {kind}, and {entity.name} alone "
+                            f"has {said} now, so that they would lose it: leave it in {kind}, or set "
+                            "it to None in these first, by the classes and the lock of before; "
+                            "nothing is lost"
+                        )
+    return faults
+
+
+def _is_below(lock: Lock, name: str, above: str) -> bool:
+    """Whether a class is another one or extends it."""
+    while name != above and "extends" in lock["entities"][name]:
+        name = lock["entities"][name]["extends"]
+    return name == above
 
 
 def stored_forms(db: Path) -> Dict[str, str]:

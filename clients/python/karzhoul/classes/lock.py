@@ -13,6 +13,7 @@ from typing import Any, Dict, Iterator, List, Optional, Tuple
 
 from .declared import TO_MANY, Declared, Member, Model
 from .faults import Faults, NotBroughtOver
+from .keys import lock_key
 from .renaming import Claim, refuse, words_of, written
 
 NAME = "karzhoul.lock.json"
@@ -159,7 +160,7 @@ def locked(model: Model, before: Lock) -> Lock:
     faults.tell()
     numbers = _Numbers(lock)
     for entity in model.values():
-        _lock_entity(lock, entity, told[entity.name], numbers, faults)
+        _lock_entity(model, lock, entity, told[entity.name], numbers, faults)
     faults.tell()
     left = {entity.name: _leave(lock, entity) for entity in model.values()}
     claims = _claims(model, lock, left, faults)
@@ -248,7 +249,7 @@ def _like(records: Dict[str, Record], lost: "set[str]", entity: Declared) -> str
 
 
 def _lock_entity(
-    lock: Lock, entity: Declared, told: Record, numbers: _Numbers, faults: Faults
+    model: Model, lock: Lock, entity: Declared, told: Record, numbers: _Numbers, faults: Faults
 ) -> None:
     record = lock["entities"].get(entity.name)
     key = entity.key()
@@ -261,9 +262,7 @@ def _lock_entity(
             record["version"] = numbers.column(entity.name)
     elif record.get("extends") != entity.parent:
         faults.add(entity.kind, None, f"extended {record.get('extends', 'Entity')} before, and "
-                   f"extends {entity.parent or 'Entity'} now: its rows are of a table for good. "
-                   "Let it be a new class, by another name and was=\"\", and carry its objects "
-                   "over (docs/OPERATING.md)")
+                   f"extends {entity.parent or 'Entity'} now: {_other_base(model, record)}")
     elif bool(record.get("version")) != (version is not None):
         faults.add(entity.kind, None, "has a version where it had none, or none where it had one: "
                    "an entity keeps that for good. Take the change back, or bring the store over by "
@@ -272,19 +271,17 @@ def _lock_entity(
         record.pop("says", None)
     record.update(told)
     if key:
-        kinds = [part.type for part in key if part.type is not None]
-        said = {"form": ", ".join(it.form for it in kinds),
-                "type": ", ".join(it.stored for it in kinds),
-                "generated": key[0].field.sort == "generated"}
-        before = record.setdefault("key", said)
-        if before != said:
-            faults.add(key[0].writer, key[0].said, f"is a key of {_key_words(said)}, and was one "
-                       f"of {_key_words(before)}: a key stays as it is. Take the change back, or "
-                       "bring the store over by karzhoul migrate (docs/OPERATING.md)")
+        lock_key(record, key, faults)
 
 
-def _key_words(said: Record) -> str:
-    return f"{said['form']}{', generated' if said['generated'] else ''}"
+def _other_base(model: Model, record: Record) -> str:
+    """What to do where a class extends another one than before."""
+    swapped = [name for name in record.get("was", ()) if name in model]
+    if swapped:
+        return (f"it swapped its name with {swapped[0]} before. Two that are to change their names "
+                "once more do so by a third name, in three openings")
+    return ("its rows are of a table for good. Let it be a new class, by another name and was=\"\", "
+            "and carry its objects over (docs/OPERATING.md)")
 
 
 def _mark(lock: Lock, name: str) -> str:

@@ -239,8 +239,17 @@ class Listed(StoredType):
         if len(sorts) != 1 or not sorts <= {int, str}:
             raise Unfit(f"has values that are not all of int, nor all of str: {kind.__name__}")
         self.stored = STORED[sorts.pop()]
-        # A store tells by it that one is gone.
-        self.form = f"enum {json.dumps(list(self._values), ensure_ascii=False)}"
+        self.form = _listed(list(self._values))
+
+    def reads_others(self, form: str) -> bool:
+        """Whether a form may be that of the same enum by the other of name and value, of which a
+        text that is stored would be read as another member."""
+        others = [(each.name if self.by_value else each.value, each) for each in self.kind]
+        if not all(isinstance(text, str) for text, _ in others):
+            return False
+        return form == _listed([text for text, _ in others]) and any(
+            self._values.get(text, each) is not each for text, each in others
+        )
 
     def to_stored(self, value: Any) -> Plain:
         if not isinstance(value, self.kind):
@@ -255,6 +264,11 @@ class Listed(StoredType):
             known = ", ".join(map(repr, self._values))
             raise Unfit(f"is none of {self.kind.__name__}: {known}")
         return self._values[stored]
+
+
+def _listed(values: List[Any]) -> str:
+    """The form of an enum, by which a store tells that a member is gone."""
+    return f"enum {json.dumps(values, ensure_ascii=False)}"
 
 
 class Unique(StoredType):

@@ -370,3 +370,16 @@ class Changed(ClassesTest):
                 manager.persist(Address(street="Rue", of=ada))
         rows = self.told("SELECT a.street, a.of.fax FROM Address a", more=more)
         self.assertEqual(rows, [["Rue", "12"]])
+
+    def test_an_enum_whose_names_are_values_of_others(self) -> None:
+        text = ("\nclass W(Enum):\n    A = 'B'\n    B = 'A'\n"
+                "\nclass Thing(Entity):\n    id: int = generated()\n    v: W{}\n")
+        by_value = self.module(text.format(" = by_value()"))
+        self.lock, self.db = self.folder / "things.json", self.folder / "things.db"
+        with self.open(by_value) as app, app.begin() as manager:
+            manager.persist(by_value.Thing(v=by_value.W.A))
+        told = r"Thing\.v is stored as enum .* the same texts, each of another member\. Take by_value"
+        with self.assertRaisesRegex(NotBroughtOver, told):
+            self.open(text.format(""))
+        with self.open(by_value) as app, app.begin() as manager:
+            self.assertIs(manager.one("SELECT t FROM Thing t").v, by_value.W.A)

@@ -207,7 +207,8 @@ class Other(Embedded):
     def test_over_another_opening(self) -> None:
         self.app.close()
         lock = self.lock.read_text()
-        self.app = self.open(MODULE.replace("isbn: str", "code: str").replace('"isbn"', '"code"'))
+        renamed = MODULE.replace("isbn: str = key()", "code: str = key(was='isbn')")
+        self.app = self.open(renamed.replace('"isbn"', '"code"'))
         with self.app.begin() as manager:
             self.assertEqual(manager.get_reference("Copy", ("a", 10)).code, "a")
         self.assertEqual(self.lock.read_text(), lock)

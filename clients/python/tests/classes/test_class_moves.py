@@ -5,6 +5,8 @@ from __future__ import annotations
 
 from typing import Any, List
 
+from karzhoul import NotBroughtOver
+
 from ..support import needs_program
 from .test_class_renaming import Renamings, was
 
@@ -64,3 +66,42 @@ class Moves(Renamings):
         self.fill(classes("", f"code: {TEXT}", ""))
         after = classes(f"code: {TEXT}", f"mark: {was('code')}")
         self.assertEqual(self.found(after, "SELECT c.mark, c.code FROM Club c"), [["C", None]])
+
+    def test_one_that_goes_to_the_class_below(self) -> None:
+        above, below = classes(f"code: {TEXT}"), classes("", f"code: {TEXT}")
+        module = self.module(above)
+        with self.open(module) as app, app.begin() as manager:
+            manager.persist_all([module.Person(code="P"), module.Person(code="Q"), module.Person(),
+                                 module.Club(code="C"), module.Firm(code="F")])
+        self.refuse(below, "Person.code is stored in 2 of Person, and Club alone has code now",
+                    "Firm.code is stored in 1 of Firm", "leave it in Person", kind=NotBroughtOver)
+        with self.open(above) as app, app.begin() as manager:
+            manager.execute_update("UPDATE Person p SET p.code = NULL WHERE p.code <> 'C'")
+        self.assertEqual(self.found(below, "SELECT c.code FROM Club c"), ["C"])
+
+    def test_one_that_went_to_the_class_above_and_is_taken_back(self) -> None:
+        above, below = classes(f"code: {TEXT}"), classes("", f"code: {TEXT}")
+        self.fill(below)
+        before = self.lock.read_bytes()
+        module = self.module(above)
+        with self.open(module) as app, app.begin() as manager:
+            manager.persist(module.Person(code="P"))
+        for lock in (self.lock.read_bytes(), before):
+            self.lock.write_bytes(lock)
+            self.refuse(below, "Person.code is stored in 1 of Person", kind=NotBroughtOver)
+
+    def test_two_classes_that_swap_their_names_again(self) -> None:
+        text = ("\nclass {}(Entity{}):\n    id: int = generated()\n    code: " + TEXT +
+                "\n\nclass {}({}{}):\n    mark: " + TEXT + "\n")
+        module = self.module(text.format("A", "", "B", "A", ""))
+        with self.open(module) as app, app.begin() as manager:
+            manager.persist_all([module.A(code="a"), module.B(code="b")])
+        self.open(text.format("B", ", was='A'", "A", "B", ", was='B'")).close()
+        for back in (text.format("A", "", "B", "A", ""),
+                     text.format("A", ", was='B'", "B", "A", ", was='A'")):
+            self.refuse(back, "A extended B before, and extends Entity now: it swapped its name with B",
+                        "by a third name, in three openings")
+        for names in (("B", "", "C", "B", ", was='A'"), ("A", ", was='B'", "C", "A", ""),
+                      ("A", "", "B", "A", ", was='C'")):
+            self.open(text.format(*names)).close()
+        self.assertEqual(self.found(text.format("A", "", "B", "A", ""), "SELECT b.code FROM B b"), ["b"])
