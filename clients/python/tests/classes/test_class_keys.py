@@ -2,6 +2,7 @@
 
 from __future__ import annotations
 
+import json
 from typing import Any, Dict, List, Tuple
 
 import karzhoul
@@ -206,12 +207,14 @@ class Other(Embedded):
 
     def test_over_another_opening(self) -> None:
         self.app.close()
-        lock = self.lock.read_text()
+        lock = json.loads(self.lock.read_text())
         renamed = MODULE.replace("isbn: str = key()", "code: str = key(was='isbn')")
         self.app = self.open(renamed.replace('"isbn"', '"code"'))
         with self.app.begin() as manager:
             self.assertEqual(manager.get_reference("Copy", ("a", 10)).code, "a")
-        self.assertEqual(self.lock.read_text(), lock)
+        lock["entities"]["Copy"]["key"]["parts"][0] = {
+            "name": "code", "was": ["isbn"], "says": "isbn"}
+        self.assertEqual(json.loads(self.lock.read_text()), lock)
         self.app.close()
         words = "Copy.isbn is a key of text, text, and was one of text, int: a key stays as it is"
         with self.assertRaisesRegex(DeclarationError, words):
