@@ -16,9 +16,9 @@ sys.dont_write_bytecode = True
 import counts
 
 TOP = Path(__file__).resolve().parents[1]
-REFUSED = "rt: must-fail jpa_heap/kept.edit: refused, as it must be"
-BAD = "rt: must-fail jpa_heap/planted_lost.edit: BAD EDIT: it did not reach the prover"
-UNTRIED = "rt: must-fail jpa_heap/late.edit: NOT TRIED: its check was killed"
+REFUSED = "rt: must-fail jpa_work/kept.edit: refused, as it must be"
+BAD = "rt: must-fail jpa_work/planted_lost.edit: BAD EDIT: it did not reach the prover"
+UNTRIED = "rt: must-fail jpa_work/late.edit: NOT TRIED: its check was killed"
 
 
 class Copy(unittest.TestCase):
@@ -90,7 +90,7 @@ class Edits(Copy):
         self.rt(REFUSED, BAD, "  src/lib.rt:1:1: error[unknown-method]")
         self.check(
             "4 passed, 1 failed", 1,
-            "failed: jpa_heap/planted_lost.edit can't be laid, compiled or read, so no contract was"
+            "failed: jpa_work/planted_lost.edit can't be laid, compiled or read, so no contract was"
             " tried",
         )
 
@@ -99,14 +99,14 @@ class Edits(Copy):
         self.check("4 passed, 2 failed", 1)
 
     def test_an_edit_of_another_form_fails(self) -> None:
-        self.rt("rt: crates/jpa_heap/must-fail/a b.txt: BAD EDIT: an edit stands in must-fail/")
+        self.rt("rt: crates/jpa_work/must-fail/a b.txt: BAD EDIT: an edit stands in must-fail/")
         self.check("4 passed, 1 failed", 1)
 
     def test_one_that_was_not_tried_is_named(self) -> None:
         self.rt(UNTRIED, failed=1)
-        self.check("4 passed, 1 failed", 1, "failed: jpa_heap/late.edit was not tried")
+        self.check("4 passed, 1 failed", 1, "failed: jpa_work/late.edit was not tried")
         self.rt(UNTRIED)
-        self.check("4 passed, 1 failed", 1, "failed: jpa_heap/late.edit was not tried")
+        self.check("4 passed, 1 failed", 1, "failed: jpa_work/late.edit was not tried")
 
     def test_planted_edits_that_could_not_be_laid(self) -> None:
         self.rt(REFUSED)

@@ -40,7 +40,7 @@ LIMITS = "crates/jpa_value/specs/Limits.antt"
 EXAMPLES = ("mappings", "revisions", "limits", "functions", "stores", "migrations", "queries", "typed")
 TITLE = re.compile(r"^(?:mapping|limit|functions|store|query|typed|wide) (.+)$", re.MULTILINE)
 VERSIONS = {
-    "crates/jpa_settings/src/settings.rt": r'\.version\("([^"]+)"\)',
+    "crates/jpa_lines/src/settings/settings.rt": r'\.version\("([^"]+)"\)',
     "clients/python/karzhoul/__init__.py": r'^__version__ = "([^"]+)"',
 }
 COUNTS = {29: "twenty-nine", 30: "thirty", 31: "thirty-one", 32: "thirty-two"}
@@ -221,8 +221,9 @@ def check_runs(page: str) -> None:
 
 
 def check_words(page: str) -> None:
-    for crate, name in re.findall(r"\b(jp[aq]\w*): ([A-Z]\w+)", prose(read(page))):
-        if not pathlib.Path(f"crates/{crate}/specs/{name}.antt").exists():
+    for crate, name in re.findall(r"\b(jp[aq]\w*(?:::\w+)?): ([A-Z]\w+)", prose(read(page))):
+        folder = crate.replace("::", "/specs/") if "::" in crate else f"{crate}/specs"
+        if not pathlib.Path(f"crates/{folder}/{name}.antt").exists():
             fault(page, f"{crate}: {name} is no file of definitions")
 
 
@@ -268,7 +269,7 @@ def check_version(page: str) -> None:
 
 
 def check_calls(reference: str) -> None:
-    words = found_in(r'^ +"(\w+)" => Ok\(Word::', read("crates/jpa_lines/src/reading.rt"))
+    words = found_in(r'^ +"(\w+)" => Ok\(Word::', read("crates/jpa_lines/src/lines/reading.rt"))
     tables = read(reference) + read("docs/QUERIES.md")
     for word in sorted(set(words) - set(found_in(r'^\| `\{"call":"(\w+)"', tables))):
         fault(reference, f"neither its table of calls nor that of docs/QUERIES.md has {word}")

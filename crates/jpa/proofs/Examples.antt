@@ -2,15 +2,15 @@
 use Rattle.std.specs.Prelude.{◌≡◌, [], ◌∷◌, codes, Ok, refl}
 use Rattle.std.specs.Str.{is_utf8, chars}
 use Rattle.serde_json.proofs.OnLiterals.{serde_json_on_literals}
-use Rattle.jpa_json.specs.JsonOf.{text_data}
-use Rattle.jpa_mapping.specs.DraftOf.{draft_of, entity_of, root_of, part_of, version_of, attribute_of, side_of, relation_of}
-use Rattle.jpa_mapping.specs.HistoryOf.{history_of, class_history_of, change_of}
-use Rattle.jpa_mapping.specs.MappingOf.{drafts_of, drafts_in, mapping_of}
-use Rattle.jpa_history.specs.declared.history.Change.{Change}
-use Rattle.jpa_history.specs.declared.history.ClassHistory.{ClassHistory}
-use Rattle.jpa_history.specs.declared.history.History.{History}
-use Rattle.jpa_functions.specs.FunctionsIn.{functions_in}
-use Rattle.jpql_tree.specs.declared.Language.{Language}
+use Rattle.jpa_json.specs.readers.JsonOf.{text_data}
+use Rattle.jpa_json.specs.mapping.DraftOf.{draft_of, entity_of, root_of, part_of, version_of, attribute_of, side_of, relation_of}
+use Rattle.jpa_json.specs.mapping.HistoryOf.{history_of, class_history_of, change_of}
+use Rattle.jpa_json.specs.mapping.MappingOf.{drafts_of, drafts_in, mapping_of}
+use Rattle.jpa_description.specs.declared.history.history.Change.{Change}
+use Rattle.jpa_description.specs.declared.history.history.ClassHistory.{ClassHistory}
+use Rattle.jpa_description.specs.declared.history.history.History.{History}
+use Rattle.jpa_json.specs.functions.FunctionsIn.{functions_in}
+use Rattle.jpql_trees.specs.declared.tree.Language.{Language}
 use Rattle.jpa.specs.Served.{own_unit, unit_in}
 
 -- it has nothing that a second revision might say

@@ -4,18 +4,18 @@ use Rattle.sqlite_trees.specs.declared.store.Store.{Ghosts}
 use Rattle.sqlite.specs.Held.{Held}
 use Rattle.jpa_model.specs.declared.unit.PersistenceUnit.{PersistenceUnit}
 use Rattle.jpa_behaviour.specs.Registered.{Registered, world_of}
-use Rattle.jpa_stored.specs.Sets.{StoredSet}
-use Rattle.jpa_functions.specs.Functions.{meaning}
-use Rattle.jpa_functions.specs.Known.{names_are_known}
-use Rattle.jpa_functions.specs.declared.make.Listener.{Listener}
-use Rattle.jpa_functions.specs.declared.make.Converter.{Converter}
+use Rattle.jpa_stored.specs.objects.Sets.{StoredSet}
+use Rattle.jpa_json.specs.functions.Functions.{meaning}
+use Rattle.jpa_json.specs.functions.Known.{names_are_known}
+use Rattle.jpa_json.specs.declared.functions.make.Listener.{Listener}
+use Rattle.jpa_json.specs.declared.functions.make.Converter.{Converter}
 use Rattle.jpa_program.specs.Opening.{HoldsCells}
 use Rattle.jpa_value.specs.declared.refusal.Cause.{Cause}
 use Rattle.jpa_value.specs.declared.refusal.MappingFault.{MappingFault}
-use Rattle.jpa_history.specs.declared.history.History.{History}
+use Rattle.jpa_description.specs.declared.history.history.History.{History}
 use Rattle.jpa_behaviour.specs.Served.{world_of_unit}
-use Rattle.jpa_migration.specs.Migration.{defaults_pass}
-use Rattle.jpql_tree.specs.declared.Language.{Language}
+use Rattle.jpa_opening.specs.migration.Migration.{defaults_pass}
+use Rattle.jpql_trees.specs.declared.tree.Language.{Language}
 use Rattle.jpa.specs.Served.{ProgramUnit, unit_from, HoldsUnit, is_servable, IsServable, GivesServable}
 
 module _ {S : Type 0} (g : Ghosts S) where

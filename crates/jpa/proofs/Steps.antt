@@ -6,13 +6,13 @@ use Rattle.jpa_model.specs.Described.{checked, unit_of}
 use Rattle.jpa_model.specs.WellFormed.{is_well_formed}
 use Rattle.jpa_model.specs.declared.draft.Draft.{Draft}
 use Rattle.jpa_model.specs.declared.unit.PersistenceUnit.{PersistenceUnit}
-use Rattle.jpa_history.specs.Condition.{checked_history, has_changes, history_of}
-use Rattle.jpa_history.specs.declared.draft.DraftHistory.{DraftHistory}
+use Rattle.jpa_description.specs.history.Condition.{checked_history, has_changes, history_of}
+use Rattle.jpa_description.specs.declared.history.draft.DraftHistory.{DraftHistory}
 use Rattle.serde_json.specs.Data.{Data, null, boolean, number, string, array, object}
-use Rattle.jpa_json.specs.JsonOf.{json_of, text_data}
-use Rattle.jpa_json.specs.Outcome.{and_then}
-use Rattle.jpa_mapping.specs.MappingOf.{drafts_of, drafts_in, checked_mapping, mapping_of}
-use Rattle.jpa_functions.specs.FunctionsIn.{functions_at, functions_in}
+use Rattle.jpa_json.specs.readers.JsonOf.{json_of, text_data}
+use Rattle.jpa_json.specs.readers.Outcome.{and_then}
+use Rattle.jpa_json.specs.mapping.MappingOf.{drafts_of, drafts_in, checked_mapping, mapping_of}
+use Rattle.jpa_json.specs.functions.FunctionsIn.{functions_at, functions_in}
 use Rattle.jpa.specs.Served.{IsMappingCause}
 
 -- where it refuses, it refuses the mapping

@@ -7,25 +7,25 @@ ghost use Rattle.std.specs.Prelude.{◌≡◌, ◌⊎◌, true, false, None, Ok,
 ghost use Rattle.jpa_value.specs.declared.refusal.Cause.{Cause};
 ghost use Rattle.jpa_value.specs.declared.refusal.MappingFault.{MappingFault};
 ghost use Rattle.jpa_model.specs.Described.{IsUnlessMemory};
-ghost use Rattle.jpa_cells_meaning.specs.Store.{IsOrderedIfFound};
-ghost use Rattle.jpa_functions.specs.Known as known;
+ghost use Rattle.jpa_cells.specs.meaning.Store.{IsOrderedIfFound};
+ghost use Rattle.jpa_json.specs.functions.Known as known;
 ghost use Rattle.jpa.specs.Served as spec;
 
 use jpa_behaviour::{Registry, ServedUnit};
-use jpa_cells::{Holding, holding_of};
-use jpa_functions::{ProgramFunctions, read_functions, registry_of};
-use jpa_history::History;
-use jpa_lines::write_text;
-use jpa_mapping::{Mapping, read_mapping};
+use jpa_cells::cells::{Holding, holding_of};
+use jpa_description::history::History;
+use jpa_json::functions::{ProgramFunctions, read_functions, registry_of};
+use jpa_json::mapping::{Mapping, read_mapping};
+use jpa_lines::lines::write_text;
+use jpa_lines::settings::{Settings, Stop, read_settings, status};
 use jpa_program::{first_unit, open, run};
-use jpa_questions::{
+use jpa_questions::questions::{
     Misgiven, Parameter, Question, Untold, check_unit, read_parameters, read_question, tell_rows,
     write_managed_plan, write_plan,
 };
-use jpa_settings::{Settings, Stop, read_settings, status};
 use jpa_value::{Cause, MappingFault, Refusal, Seq, Text, refusal_text};
-use jpql_shapes::grammar_text;
-use jpql_tree::Language;
+use jpql_text::shapes::grammar_text;
+use jpql_trees::tree::Language;
 use sqlite::{Alter, Connection, Error, ErrorCode, Unknown};
 use std::alloc::Global;
 use std::io::ErrorKind;

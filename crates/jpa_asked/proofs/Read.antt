@@ -4,25 +4,25 @@ use Rattle.std.proofs.lemmas.Bool.{le-leb, leb-true, lt-leb}
 use Rattle.jpa_value.specs.Limits.{most_query_bytes, most_open_parentheses, most_query_variables}
 use Rattle.jpa_value.specs.declared.refusal.Argument.{Argument}
 use Rattle.jpa_value.specs.declared.refusal.Cause.{Cause}
-use Rattle.jpql_grammar.specs.declared.lists.GivenList.{GivenList}
-use Rattle.jpql_grammar.specs.declared.token.Token.{Token}
-use Rattle.jpql_tree.specs.declared.Language.{Language}
-use Rattle.jpql_tree.specs.declared.Query.{Query}
-use Rattle.jpql_tree.specs.Names.{Text}
-use Rattle.jpql_grammar.specs.Limits.{nests_over}
-use Rattle.jpql_grammar.specs.Queries.{IsQuery}
-use Rattle.jpql_grammar.specs.Text.{IsText}
-use Rattle.jpql_tree.specs.Steps.{◌>>=◌}
-use Rattle.jpql_tree.specs.Variables.{declared_variables}
-use Rattle.jpql_grammar.proofs.Tools.{both}
-use Rattle.jpql_grammar.proofs.LexingLaws.{tokens_sound, tokens_complete}
-use Rattle.jpql_text.proofs.Whole.{stated_is, is_stated}
-use Rattle.jpql_text.specs.Answers.{statement_in, AreFew, AreTooMany, IsWithin, IsRead, IsOverLimit, IsRefused, UsesLists}
-use Rattle.jpa_context.specs.Steps.{Done, Refused, Op, after, give, require, IsRefusedAs}
-use Rattle.jpa_context.specs.Work.{Work}
+use Rattle.jpql_grammar.specs.declared.grammar.lists.GivenList.{GivenList}
+use Rattle.jpql_grammar.specs.declared.grammar.token.Token.{Token}
+use Rattle.jpql_trees.specs.declared.tree.Language.{Language}
+use Rattle.jpql_trees.specs.declared.tree.Query.{Query}
+use Rattle.jpql_trees.specs.tree.Names.{Text}
+use Rattle.jpql_grammar.specs.grammar.Limits.{nests_over}
+use Rattle.jpql_grammar.specs.grammar.Queries.{IsQuery}
+use Rattle.jpql_grammar.specs.grammar.Text.{IsText}
+use Rattle.jpql_trees.specs.tree.Steps.{◌>>=◌}
+use Rattle.jpql_trees.specs.tree.Variables.{declared_variables}
+use Rattle.jpql_grammar.proofs.grammar.Tools.{both}
+use Rattle.jpql_grammar.proofs.grammar.LexingLaws.{tokens_sound, tokens_complete}
+use Rattle.jpql_text.proofs.text.Whole.{stated_is, is_stated}
+use Rattle.jpql_text.specs.text.Answers.{statement_in, AreFew, AreTooMany, IsWithin, IsRead, IsOverLimit, IsRefused, UsesLists}
+use Rattle.jpa_work.specs.context.Steps.{Done, Refused, Op, after, give, require, IsRefusedAs}
+use Rattle.jpa_work.specs.context.Work.{Work}
 use Rattle.jpa_asked.specs.declared.asked.Reading.{Reading}
 use Rattle.jpa_asked.specs.Asking.{read_of, ReadsAs}
-use Rattle.jpql_text.specs.Together.{most_values_together, values_together, become_few, most_cases, cases_in, has_few_cases, are_few}
+use Rattle.jpql_text.specs.text.Together.{most_values_together, values_together, become_few, most_cases, cases_in, has_few_cases, are_few}
 use Rattle.jpa_asked.specs.Reading.{tokens_in, query_of, are_used_in, are_few_in, is_short, is_within, declares_few}
 
 -- ---- the tree of a text

@@ -11,18 +11,18 @@ use Rattle.jpa_value.specs.declared.refusal.Cause.{Cause}
 use Rattle.jpa_value.specs.declared.refusal.Argument.{Argument}
 use Rattle.jpa_model.specs.declared.unit.PersistenceUnit.{PersistenceUnit}
 use Rattle.jpa_model.specs.Chains.{root_class}
-use Rattle.jpa_heap.specs.declared.Handed.{Handed}
-use Rattle.jpa_context.specs.Work.{Work, object, identity_at}
-use Rattle.jpa_context.specs.Steps.{◌>>=◌, ◌>>◌, Op, Done, give, refuse, require, read}
-use Rattle.jpql_grammar.specs.declared.lists.GivenList.{GivenList}
-use Rattle.jpql_tree.specs.declared.Language.{Language}
-use Rattle.jpql_tree.specs.declared.Query.{Query}
-use Rattle.jpql_tree.specs.Names.{Text}
+use Rattle.jpa_work.specs.declared.heap.Handed.{Handed}
+use Rattle.jpa_work.specs.context.Work.{Work, object, identity_at}
+use Rattle.jpa_work.specs.context.Steps.{◌>>=◌, ◌>>◌, Op, Done, give, refuse, require, read}
+use Rattle.jpql_grammar.specs.declared.grammar.lists.GivenList.{GivenList}
+use Rattle.jpql_trees.specs.declared.tree.Language.{Language}
+use Rattle.jpql_trees.specs.declared.tree.Query.{Query}
+use Rattle.jpql_trees.specs.tree.Names.{Text}
 use Rattle.jpql_types.specs.declared.sort.Sort.{Sort}
-use Rattle.jpql_typed.specs.declared.typed.Typed.{Typed}
-use Rattle.jpql_typed.specs.declared.typed.TypedSelect.{TypedSelect}
+use Rattle.jpql_trees.specs.declared.typed.typed.Typed.{Typed}
+use Rattle.jpql_trees.specs.declared.typed.typed.TypedSelect.{TypedSelect}
 use Rattle.jpql_types.specs.Statements.{checked}
-use Rattle.jpql_eval.specs.declared.datum.Datum.{Datum}
+use Rattle.jpql_meaning.specs.declared.eval.datum.Datum.{Datum}
 use Rattle.jpa_asked.specs.declared.asked.Binding.{Binding}
 use Rattle.jpa_asked.specs.declared.asked.Reading.{Reading}
 use Rattle.jpa_asked.specs.declared.asked.Statement.{Statement}

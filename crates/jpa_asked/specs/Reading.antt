@@ -2,18 +2,18 @@
 -- a text (Jakarta Persistence 3.1, chapter 4).
 use Rattle.jpa_value.specs.Limits.{most_query_bytes, most_open_parentheses, most_query_variables}
 use Rattle.std.specs.Prelude.{Bool, true, false, not, nat_le, ◌&&◌, List, [], length, Option, Some, None}
-use Rattle.jpql_grammar.specs.declared.lists.GivenList.{GivenList}
-use Rattle.jpql_grammar.specs.declared.token.Token.{Token}
-use Rattle.jpql_tree.specs.declared.Language.{Language}
-use Rattle.jpql_tree.specs.declared.Query.{Query}
-use Rattle.jpql_tree.specs.Names.{Text}
-use Rattle.jpql_grammar.specs.Lexing.{tokens_at}
-use Rattle.jpql_grammar.specs.Limits.{nests_over}
-use Rattle.jpql_grammar.specs.Lists.{are_used}
-use Rattle.jpql_tree.specs.Steps.{◌>>=◌}
-use Rattle.jpql_tree.specs.Variables.{declared_variables}
-use Rattle.jpql_text.specs.Answers.{statement_in}
-use Rattle.jpql_text.specs.Together.{are_few}
+use Rattle.jpql_grammar.specs.declared.grammar.lists.GivenList.{GivenList}
+use Rattle.jpql_grammar.specs.declared.grammar.token.Token.{Token}
+use Rattle.jpql_trees.specs.declared.tree.Language.{Language}
+use Rattle.jpql_trees.specs.declared.tree.Query.{Query}
+use Rattle.jpql_trees.specs.tree.Names.{Text}
+use Rattle.jpql_grammar.specs.grammar.Lexing.{tokens_at}
+use Rattle.jpql_grammar.specs.grammar.Limits.{nests_over}
+use Rattle.jpql_grammar.specs.grammar.Lists.{are_used}
+use Rattle.jpql_trees.specs.tree.Steps.{◌>>=◌}
+use Rattle.jpql_trees.specs.tree.Variables.{declared_variables}
+use Rattle.jpql_text.specs.text.Answers.{statement_in}
+use Rattle.jpql_text.specs.text.Together.{are_few}
 
 -- the tokens of a text in the language
 abbrev pub tokens_in : Language → Text → Option (List Token)

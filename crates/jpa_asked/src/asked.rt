@@ -1,10 +1,10 @@
 //! What a call asks.
-use jpa_heap::Handed;
 use jpa_value::{Seq, Text};
-use jpql_eval::Datum;
-use jpql_grammar::GivenList;
-use jpql_tree::{Language, Query};
-use jpql_typed::Typed;
+use jpa_work::heap::Handed;
+use jpql_grammar::grammar::GivenList;
+use jpql_meaning::eval::Datum;
+use jpql_trees::tree::{Language, Query};
+use jpql_trees::typed::Typed;
 
 /// What is bound to a parameter (Jakarta Persistence 3.1, chapter 3.10.12), by its name: `x` for
 /// `:x`, `1` for `?1`, and `value_name` of `x` and a place for a value of a collection.

@@ -1,14 +1,14 @@
 //! Laws of the definitions, for contracts to cite.
 ghost use Rattle.std.specs.Prelude.{◌≡◌, List, Some};
-ghost use Rattle.jpa_context.specs.Steps.{Done};
-ghost use Rattle.jpa_context.specs.Work.{Work};
+ghost use Rattle.jpa_work.specs.context.Steps.{Done};
+ghost use Rattle.jpa_work.specs.context.Work.{Work};
 ghost use Rattle.jpa_asked.specs.Asking.{ReadsAs, read_of};
 ghost use Rattle.jpa_asked.specs.declared.asked.Reading.{Reading};
-ghost use Rattle.jpql_text.specs.Answers.{IsRead};
-ghost use Rattle.jpql_grammar.specs.declared.lists.GivenList.{GivenList};
-ghost use Rattle.jpql_tree.specs.declared.Language.{Language};
-ghost use Rattle.jpql_tree.specs.declared.Query.{Query};
-ghost use Rattle.jpql_tree.specs.Names.{Text};
+ghost use Rattle.jpql_text.specs.text.Answers.{IsRead};
+ghost use Rattle.jpql_grammar.specs.declared.grammar.lists.GivenList.{GivenList};
+ghost use Rattle.jpql_trees.specs.declared.tree.Language.{Language};
+ghost use Rattle.jpql_trees.specs.declared.tree.Query.{Query};
+ghost use Rattle.jpql_trees.specs.tree.Names.{Text};
 
 /// A text is read as a tree exactly where it is one of the language's grammar within the limits, and
 /// this is its tree (Jakarta Persistence 3.1, chapter 4); it does nothing.

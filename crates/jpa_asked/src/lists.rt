@@ -3,7 +3,7 @@ ghost use Rattle.std.specs.Prelude.{◌≡◌, ◌≤◌, length};
 ghost use Rattle.jpa_asked.specs.Asking as asking;
 
 use crate::asked::Binding;
-use jpql_grammar::GivenList;
+use jpql_grammar::grammar::GivenList;
 
 /// Whether a name has a comma.
 fn has_comma(name: &str) -> bool

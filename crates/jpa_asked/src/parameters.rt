@@ -1,18 +1,18 @@
 //! What is bound to the parameters of a statement.
 ghost use Rattle.std.specs.Prelude.{◌≡◌, IfOk, IfErr};
 ghost use Rattle.jpa_value.specs.declared.refusal.Cause.{Cause};
-ghost use Rattle.jpa_context.specs.Undo.{now};
-ghost use Rattle.jpa_fetch.specs.Grown.{IsReady};
-ghost use Rattle.jpa_heap.specs.Shape.{IsInHeap};
+ghost use Rattle.jpa_work.specs.context.Undo.{now};
+ghost use Rattle.jpa_operations.specs.fetch.Grown.{IsReady};
+ghost use Rattle.jpa_work.specs.heap.Shape.{IsInHeap};
 ghost use Rattle.jpa_asked.specs.Asking as asking;
 ghost use Rattle.jpa_asked.specs.Premises.{AreInHeap};
 
 use crate::asked::Binding;
-use jpa_context::UnitOfWork;
-use jpa_heap::{Handed, identity_of};
 use jpa_model::Metamodel;
 use jpa_value::{Cause, Kind, Seq, Text, TryCopy, Value};
-use jpql_eval::Datum;
+use jpa_work::context::UnitOfWork;
+use jpa_work::heap::{Handed, identity_of};
+use jpql_meaning::eval::Datum;
 use jpql_types::{ParamType, Sort};
 use std::alloc::Global;
 

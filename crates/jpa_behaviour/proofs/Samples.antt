@@ -6,7 +6,7 @@ use Rattle.jpa_value.specs.declared.event.LifecycleEvent.{LifecycleEvent}
 use Rattle.jpa_value.specs.declared.refusal.Argument.{Argument}
 use Rattle.jpa_value.specs.declared.refusal.PersistenceFault.{PersistenceFault}
 use Rattle.jpa_value.specs.declared.refusal.Cause.{Cause}
-use Rattle.jpql_tree.specs.declared.Language.{Language}
+use Rattle.jpql_trees.specs.declared.tree.Language.{Language}
 use Rattle.jpa_behaviour.specs.declared.Image.{Image}
 use Rattle.jpa_behaviour.specs.declared.Heard.{Heard}
 use Rattle.jpa_behaviour.specs.Registered.{Registered, Meaning, added, known_as, heard_in, column_in, attribute_in, if_known, or_thrown}

@@ -6,7 +6,7 @@ use Rattle.jpa_value.specs.declared.value.Value.{Value}
 use Rattle.jpa_value.specs.Limits.{most_bytes}
 use Rattle.jpa_value.specs.Value.{is_null, is_representable}
 use Rattle.jpa_model.specs.declared.unit.PersistenceUnit.{PersistenceUnit}
-use Rattle.jpql_tree.specs.declared.Language.{Language}
+use Rattle.jpql_trees.specs.declared.tree.Language.{Language}
 use Rattle.jpa_behaviour.specs.declared.Image.{Image}
 use Rattle.jpa_behaviour.specs.declared.Named.{Named}
 use Rattle.jpa_behaviour.specs.declared.Heard.{Heard}

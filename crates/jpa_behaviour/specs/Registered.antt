@@ -9,7 +9,7 @@ use Rattle.jpa_value.specs.declared.refusal.Cause.{Cause}
 use Rattle.jpa_model.specs.Chains.{same_name}
 use Rattle.jpa_model.specs.WellFormed.{are_distinct_by}
 use Rattle.jpa_model.specs.declared.unit.PersistenceUnit.{PersistenceUnit}
-use Rattle.jpql_tree.specs.declared.Language.{Language}
+use Rattle.jpql_trees.specs.declared.tree.Language.{Language}
 use Rattle.jpa_behaviour.specs.declared.Image.{Image}
 use Rattle.jpa_behaviour.specs.declared.Heard.{Heard}
 use Rattle.jpa_behaviour.specs.Behaviour.{World, is_convertible, sees_representable, answers_representable}

@@ -11,7 +11,7 @@ use crate::by_name::ByName;
 use crate::converted::or_thrown;
 use crate::{Heard, Image};
 use jpa_value::{Argument, Cause, Value};
-use jpql_tree::Language;
+use jpql_trees::tree::Language;
 use std::alloc::Global;
 use std::marker::Model;
 

@@ -13,9 +13,9 @@ use Rattle.jpa_value.proofs.Orders.{identity_exact}
 use Rattle.jpa_model.specs.declared.unit.PersistenceUnit.{PersistenceUnit}
 use Rattle.jpa_model.specs.declared.unit.Relation.{Relation}
 use Rattle.jpa_model.specs.Chains.{relations_of}
-use Rattle.jpa_stored.specs.declared.stored.Stored.{Stored}
-use Rattle.jpa_stored.specs.Sets.{StoredSet, stored_at, all_shaped, is_shaped}
-use Rattle.jpa_context.specs.Work.{Work, object, state_of}
+use Rattle.jpa_stored.specs.declared.objects.stored.Stored.{Stored}
+use Rattle.jpa_stored.specs.objects.Sets.{StoredSet, stored_at, all_shaped, is_shaped}
+use Rattle.jpa_work.specs.context.Work.{Work, object, state_of}
 use Rattle.jpa_cascade.specs.declared.Node.{Node}
 use Rattle.jpa_cascade.specs.declared.Operation.{Operation}
 use Rattle.jpa_cascade.specs.Waves.{goes_along, goes_from, reaches_unread, nodes_held, live_targets_along, targets}

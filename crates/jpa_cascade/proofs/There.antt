@@ -7,13 +7,13 @@ use Rattle.std.proofs.lemmas.List.{get_or_past}
 use Rattle.std.proofs.lemmas.List.Elements.{Contains-get_or, recursion_from_All}
 use Rattle.jpa_value.specs.declared.value.Identity.{Identity}
 use Rattle.jpa_model.specs.declared.unit.PersistenceUnit.{PersistenceUnit}
-use Rattle.jpa_stored.specs.declared.stored.Stored.{Stored}
-use Rattle.jpa_heap.specs.declared.Link.{Link}
-use Rattle.jpa_heap.specs.declared.Collection.{Collection}
-use Rattle.jpa_heap.specs.declared.Held.{Held}
-use Rattle.jpa_heap.specs.Objects.{held_at}
-use Rattle.jpa_context.specs.declared.Entry.{Entry}
-use Rattle.jpa_context.specs.Work.{Work, object, object_in, has_identity, identity_at, instance, row}
+use Rattle.jpa_stored.specs.declared.objects.stored.Stored.{Stored}
+use Rattle.jpa_work.specs.declared.heap.Link.{Link}
+use Rattle.jpa_work.specs.declared.heap.Collection.{Collection}
+use Rattle.jpa_work.specs.declared.heap.Held.{Held}
+use Rattle.jpa_work.specs.heap.Objects.{held_at}
+use Rattle.jpa_work.specs.declared.context.Entry.{Entry}
+use Rattle.jpa_work.specs.context.Work.{Work, object, object_in, has_identity, identity_at, instance, row}
 use Rattle.jpa_cascade.specs.declared.Operation.{Operation}
 use Rattle.jpa_cascade.specs.declared.Node.{Node}
 use Rattle.jpa_cascade.specs.Waves.{reaches_unread, node_from, node_of, nodes_of, nodes_held, waves}

@@ -6,10 +6,10 @@ use Rattle.std.specs.List.{AllPairs}
 use Rattle.jpa_model.specs.declared.unit.PersistenceUnit.{PersistenceUnit}
 use Rattle.jpa_model.specs.declared.unit.Relation.{Relation}
 use Rattle.jpa_model.specs.Chains.{relations_of}
-use Rattle.jpa_stored.specs.declared.stored.Stored.{Stored}
-use Rattle.jpa_stored.specs.Sets.{members}
-use Rattle.jpa_heap.specs.Objects.{held_at}
-use Rattle.jpa_context.specs.Work.{Work, object, state_of, row}
+use Rattle.jpa_stored.specs.declared.objects.stored.Stored.{Stored}
+use Rattle.jpa_stored.specs.objects.Sets.{members}
+use Rattle.jpa_work.specs.heap.Objects.{held_at}
+use Rattle.jpa_work.specs.context.Work.{Work, object, state_of, row}
 use Rattle.jpa_cascade.specs.declared.Operation.{Operation}
 use Rattle.jpa_cascade.specs.declared.Node.{Node}
 use Rattle.jpa_cascade.specs.Waves.{goes_along, goes_from, reaches_unread, nodes_of, nodes_held, waves_by, waves}

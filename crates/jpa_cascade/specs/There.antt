@@ -2,11 +2,11 @@
 -- the manager sees.
 use Rattle.std.specs.Prelude.{◌<◌, ℕ, List, All, length, IsSome}
 use Rattle.jpa_model.specs.declared.unit.PersistenceUnit.{PersistenceUnit}
-use Rattle.jpa_heap.specs.declared.Link.{Link}
-use Rattle.jpa_heap.specs.declared.Collection.{Collection}
-use Rattle.jpa_heap.specs.declared.Held.{Held}
-use Rattle.jpa_heap.specs.declared.LiveObject.{LiveObject}
-use Rattle.jpa_context.specs.Work.{Work, row}
+use Rattle.jpa_work.specs.declared.heap.Link.{Link}
+use Rattle.jpa_work.specs.declared.heap.Collection.{Collection}
+use Rattle.jpa_work.specs.declared.heap.Held.{Held}
+use Rattle.jpa_work.specs.declared.heap.LiveObject.{LiveObject}
+use Rattle.jpa_work.specs.context.Work.{Work, row}
 use Rattle.jpa_cascade.specs.declared.Operation.{Operation}
 use Rattle.jpa_cascade.specs.declared.Node.{Node}
 use Rattle.jpa_cascade.specs.Waves.{waves}

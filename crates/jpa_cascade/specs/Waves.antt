@@ -8,14 +8,14 @@ use Rattle.jpa_value.specs.Value.{same_identity}
 use Rattle.jpa_model.specs.declared.unit.PersistenceUnit.{PersistenceUnit}
 use Rattle.jpa_model.specs.declared.unit.Relation.{Relation}
 use Rattle.jpa_model.specs.Chains.{relations_of}
-use Rattle.jpa_stored.specs.declared.stored.Stored.{Stored}
-use Rattle.jpa_stored.specs.Sets.{members, members_of}
-use Rattle.jpa_heap.specs.declared.Link.{Link}
-use Rattle.jpa_heap.specs.declared.Collection.{Collection}
-use Rattle.jpa_heap.specs.declared.Held.{Held}
-use Rattle.jpa_heap.specs.Objects.{held_at}
-use Rattle.jpa_context.specs.Work.{Work, object, state_of, instance, row, identity_at}
-use Rattle.jpa_context.specs.declared.EntityState.{EntityState}
+use Rattle.jpa_stored.specs.declared.objects.stored.Stored.{Stored}
+use Rattle.jpa_stored.specs.objects.Sets.{members, members_of}
+use Rattle.jpa_work.specs.declared.heap.Link.{Link}
+use Rattle.jpa_work.specs.declared.heap.Collection.{Collection}
+use Rattle.jpa_work.specs.declared.heap.Held.{Held}
+use Rattle.jpa_work.specs.heap.Objects.{held_at}
+use Rattle.jpa_work.specs.context.Work.{Work, object, state_of, instance, row, identity_at}
+use Rattle.jpa_work.specs.declared.context.EntityState.{EntityState}
 use Rattle.jpa_cascade.specs.declared.Operation.{Operation}
 use Rattle.jpa_cascade.specs.declared.Node.{Node}
 

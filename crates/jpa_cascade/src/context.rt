@@ -1,16 +1,16 @@
 //! What a cascade reads of the persistence context.
 ghost use Rattle.std.specs.Prelude.{◌≡◌, ◌<◌, All, length, IfSome};
 ghost use Rattle.std.specs.List.{find};
-ghost use Rattle.jpa_context.specs.Undo.{now, IsPlaced};
-ghost use Rattle.jpa_context.specs.Near.{places_near};
-ghost use Rattle.jpa_context.specs.Work as works;
-ghost use Rattle.jpa_heap.specs.Objects.{identity_of, object_at};
-ghost use Rattle.jpa_heap.specs.Shape.{HasShape};
+ghost use Rattle.jpa_work.specs.context.Undo.{now, IsPlaced};
+ghost use Rattle.jpa_work.specs.context.Near.{places_near};
+ghost use Rattle.jpa_work.specs.context.Work as works;
+ghost use Rattle.jpa_work.specs.heap.Objects.{identity_of, object_at};
+ghost use Rattle.jpa_work.specs.heap.Shape.{HasShape};
 
-use jpa_context::{EntityState, UnitOfWork};
-use jpa_heap::{Life, LiveObject, is_whole};
 use jpa_model::Metamodel;
 use jpa_value::{Identity, Value, order_keys};
+use jpa_work::context::{EntityState, UnitOfWork};
+use jpa_work::heap::{Life, LiveObject, is_whole};
 use std::cmp::Ordering;
 
 /// Whether an object has this identity. Takes no memory.

@@ -2,18 +2,18 @@
 ghost use Rattle.std.specs.Prelude.{◌≡◌, ◌<◌, ◌++◌, length, map, OnOk, IfOk, IfErr};
 ghost use Rattle.jpa_value.specs.declared.refusal.Cause.{Cause};
 ghost use Rattle.jpa_model.specs.Chains.{relations_of};
-ghost use Rattle.jpa_heap.specs.Objects.{object_at};
-ghost use Rattle.jpa_context.specs.Undo.{now, IsPlaced};
+ghost use Rattle.jpa_work.specs.heap.Objects.{object_at};
+ghost use Rattle.jpa_work.specs.context.Undo.{now, IsPlaced};
 ghost use Rattle.jpa_cascade.specs.declared.Node.{Node};
 ghost use Rattle.jpa_cascade.specs.Waves as waves;
 
 use crate::context::{instance, state_of};
 use crate::view::{members, members_now};
 use crate::{Node, Operation};
-use jpa_context::{EntityState, UnitOfWork};
-use jpa_heap::{Collection, Held, Link};
 use jpa_model::{Metamodel, Relation};
 use jpa_value::{Cause, Identity, Seq, TryCopy};
+use jpa_work::context::{EntityState, UnitOfWork};
+use jpa_work::heap::{Collection, Held, Link};
 use std::alloc::Global;
 
 /// Whether an operation goes along a relation (Jakarta Persistence 3.1, chapters 2.9 and 3.2).

@@ -2,18 +2,18 @@
 ghost use Rattle.std.specs.Prelude.{◌≡◌, ◌<◌, length, IfOk, IfErr};
 ghost use Rattle.jpa_value.specs.declared.refusal.Cause.{Cause};
 ghost use Rattle.jpa_model.specs.Chains.{relations_of};
-ghost use Rattle.jpa_stored.specs.Sets as sets;
+ghost use Rattle.jpa_stored.specs.objects.Sets as sets;
 ghost use Rattle.jpa_open.specs.Opened as opened;
-ghost use Rattle.jpa_heap.specs.Objects.{object_at};
-ghost use Rattle.jpa_context.specs.Undo.{now, IsPlaced};
+ghost use Rattle.jpa_work.specs.heap.Objects.{object_at};
+ghost use Rattle.jpa_work.specs.context.Undo.{now, IsPlaced};
 ghost use Rattle.jpa_cascade.specs.Waves as waves;
 
-use jpa_context::UnitOfWork;
-use jpa_heap::identity_of;
 use jpa_model::Metamodel;
 use jpa_open::OpenSet;
-use jpa_stored::Stored;
+use jpa_stored::objects::Stored;
 use jpa_value::{Cause, Identity, Seq, TryCopy};
+use jpa_work::context::UnitOfWork;
+use jpa_work::heap::identity_of;
 
 /// A copy of what an object owns in a relation.
 fn owned(view: &OpenSet, object: &Stored, relation: usize) -> Result<Seq<Identity>, Cause>

@@ -2,15 +2,15 @@
 ghost use Rattle.std.specs.Prelude.{◌≡◌, ◌++◌, OnOk, IfOk, IfErr};
 ghost use Rattle.std.specs.List.{flat_map};
 ghost use Rattle.jpa_value.specs.declared.refusal.Cause.{Cause};
-ghost use Rattle.jpa_context.specs.Undo.{now, IsPlaced};
+ghost use Rattle.jpa_work.specs.context.Undo.{now, IsPlaced};
 ghost use Rattle.jpa_cascade.specs.Order.{AreSeen};
 ghost use Rattle.jpa_cascade.specs.Waves as spec;
 
 use crate::targets::push_targets;
 use crate::{Node, Operation};
-use jpa_context::UnitOfWork;
 use jpa_model::Metamodel;
 use jpa_value::{Cause, Seq, TryCopy};
+use jpa_work::context::UnitOfWork;
 use std::alloc::Global;
 use std::collections::BTreeSet;
 

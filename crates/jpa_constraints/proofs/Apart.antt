@@ -11,10 +11,10 @@ use Rattle.jpa_value.specs.declared.value.Identity.{Identity}
 use Rattle.jpa_value.specs.Value.{identity_cmp, same_identity}
 use Rattle.std.specs.Cmp.{tied_itself}
 use Rattle.jpa_value.proofs.Orders.{identity_exact, identity_total}
-use Rattle.jpa_stored.specs.declared.stored.Stored.{Stored}
-use Rattle.jpa_stored.specs.Sets.{StoredSet, stored_at, all_distinct}
-use Rattle.jpa_stored.proofs.Puts.{rest_sorted, first_found, later}
-use Rattle.jpa_stored.proofs.Entries.{t_first}
+use Rattle.jpa_stored.specs.declared.objects.stored.Stored.{Stored}
+use Rattle.jpa_stored.specs.objects.Sets.{StoredSet, stored_at, all_distinct}
+use Rattle.jpa_stored.proofs.objects.Puts.{rest_sorted, first_found, later}
+use Rattle.jpa_stored.proofs.objects.Entries.{t_first}
 use Rattle.jpa_constraints.proofs.Each.{above, equal, holds_found, list_all_both}
 
 -- ---- no claim twice: each entry's are distinct, and those of different entries are apart

@@ -10,13 +10,13 @@ use Rattle.std.proofs.lemmas.List.Folds.{list_any-append}
 use Rattle.jpa_value.specs.declared.value.Identity.{Identity}
 use Rattle.jpa_value.specs.Value.{identity_cmp, same_identity}
 use Rattle.jpa_model.specs.declared.unit.Relation.{Relation}
-use Rattle.jpa_stored.specs.declared.claims.Claim.{Claim}
-use Rattle.jpa_stored.specs.Sets.{claims_at, same_claim, one_to_one_column}
+use Rattle.jpa_stored.specs.declared.objects.claims.Claim.{Claim}
+use Rattle.jpa_stored.specs.objects.Sets.{claims_at, same_claim, one_to_one_column}
 use Rattle.jpa_open.specs.Leads.{is_column, is_of_column}
 use Rattle.jpa_open.proofs.Placed.{and_false}
 use Rattle.jpa_open.proofs.Subclasses.{same_number, below_other, above_other, between_equal}
 use Rattle.jpa_constraints.specs.Judged.{ids_apart, link_apart, links_apart}
-use Rattle.jpa_stored.specs.Sets.{all_distinct}
+use Rattle.jpa_stored.specs.objects.Sets.{all_distinct}
 use Rattle.std.specs.Prelude.{not, ◌++◌}
 use Rattle.std.specs.List.{list_all}
 use Rattle.std.proofs.lemmas.List.Folds.{list_all-append}

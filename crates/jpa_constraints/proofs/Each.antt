@@ -11,10 +11,10 @@ use Rattle.std.specs.FinMap.Entries.{is_sorted, below_all, find}
 use Rattle.jpa_value.specs.declared.value.Identity.{Identity}
 use Rattle.jpa_value.specs.Value.{identity_cmp, same_identity}
 use Rattle.jpa_value.proofs.Orders.{identity_exact}
-use Rattle.jpa_stored.specs.declared.stored.Stored.{Stored}
-use Rattle.jpa_stored.specs.Sets.{StoredSet, stored_at}
-use Rattle.jpa_stored.proofs.Puts.{rest_sorted, first_found, later}
-use Rattle.jpa_stored.proofs.Entries.{t_first, t_second, less}
+use Rattle.jpa_stored.specs.declared.objects.stored.Stored.{Stored}
+use Rattle.jpa_stored.specs.objects.Sets.{StoredSet, stored_at}
+use Rattle.jpa_stored.proofs.objects.Puts.{rest_sorted, first_found, later}
+use Rattle.jpa_stored.proofs.objects.Entries.{t_first, t_second, less}
 
 -- ---- what holds of each object that is found holds of all, and back
 

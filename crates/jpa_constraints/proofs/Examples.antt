@@ -13,8 +13,8 @@ use Rattle.jpa_model.specs.declared.unit.PersistenceUnit.{PersistenceUnit}
 use Rattle.jpa_model.specs.declared.unit.Relation.{Relation}
 use Rattle.jpa_model.specs.declared.unit.Side.{Side}
 use Rattle.jpa_model.specs.Chains.{no_cascade}
-use Rattle.jpa_stored.specs.declared.stored.Stored.{Stored}
-use Rattle.jpa_stored.specs.Sets.{StoredSet, with_stored, without, fault_of, all_shaped}
+use Rattle.jpa_stored.specs.declared.objects.stored.Stored.{Stored}
+use Rattle.jpa_stored.specs.objects.Sets.{StoredSet, with_stored, without, fault_of, all_shaped}
 use Rattle.jpa_constraints.specs.declared.change.Change.{Change}
 use Rattle.jpa_constraints.specs.Changed.{class_at, is_changed, IsChangedFrom}
 use Rattle.jpa_constraints.specs.Judged.{fills, leads, keeps_class, is_alone, links_apart, fault_at}

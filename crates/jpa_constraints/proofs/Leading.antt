@@ -9,8 +9,8 @@ use Rattle.jpa_value.specs.Value.{same_identity}
 use Rattle.jpa_model.specs.declared.unit.PersistenceUnit.{PersistenceUnit}
 use Rattle.jpa_model.specs.declared.unit.Relation.{Relation}
 use Rattle.jpa_model.specs.Chains.{relations_of}
-use Rattle.jpa_stored.specs.Sets.{StoredSet}
-use Rattle.jpa_stored.proofs.Zips.{no_pairs}
+use Rattle.jpa_stored.specs.objects.Sets.{StoredSet}
+use Rattle.jpa_stored.proofs.objects.Zips.{no_pairs}
 use Rattle.jpa_open.specs.Leads.{is_led_to, owns_anywhere, holds_in, holds_where, leads_well, leads_wrong}
 use Rattle.jpa_open.proofs.Placed.{any_more}
 

@@ -13,10 +13,10 @@ use Rattle.jpa_value.proofs.Orders.{identity_exact, identity_total}
 use Rattle.jpa_model.specs.declared.unit.PersistenceUnit.{PersistenceUnit}
 use Rattle.jpa_model.specs.declared.unit.Relation.{Relation}
 use Rattle.jpa_model.specs.Chains.{relations_of, is_kind_of}
-use Rattle.jpa_stored.specs.ClaimOrder.{claim_total}
-use Rattle.jpa_stored.specs.declared.claims.Claim.{Claim}
-use Rattle.jpa_stored.specs.declared.stored.Stored.{Stored}
-use Rattle.jpa_stored.specs.Sets.{StoredSet, stored_at, no_required_null, is_of, all_lead, claims, same_claim, all_distinct, no_shared_target, first_fault, fault_of}
+use Rattle.jpa_stored.specs.objects.ClaimOrder.{claim_total}
+use Rattle.jpa_stored.specs.declared.objects.claims.Claim.{Claim}
+use Rattle.jpa_stored.specs.declared.objects.stored.Stored.{Stored}
+use Rattle.jpa_stored.specs.objects.Sets.{StoredSet, stored_at, no_required_null, is_of, all_lead, claims, same_claim, all_distinct, no_shared_target, first_fault, fault_of}
 use Rattle.jpa_open.specs.Leads.{has_rival, holds_where, leads_well, leads_wrong}
 use Rattle.jpa_constraints.specs.declared.change.Change.{Change}
 use Rattle.jpa_constraints.specs.Changed.{class_at, is_changed, IsChangedFrom, IsChanged}

@@ -10,8 +10,8 @@ use Rattle.jpa_value.specs.declared.value.Identity.{Identity}
 use Rattle.jpa_value.specs.Value.{identity_cmp, same_identity}
 use Rattle.jpa_value.proofs.Orders.{identity_total}
 use Rattle.jpa_model.specs.declared.unit.PersistenceUnit.{PersistenceUnit}
-use Rattle.jpa_stored.specs.declared.stored.Stored.{Stored}
-use Rattle.jpa_stored.specs.Sets.{StoredSet, stored_at, with_stored, without, IsSound}
+use Rattle.jpa_stored.specs.declared.objects.stored.Stored.{Stored}
+use Rattle.jpa_stored.specs.objects.Sets.{StoredSet, stored_at, with_stored, without, IsSound}
 use Rattle.jpa_open.proofs.Layers.{found_without, kept_if}
 use Rattle.jpa_constraints.specs.declared.change.Change.{Change}
 use Rattle.jpa_constraints.specs.Changed.{class_at, is_changed, IsChangedFrom}

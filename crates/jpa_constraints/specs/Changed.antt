@@ -6,7 +6,7 @@ use Rattle.std.specs.FinMap.Entries.{is_sorted}
 use Rattle.jpa_value.specs.declared.value.Identity.{Identity}
 use Rattle.jpa_value.specs.Value.{identity_cmp, same_identity}
 use Rattle.jpa_model.specs.declared.unit.PersistenceUnit.{PersistenceUnit}
-use Rattle.jpa_stored.specs.Sets.{StoredSet, stored_at, IsSound}
+use Rattle.jpa_stored.specs.objects.Sets.{StoredSet, stored_at, IsSound}
 use Rattle.jpa_constraints.specs.declared.change.Change.{Change}
 
 -- the class of what stands under the identity, if anything does

@@ -8,9 +8,10 @@ use Rattle.jpa_value.specs.Value.{same_identity}
 use Rattle.jpa_model.specs.declared.unit.PersistenceUnit.{PersistenceUnit}
 use Rattle.jpa_model.specs.declared.unit.Relation.{Relation}
 use Rattle.jpa_model.specs.Chains.{attributes_of, relations_of}
-use Rattle.jpa_stored.specs.declared.stored.Stored.{Stored}
-use Rattle.jpa_stored.specs.Sets.{StoredSet, stored_at, values_there, links_there, is_of, one_to_one_column, claims_at}
-use Rattle.jpa_stored.specs.Sets.{first_fault}
+use Rattle.jpa_stored.specs.declared.objects.stored.Stored.{Stored}
+use Rattle.jpa_stored.specs.objects.Sets.{StoredSet, stored_at, values_there, links_there, is_of, one_to_one_column}
+use Rattle.jpa_stored.specs.objects.Sets.{claims_at}
+use Rattle.jpa_stored.specs.objects.Sets.{first_fault}
 use Rattle.jpa_open.specs.Leads.{has_rival, leads_well, is_of_column}
 use Rattle.jpa_constraints.specs.declared.change.Change.{Change}
 use Rattle.jpa_constraints.specs.Changed.{class_at}

@@ -2,7 +2,7 @@
 ghost use Rattle.std.specs.Prelude.{◌≡◌, option_map};
 ghost use Rattle.std.specs.Option.{option_copied};
 ghost use Rattle.std.specs.List.{zip, list_all};
-ghost use Rattle.jpa_stored.specs.Sets as sets;
+ghost use Rattle.jpa_stored.specs.objects.Sets as sets;
 ghost use Rattle.jpa_open.specs.Leads as leads;
 ghost use Rattle.jpa_open.specs.Opened as opened;
 ghost use Rattle.jpa_constraints.specs.Changed as changed;
@@ -11,7 +11,7 @@ ghost use Rattle.jpa_constraints.specs.Judged as judged;
 use crate::change::Change;
 use jpa_model::{Metamodel, Relation};
 use jpa_open::OpenSet;
-use jpa_stored::{Stored, is_kind_of, relations_of};
+use jpa_stored::objects::{Stored, is_kind_of, relations_of};
 use jpa_value::{Identity, Seq};
 
 /// Whether an object of the class or below it stands under the identity.

@@ -3,14 +3,14 @@ ghost use Rattle.std.specs.Prelude.{◌≡◌, ◌&&◌};
 ghost use Rattle.std.specs.List.{list_all};
 ghost use Rattle.jpa_model.specs.Chains as chains;
 ghost use Rattle.jpa_value.specs.Value as values;
-ghost use Rattle.jpa_stored.specs.Sets as sets;
+ghost use Rattle.jpa_stored.specs.objects.Sets as sets;
 ghost use Rattle.jpa_open.specs.Opened as opened;
 ghost use Rattle.jpa_constraints.specs.Judged as judged;
 
 use crate::change::Change;
 use jpa_model::Metamodel;
 use jpa_open::OpenSet;
-use jpa_stored::{Stored, attributes_of, links_filled, relations_of, values_filled};
+use jpa_stored::objects::{Stored, attributes_of, links_filled, relations_of, values_filled};
 
 /// Whether an object has what its class requires.
 fn has_required(metamodel: &Metamodel, object: &Stored) -> bool

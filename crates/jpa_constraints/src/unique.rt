@@ -1,7 +1,7 @@
 //! Whether no two objects own the same target in one one-to-one relation.
 ghost use Rattle.std.specs.Prelude.{◌≡◌, ◌&&◌, not};
 ghost use Rattle.std.specs.List.{list_all, zip};
-ghost use Rattle.jpa_stored.specs.Sets as sets;
+ghost use Rattle.jpa_stored.specs.objects.Sets as sets;
 ghost use Rattle.jpa_open.specs.Leads as leads;
 ghost use Rattle.jpa_open.specs.Opened as opened;
 ghost use Rattle.jpa_constraints.specs.Judged as judged;
@@ -9,7 +9,7 @@ ghost use Rattle.jpa_constraints.specs.Judged as judged;
 use crate::change::Change;
 use jpa_model::{Metamodel, Relation, Side};
 use jpa_open::{OpenSet, is_of_column};
-use jpa_stored::{Stored, is_among, relations_of};
+use jpa_stored::objects::{Stored, is_among, relations_of};
 use jpa_value::{Identity, Seq};
 
 /// The column of an owning one-to-one relation; none for another.

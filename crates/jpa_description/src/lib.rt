@@ -1,18 +1,6 @@
-//! Whether a mapping description is well formed, and the metamodel that it describes (chapter 2).
-//!
-//! The definitions that contracts cite stand in `specs/` of `jpa_model`: in `WellFormed` the
-//! conditions on a description, in `Described` the unit that it describes and what `check` answers.
+//! What a mapping says, judged: whether a description of a persistence unit is well formed, and
+//! what it says has changed since revision 1 (chapter 2).
 #![tactic(auto)]
 
-mod alone;
-mod along;
-mod chains;
-mod checking;
-mod describe;
-mod events;
-mod names;
-mod numbers;
-mod relations;
-mod well_formed;
-
-pub use checking::check;
+pub mod description;
+pub mod history;

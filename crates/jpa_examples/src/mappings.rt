@@ -1,8 +1,8 @@
 //! Mappings: texts, which answer that they are read, or what is wrong with them.
 use crate::stop::Stop;
 use crate::texts::{filled, long_text};
-use jpa_functions::read_functions;
-use jpa_mapping::read_mapping;
+use jpa_json::functions::read_functions;
+use jpa_json::mapping::read_mapping;
 use jpa_value::Cause;
 use std::alloc::Global;
 

@@ -4,9 +4,9 @@ use crate::shown::show;
 use crate::stop::Stop;
 use crate::writer::Writer;
 use jpa_value::{Argument, Cause, Seq, Text};
-use jpql_grammar::GivenList;
-use jpql_text::{at_most_one_tree, read_query};
-use jpql_tree::{Language, Query};
+use jpql_grammar::grammar::GivenList;
+use jpql_text::text::{at_most_one_tree, read_query};
+use jpql_trees::tree::{Language, Query};
 use std::alloc::Global;
 
 /// The name of a refusal that is an answer.

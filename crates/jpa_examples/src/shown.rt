@@ -1,7 +1,7 @@
 //! A tree as text: parentheses stand around each node that joins others.
 use crate::writer::Writer;
 use jpa_value::{Boxed, Text};
-use jpql_tree::{
+use jpql_trees::tree::{
     Against, Aggregate, Arithmetic, Assignment, Block, Comparison, Condition, Function, Item, Join,
     Origin, Path, Query, Select, Sign, SortKey, Sorted, Source, Trimmed, Value,
 };

@@ -6,7 +6,7 @@ use crate::stop::Stop;
 use crate::told::Unit;
 use crate::writer::Writer;
 use crate::{queries, typed};
-use jpql_tree::Language;
+use jpql_trees::tree::Language;
 use std::alloc::Global;
 
 /// Adds the answer to an example of this kind.

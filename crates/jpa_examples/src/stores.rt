@@ -4,26 +4,26 @@
 //! A row is a line: its table, its bytes, and for each of its cells the column, a colon and the
 //! bytes, all bytes in hexadecimal digits.
 ghost use Rattle.std.specs.Prelude.{◌≡◌, true, IfOk};
-ghost use Rattle.jpa_stored.specs.Sets.{is_shaped, all_shaped};
-ghost use Rattle.jpa_rows.specs.Tables.{schema_of};
+ghost use Rattle.jpa_stored.specs.objects.Sets.{is_shaped, all_shaped};
+ghost use Rattle.jpa_rows.specs.rows.Tables.{schema_of};
 
 use crate::stop::Stop;
 use crate::told::Unit;
 use hex::FromHexError;
 use jpa_behaviour::Registry;
-use jpa_cells::{Cell, CellChange, CellStore};
-use jpa_functions::{ProgramFunctions, read_functions, registry_of};
-use jpa_history::History;
-use jpa_key::encode_key;
-use jpa_mapper::to_rows;
-use jpa_mapping::read_mapping;
+use jpa_cells::cells::{Cell, CellChange, CellStore};
+use jpa_cells::rowspace::RowSpace;
+use jpa_description::history::History;
+use jpa_json::functions::{ProgramFunctions, read_functions, registry_of};
+use jpa_json::mapping::read_mapping;
 use jpa_model::Metamodel;
-use jpa_rows::{Row, RowId, Schema, spell_row};
-use jpa_rowspace::RowSpace;
-use jpa_store_reader::{Committed, open_store};
-use jpa_stored::{Stored, StoredSet};
+use jpa_object_rows::mapper::to_rows;
+use jpa_opening::reader::{Committed, open_store};
+use jpa_rows::keys::encode_key;
+use jpa_rows::rows::{Row, RowId, Schema, spell_row};
+use jpa_stored::objects::{Stored, StoredSet};
 use jpa_value::{Bytes, Cause, Identity, Seq};
-use jpql_tree::Language;
+use jpql_trees::tree::Language;
 use sqlite::{Connection, MemStore};
 use std::alloc::Global;
 

@@ -3,12 +3,12 @@ use crate::given::{number, text_of};
 use crate::stop::Stop;
 use crate::told::Unit;
 use crate::writer::Writer;
-use jpa_mapping::read_mapping;
+use jpa_json::mapping::read_mapping;
 use jpa_model::Metamodel;
 use jpa_value::{Argument, Cause, Kind, Seq, Text};
-use jpql_text::read_query;
-use jpql_tree::Language;
-use jpql_typed::Typed;
+use jpql_text::text::read_query;
+use jpql_trees::tree::Language;
+use jpql_trees::typed::Typed;
 use jpql_types::{ParamType, check_query};
 use std::alloc::Global;
 

@@ -1,4 +1,3 @@
-pub mod Outcome
-pub mod Members
-pub mod JsonOf
-pub mod Values
+pub mod readers
+pub mod mapping
+pub mod functions

@@ -13,10 +13,10 @@ use Rattle.jpa_model.specs.Chains.{attributes_of, member_of}
 use Rattle.jpa_behaviour.specs.declared.Heard.{Heard}
 use Rattle.jpa_behaviour.specs.declared.Named.{Named}
 use Rattle.jpa_behaviour.specs.Behaviour.{World}
-use Rattle.jpa_heap.specs.declared.LiveObject.{LiveObject}
-use Rattle.jpa_heap.specs.Shape.{HasShape}
-use Rattle.jpa_context.specs.Work.{Work, with_object, object as object_of}
-use Rattle.jpa_context.specs.Steps.{Done}
+use Rattle.jpa_work.specs.declared.heap.LiveObject.{LiveObject}
+use Rattle.jpa_work.specs.heap.Shape.{HasShape}
+use Rattle.jpa_work.specs.context.Work.{Work, with_object, object as object_of}
+use Rattle.jpa_work.specs.context.Steps.{Done}
 use Rattle.jpa_lifecycle.specs.declared.firing.Fired.{Fired}
 use Rattle.jpa_lifecycle.specs.Callbacks.{takes, assigned_to, assigned, after_assignments, after_answer, image_of, fired_by, order, IsCallbackRefusal, ended, told_fired, callback}
 

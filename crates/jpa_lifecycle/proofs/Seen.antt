@@ -4,7 +4,7 @@ use Rattle.std.specs.List.{zip}
 use Rattle.std.proofs.lemmas.List.{append-nil, append_assoc, map-append, get_or-map, length-map}
 use Rattle.jpa_value.specs.declared.value.Value.{Value}
 use Rattle.jpa_behaviour.specs.declared.Named.{Named}
-use Rattle.jpa_stored.proofs.Zips.{no_pairs, zip_more}
+use Rattle.jpa_stored.proofs.objects.Zips.{no_pairs, zip_more}
 use Rattle.jpa_lifecycle.specs.Callbacks.{named}
 
 abbrev pub pair : List ℕ × Value → Named

@@ -17,12 +17,12 @@ use Rattle.jpa_behaviour.specs.declared.Image.{Image}
 use Rattle.jpa_behaviour.specs.declared.Named.{Named}
 use Rattle.jpa_behaviour.specs.declared.Heard.{Heard}
 use Rattle.jpa_behaviour.specs.Behaviour.{World}
-use Rattle.jpa_heap.specs.declared.LiveObject.{LiveObject}
-use Rattle.jpa_heap.specs.Objects.{version_value, with_value}
-use Rattle.jpa_heap.specs.Assign.{fits_attribute}
-use Rattle.jpa_context.specs.Work.{Work, object, with_object, told}
+use Rattle.jpa_work.specs.declared.heap.LiveObject.{LiveObject}
+use Rattle.jpa_work.specs.heap.Objects.{version_value, with_value}
+use Rattle.jpa_work.specs.heap.Assign.{fits_attribute}
+use Rattle.jpa_work.specs.context.Work.{Work, object, with_object, told}
 use Rattle.jpa_lifecycle.specs.declared.firing.Fired.{Fired}
-use Rattle.jpa_context.specs.Steps.{Outcome, Done, Refused, Op}
+use Rattle.jpa_work.specs.context.Steps.{Outcome, Done, Refused, Op}
 
 -- ---- who hears
 

@@ -1,15 +1,15 @@
 //! What a listener's assignments make of an object.
 ghost use Rattle.std.specs.Prelude.{◌≡◌, ◌<◌, true, length, option_copied, IfOk, IfErr, IfSome};
-ghost use Rattle.jpa_heap.specs.Assign as assigns;
-ghost use Rattle.jpa_heap.specs.Shape.{HasShape};
+ghost use Rattle.jpa_work.specs.heap.Assign as assigns;
+ghost use Rattle.jpa_work.specs.heap.Shape.{HasShape};
 ghost use Rattle.jpa_model.specs.Chains.{attributes_of};
 ghost use Rattle.jpa_value.specs.declared.refusal.Cause.{Cause};
 ghost use Rattle.jpa_lifecycle.specs.Callbacks as callbacks;
 
 use jpa_behaviour::Named;
-use jpa_heap::LiveObject;
 use jpa_model::{Attribute, Member, Metamodel};
 use jpa_value::{Cause, TryCopy, Value, fits};
+use jpa_work::heap::LiveObject;
 
 fn fits_attribute(attribute: Option<&Attribute>, value: &Value) -> bool
     ensures { result ≡ assigns.fits_attribute (option_copied attribute.entry) value.now }

@@ -2,8 +2,8 @@
 ghost use Rattle.std.specs.Prelude.{◌≡◌, IfOk, IfErr, OnOk};
 ghost use Rattle.jpa_behaviour.specs.Registered.{heard_in};
 ghost use Rattle.jpa_behaviour.specs.Served.{world_of_unit};
-ghost use Rattle.jpa_heap.specs.Shape.{HasShape};
-ghost use Rattle.jpa_heap.specs.declared.LiveObject.{LiveObject};
+ghost use Rattle.jpa_work.specs.heap.Shape.{HasShape};
+ghost use Rattle.jpa_work.specs.declared.heap.LiveObject.{LiveObject};
 ghost use Rattle.jpa_value.specs.declared.refusal.Cause.{Cause};
 ghost use Rattle.jpa_lifecycle.specs.Callbacks as callbacks;
 ghost use Rattle.jpa_lifecycle.specs.declared.firing.Fired.{Fired};
@@ -11,8 +11,8 @@ ghost use Rattle.jpa_lifecycle.specs.declared.firing.Fired.{Fired};
 use crate::assigning::assigned;
 use crate::seeing::image_of;
 use jpa_behaviour::{Behaviour, Heard, Image, Registry, ServedUnit};
-use jpa_heap::LiveObject;
 use jpa_value::{Cause, LifecycleEvent, PersistenceFault, Seq, Text};
+use jpa_work::heap::LiveObject;
 use std::alloc::Global;
 
 /// What became of an object to which an event happened: the names of the listeners and callbacks

@@ -1,15 +1,15 @@
 //! What a listener sees of an object.
 ghost use Rattle.std.specs.Prelude.{◌≡◌, [], ◌∷◌, ◌++◌, length, map, IfOk, IfErr, OnOk};
 ghost use Rattle.std.specs.List.{zip};
-ghost use Rattle.jpa_heap.specs.Shape.{HasShape};
+ghost use Rattle.jpa_work.specs.heap.Shape.{HasShape};
 ghost use Rattle.jpa_model.specs.Chains as chains;
 ghost use Rattle.jpa_value.specs.declared.refusal.Cause.{Cause};
 ghost use Rattle.jpa_lifecycle.specs.Callbacks as callbacks;
 
 use jpa_behaviour::{Image, Named};
-use jpa_heap::LiveObject;
 use jpa_model::{Attribute, Metamodel, Part, Root};
 use jpa_value::{Cause, LifecycleEvent, Seq, Text, TryCopy, Value};
+use jpa_work::heap::LiveObject;
 use std::alloc::Global;
 
 /// The name of a part of a key, behind that of the embedded id where there is one.

@@ -1,19 +1,19 @@
 //! Events that are told.
 ghost use Rattle.std.specs.Prelude.{◌≡◌, ◌<◌, suc, length, IfErr, OnOk};
 ghost use Rattle.jpa_behaviour.specs.Served.{world_of_unit};
-ghost use Rattle.jpa_context.specs.Steps.{Meets};
-ghost use Rattle.jpa_context.specs.Undo.{now, since};
-ghost use Rattle.jpa_context.specs.Work as works;
-ghost use Rattle.jpa_heap.specs.Shape.{HasShape};
+ghost use Rattle.jpa_work.specs.context.Steps.{Meets};
+ghost use Rattle.jpa_work.specs.context.Undo.{now, since};
+ghost use Rattle.jpa_work.specs.context.Work as works;
+ghost use Rattle.jpa_work.specs.heap.Shape.{HasShape};
 ghost use Rattle.jpa_lifecycle.specs.Callbacks as callbacks;
 ghost use Rattle.jpa_value.specs.declared.refusal.Cause.{Cause};
 
 use crate::firing::{Fired, fire};
 use crate::hearing::order;
 use jpa_behaviour::{Behaviour, ServedUnit};
-use jpa_context::UnitOfWork;
 use jpa_protocol::Told;
 use jpa_value::{Cause, LifecycleEvent, Seq, Text, TryCopy};
+use jpa_work::context::UnitOfWork;
 use std::alloc::Global;
 
 /// An event is told of an object, with the names that ran.

@@ -11,17 +11,17 @@ use Rattle.jpa_model.specs.declared.unit.Entity.{Entity}
 use Rattle.jpa_model.specs.declared.unit.Origin.{Origin}
 use Rattle.jpa_model.specs.declared.unit.Side.{Side}
 use Rattle.jpa_behaviour.specs.Behaviour.{World, without_functions}
-use Rattle.jpa_stored.specs.declared.stored.Stored.{Stored}
-use Rattle.jpa_stored.specs.Sets.{StoredSet}
-use Rattle.jpa_heap.specs.declared.Collection.{Collection}
-use Rattle.jpa_heap.specs.declared.Held.{Held}
-use Rattle.jpa_heap.specs.declared.Life.{Life}
-use Rattle.jpa_heap.specs.declared.Link.{Link}
-use Rattle.jpa_heap.specs.declared.LiveObject.{LiveObject}
-use Rattle.jpa_context.specs.declared.Entry.{Entry}
-use Rattle.jpa_context.specs.declared.Lock.{Lock}
-use Rattle.jpa_context.specs.Steps.{Done, Refused}
-use Rattle.jpa_context.specs.Work.{Work}
+use Rattle.jpa_stored.specs.declared.objects.stored.Stored.{Stored}
+use Rattle.jpa_stored.specs.objects.Sets.{StoredSet}
+use Rattle.jpa_work.specs.declared.heap.Collection.{Collection}
+use Rattle.jpa_work.specs.declared.heap.Held.{Held}
+use Rattle.jpa_work.specs.declared.heap.Life.{Life}
+use Rattle.jpa_work.specs.declared.heap.Link.{Link}
+use Rattle.jpa_work.specs.declared.heap.LiveObject.{LiveObject}
+use Rattle.jpa_work.specs.declared.context.Entry.{Entry}
+use Rattle.jpa_work.specs.declared.context.Lock.{Lock}
+use Rattle.jpa_work.specs.context.Steps.{Done, Refused}
+use Rattle.jpa_work.specs.context.Work.{Work}
 use Rattle.jpa_protocol.specs.declared.event.Told.{Told}
 use Rattle.jpa_merge.specs.Merge.{merge}
 

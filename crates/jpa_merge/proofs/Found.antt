@@ -5,7 +5,7 @@ use Rattle.std.specs.Prelude.{◌==◌, if◌then◌else◌}
 use Rattle.std.specs.List.{AllByRecursion}
 use Rattle.std.specs.Option.{option_or}
 use Rattle.std.proofs.lemmas.List.Elements.{recursion_from_All}
-use Rattle.jpa_context.specs.Work.{Work}
+use Rattle.jpa_work.specs.context.Work.{Work}
 use Rattle.jpa_merge.specs.declared.images.NodeImage.{NodeImage}
 use Rattle.jpa_merge.specs.Imaged.{AreImaged, IsImaged}
 use Rattle.jpa_merge.specs.Merge.{first_image, image_among}

@@ -12,18 +12,18 @@ use Rattle.jpa_model.specs.declared.unit.PersistenceUnit.{PersistenceUnit}
 use Rattle.jpa_model.specs.declared.unit.Relation.{Relation}
 use Rattle.jpa_model.specs.Chains.{attributes_of, is_to_one, relations_of, root_of}
 use Rattle.jpa_behaviour.specs.Behaviour.{World}
-use Rattle.jpa_heap.specs.declared.LiveObject.{LiveObject}
-use Rattle.jpa_heap.specs.Objects.{empty_held, new_object, no_object}
-use Rattle.jpa_heap.specs.Shape.{HasShape}
-use Rattle.jpa_context.specs.declared.Entry.{Entry}
-use Rattle.jpa_context.specs.Steps.{◌>>◌, Done, Op, Outcome, Refused, after, change, give, require, IsRefusedAs}
-use Rattle.jpa_context.specs.Undo.{IsPlaced}
-use Rattle.jpa_context.specs.Work.{Work, object}
-use Rattle.jpa_fetch.specs.Grown.{HasGrown, IsLinked, IsReady}
-use Rattle.jpa_fetch.specs.Load.{made}
-use Rattle.jpa_fetch.proofs.Grown.{HoldsWithin, keyed_push, linked_push, ready_on}
-use Rattle.jpa_ops.specs.States.{become_managed}
-use Rattle.jpa_ops.proofs.Refused.{refused_after}
+use Rattle.jpa_work.specs.declared.heap.LiveObject.{LiveObject}
+use Rattle.jpa_work.specs.heap.Objects.{empty_held, new_object, no_object}
+use Rattle.jpa_work.specs.heap.Shape.{HasShape}
+use Rattle.jpa_work.specs.declared.context.Entry.{Entry}
+use Rattle.jpa_work.specs.context.Steps.{◌>>◌, Done, Op, Outcome, Refused, after, change, give, require, IsRefusedAs}
+use Rattle.jpa_work.specs.context.Undo.{IsPlaced}
+use Rattle.jpa_work.specs.context.Work.{Work, object}
+use Rattle.jpa_operations.specs.fetch.Grown.{HasGrown, IsLinked, IsReady}
+use Rattle.jpa_operations.specs.fetch.Load.{made}
+use Rattle.jpa_operations.proofs.fetch.Grown.{HoldsWithin, keyed_push, linked_push, ready_on}
+use Rattle.jpa_operations.specs.ops.States.{become_managed}
+use Rattle.jpa_operations.proofs.ops.Refused.{refused_after}
 use Rattle.jpa_merge.specs.declared.images.NodeImage.{NodeImage}
 use Rattle.jpa_merge.specs.Imaged.{IsImaged}
 use Rattle.jpa_merge.specs.Merge.{fresh_image, fresh_object, image_key, is_unset}

@@ -7,16 +7,16 @@ use Rattle.jpa_model.specs.Chains.{attributes_of}
 use Rattle.jpa_value.specs.declared.refusal.Cause.{Cause}
 use Rattle.jpa_value.specs.declared.event.LifecycleEvent.{LifecycleEvent}
 use Rattle.jpa_behaviour.specs.Behaviour.{World}
-use Rattle.jpa_heap.specs.declared.LiveObject.{LiveObject}
-use Rattle.jpa_heap.specs.Objects.{no_object}
-use Rattle.jpa_heap.specs.Shape.{HasShape}
-use Rattle.jpa_context.specs.Steps.{Meets}
-use Rattle.jpa_context.specs.Work.{Work, object}
+use Rattle.jpa_work.specs.declared.heap.LiveObject.{LiveObject}
+use Rattle.jpa_work.specs.heap.Objects.{no_object}
+use Rattle.jpa_work.specs.heap.Shape.{HasShape}
+use Rattle.jpa_work.specs.context.Steps.{Meets}
+use Rattle.jpa_work.specs.context.Work.{Work, object}
 use Rattle.jpa_lifecycle.specs.Callbacks.{callback}
 use Rattle.jpa_lifecycle.proofs.Keeps.{happened}
-use Rattle.jpa_fetch.specs.Grown.{HasGrown, IsReady, GoesOn}
-use Rattle.jpa_fetch.proofs.Grown.{grown_happened, grown_set, placed_happened, placed_set, ready_on}
-use Rattle.jpa_ops.proofs.Ready.{links_same}
+use Rattle.jpa_operations.specs.fetch.Grown.{HasGrown, IsReady, GoesOn}
+use Rattle.jpa_operations.proofs.fetch.Grown.{grown_happened, grown_set, placed_happened, placed_set, ready_on}
+use Rattle.jpa_operations.proofs.ops.Ready.{links_same}
 use Rattle.jpa_merge.specs.declared.images.NodeImage.{NodeImage}
 use Rattle.jpa_merge.specs.Imaged.{AreImaged, IsImaged}
 use Rattle.jpa_merge.specs.Merge.{with_values_of}

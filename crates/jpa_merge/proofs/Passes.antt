@@ -3,12 +3,12 @@ use Rattle.std.proofs.Common.{◌≡◌, ◌∙◌, ◌<◌, ◌+◌, ℕ, List,
 use Rattle.std.specs.List.{enumerate_from}
 use Rattle.std.proofs.lemmas.List.{at_drop_more}
 use Rattle.jpa_value.specs.declared.value.Identity.{Identity}
-use Rattle.jpa_context.specs.Steps.{Done, Op, after, each}
-use Rattle.jpa_context.specs.Work.{Work}
+use Rattle.jpa_work.specs.context.Steps.{Done, Op, after, each}
+use Rattle.jpa_work.specs.context.Work.{Work}
 use Rattle.jpa_cascade.specs.declared.Node.{Node}
 use Rattle.jpa_cascade.specs.Waves.{live_nodes}
-use Rattle.jpa_fetch.specs.Members.{collect}
-use Rattle.jpa_fetch.proofs.Collected.{behind, first_done}
+use Rattle.jpa_operations.specs.fetch.Members.{collect}
+use Rattle.jpa_operations.proofs.fetch.Collected.{behind, first_done}
 
 -- ---- nodes
 

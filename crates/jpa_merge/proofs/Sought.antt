@@ -3,10 +3,10 @@ use Rattle.std.proofs.Common.{◌≡◌, ◌∙◌, ℕ, true, List, ap, sym, su
 use Rattle.jpa_value.specs.declared.value.Identity.{Identity}
 use Rattle.jpa_value.specs.declared.refusal.Cause.{Cause}
 use Rattle.jpa_behaviour.specs.Behaviour.{World}
-use Rattle.jpa_stored.specs.declared.stored.Stored.{Stored}
-use Rattle.jpa_context.specs.Steps.{◌>>◌, Done, Meets, after, change, require}
-use Rattle.jpa_context.specs.Work.{Work, identity_at, instance, object, row}
-use Rattle.jpa_fetch.specs.Load.{load, reach, reached}
+use Rattle.jpa_stored.specs.declared.objects.stored.Stored.{Stored}
+use Rattle.jpa_work.specs.context.Steps.{◌>>◌, Done, Meets, after, change, require}
+use Rattle.jpa_work.specs.context.Work.{Work, identity_at, instance, object, row}
+use Rattle.jpa_operations.specs.fetch.Load.{load, reach, reached}
 use Rattle.jpa_merge.specs.declared.images.NodeImage.{NodeImage}
 use Rattle.jpa_merge.specs.Merge.{copy_relations, copy_to_other, fresh_image, image_by, image_elsewhere, image_named, image_of_row, version_is, with_values_of}
 

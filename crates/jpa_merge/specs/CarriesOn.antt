@@ -3,11 +3,11 @@ use Rattle.std.specs.Prelude.{◌≡◌, Result, OnOk}
 use Rattle.jpa_value.specs.declared.refusal.Cause.{Cause}
 use Rattle.jpa_model.specs.declared.unit.PersistenceUnit.{PersistenceUnit}
 use Rattle.jpa_behaviour.specs.Behaviour.{World}
-use Rattle.jpa_context.specs.declared.work.UnitOfWork.{UnitOfWork}
-use Rattle.jpa_context.specs.Carries.{Carries}
-use Rattle.jpa_context.specs.Steps.{Op, Meets}
-use Rattle.jpa_context.specs.Undo.{now, since}
-use Rattle.jpa_fetch.specs.Grown.{GoesOn}
+use Rattle.jpa_work.specs.declared.context.work.UnitOfWork.{UnitOfWork}
+use Rattle.jpa_work.specs.context.Carries.{Carries}
+use Rattle.jpa_work.specs.context.Steps.{Op, Meets}
+use Rattle.jpa_work.specs.context.Undo.{now, since}
+use Rattle.jpa_operations.specs.fetch.Grown.{GoesOn}
 
 -- It carries the operation out, and where it is done, the work goes on from what it was.
 pub record CarriesOn {A : Type 0} (m : PersistenceUnit) (op : Op A) (r : Result A Cause) (old new : UnitOfWork)

@@ -3,9 +3,9 @@
 use Rattle.std.specs.Prelude.{◌≡◌, ◌<◌, ℕ, All, List, length}
 use Rattle.jpa_model.specs.declared.unit.PersistenceUnit.{PersistenceUnit}
 use Rattle.jpa_model.specs.Chains.{relations_of}
-use Rattle.jpa_heap.specs.Objects.{object_at}
-use Rattle.jpa_context.specs.Work.{Work, object}
-use Rattle.jpa_fetch.specs.Grown.{IsReady}
+use Rattle.jpa_work.specs.heap.Objects.{object_at}
+use Rattle.jpa_work.specs.context.Work.{Work, object}
+use Rattle.jpa_operations.specs.fetch.Grown.{IsReady}
 use Rattle.jpa_merge.specs.declared.images.NodeImage.{NodeImage}
 
 -- a node and its image stand in the heap, and are of one class

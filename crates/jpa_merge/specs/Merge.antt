@@ -14,21 +14,21 @@ use Rattle.jpa_model.specs.declared.unit.PersistenceUnit.{PersistenceUnit}
 use Rattle.jpa_model.specs.declared.unit.Relation.{Relation}
 use Rattle.jpa_model.specs.Chains.{root_of, relations_of}
 use Rattle.jpa_behaviour.specs.Behaviour.{World}
-use Rattle.jpa_stored.specs.declared.stored.Stored.{Stored}
-use Rattle.jpa_heap.specs.declared.Link.{Link}
-use Rattle.jpa_heap.specs.declared.Collection.{Collection}
-use Rattle.jpa_heap.specs.declared.Held.{Held}
-use Rattle.jpa_heap.specs.declared.LiveObject.{LiveObject}
-use Rattle.jpa_heap.specs.Objects.{held_at, new_object}
-use Rattle.jpa_context.specs.declared.EntityState.{EntityState}
-use Rattle.jpa_context.specs.Steps.{Op, ◌>>=◌, ◌>>◌, give, done, refuse, require, read, change, each}
-use Rattle.jpa_context.specs.Work.{Work, object, state_of, is_removed, instance, row_at, identity_at, with_object}
+use Rattle.jpa_stored.specs.declared.objects.stored.Stored.{Stored}
+use Rattle.jpa_work.specs.declared.heap.Link.{Link}
+use Rattle.jpa_work.specs.declared.heap.Collection.{Collection}
+use Rattle.jpa_work.specs.declared.heap.Held.{Held}
+use Rattle.jpa_work.specs.declared.heap.LiveObject.{LiveObject}
+use Rattle.jpa_work.specs.heap.Objects.{held_at, new_object}
+use Rattle.jpa_work.specs.declared.context.EntityState.{EntityState}
+use Rattle.jpa_work.specs.context.Steps.{Op, ◌>>=◌, ◌>>◌, give, done, refuse, require, read, change, each}
+use Rattle.jpa_work.specs.context.Work.{Work, object, state_of, is_removed, instance, row_at, identity_at, with_object}
 use Rattle.jpa_lifecycle.specs.Callbacks.{callback}
 use Rattle.jpa_cascade.specs.declared.Operation.{Operation}
 use Rattle.jpa_cascade.specs.Waves.{waves, live_nodes, goes_along, members_now}
-use Rattle.jpa_fetch.specs.Load.{load, reach, made}
-use Rattle.jpa_fetch.specs.Members.{with_relation, is_held, collect, with_read}
-use Rattle.jpa_ops.specs.States.{become_managed}
+use Rattle.jpa_operations.specs.fetch.Load.{load, reach, made}
+use Rattle.jpa_operations.specs.fetch.Members.{with_relation, is_held, collect, with_read}
+use Rattle.jpa_operations.specs.ops.States.{become_managed}
 use Rattle.jpa_merge.specs.declared.images.NodeImage.{NodeImage}
 
 -- ---- first pass: the images

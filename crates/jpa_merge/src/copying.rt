@@ -1,10 +1,10 @@
 //! The second pass of a merge: images take what their nodes hold.
 ghost use Rattle.std.specs.Prelude.{◌≡◌};
 ghost use Rattle.jpa_behaviour.specs.Served.{world_of_unit};
-ghost use Rattle.jpa_context.specs.Steps.{change, each};
-ghost use Rattle.jpa_context.specs.Undo.{now};
-ghost use Rattle.jpa_context.specs.Work as works;
-ghost use Rattle.jpa_fetch.specs.Grown.{IsReady};
+ghost use Rattle.jpa_work.specs.context.Steps.{change, each};
+ghost use Rattle.jpa_work.specs.context.Undo.{now};
+ghost use Rattle.jpa_work.specs.context.Work as works;
+ghost use Rattle.jpa_operations.specs.fetch.Grown.{IsReady};
 ghost use Rattle.jpa_merge.specs.CarriesOn.{CarriesOn};
 ghost use Rattle.jpa_merge.specs.Imaged.{AreImaged, CanCopy, IsImaged};
 ghost use Rattle.jpa_merge.specs.Merge as merges;
@@ -12,9 +12,9 @@ ghost use Rattle.jpa_merge.specs.Merge as merges;
 use crate::images::{Images, NodeImage};
 use crate::relations::copy_relation;
 use jpa_behaviour::{Behaviour, ServedUnit};
-use jpa_context::UnitOfWork;
 use jpa_model::{Metamodel, Relation};
 use jpa_value::{Cause, TryCopy};
+use jpa_work::context::UnitOfWork;
 use std::alloc::Global;
 
 /// Whether a node's version is that of its image; a node without a version is of any.

@@ -1,11 +1,11 @@
 //! Merging an object.
 ghost use Rattle.std.specs.Prelude.{◌≡◌, ◌<◌, length, IfOk, OnOk};
 ghost use Rattle.jpa_behaviour.specs.Served.{world_of_unit};
-ghost use Rattle.jpa_context.specs.Carries.{Carries};
-ghost use Rattle.jpa_context.specs.Steps.{each};
-ghost use Rattle.jpa_context.specs.Undo.{now};
-ghost use Rattle.jpa_fetch.specs.Grown.{GoesOn, IsReady};
-ghost use Rattle.jpa_fetch.specs.Orderly.{IsOrderly};
+ghost use Rattle.jpa_work.specs.context.Carries.{Carries};
+ghost use Rattle.jpa_work.specs.context.Steps.{each};
+ghost use Rattle.jpa_work.specs.context.Undo.{now};
+ghost use Rattle.jpa_operations.specs.fetch.Grown.{GoesOn, IsReady};
+ghost use Rattle.jpa_operations.specs.fetch.Orderly.{IsOrderly};
 ghost use Rattle.jpa_merge.specs.CarriesOn.{CarriesOn};
 ghost use Rattle.jpa_merge.specs.Imaged.{AreImaged, IsImaged};
 ghost use Rattle.jpa_merge.specs.Merge as merges;
@@ -15,9 +15,9 @@ use crate::images::{Images, NodeImage};
 use crate::imaging::images_of;
 use jpa_behaviour::{Behaviour, ServedUnit};
 use jpa_cascade::{Operation, waves};
-use jpa_context::UnitOfWork;
 use jpa_lifecycle::callback;
 use jpa_value::{Cause, LifecycleEvent};
+use jpa_work::context::UnitOfWork;
 use std::alloc::Global;
 
 /// PrePersist happens to an image that the merge made (chapter 3.5.2). Refused as a listener or

@@ -2,11 +2,11 @@
 ghost use Rattle.std.specs.Prelude.{◌<◌, [], ◌∷◌, length};
 ghost use Rattle.jpa_model.specs.Chains.{relations_of};
 ghost use Rattle.jpa_behaviour.specs.Served.{world_of_unit};
-ghost use Rattle.jpa_heap.specs.Objects.{object_at};
-ghost use Rattle.jpa_context.specs.Steps.{change};
-ghost use Rattle.jpa_context.specs.Undo.{now};
-ghost use Rattle.jpa_fetch.specs.Grown.{IsReady, objects_held};
-ghost use Rattle.jpa_fetch.specs.Members as members;
+ghost use Rattle.jpa_work.specs.heap.Objects.{object_at};
+ghost use Rattle.jpa_work.specs.context.Steps.{change};
+ghost use Rattle.jpa_work.specs.context.Undo.{now};
+ghost use Rattle.jpa_operations.specs.fetch.Grown.{IsReady, objects_held};
+ghost use Rattle.jpa_operations.specs.fetch.Members as members;
 ghost use Rattle.jpa_merge.specs.CarriesOn.{CarriesOn, CarriesOnBy};
 ghost use Rattle.jpa_merge.specs.Imaged.{AreImaged, CanHold, IsImaged};
 ghost use Rattle.jpa_merge.specs.Merge as merges;
@@ -15,11 +15,11 @@ use crate::images::{Images, NodeImage};
 use crate::replacing::{replace_all, replaced};
 use jpa_behaviour::{Behaviour, ServedUnit};
 use jpa_cascade::members_now;
-use jpa_context::UnitOfWork;
-use jpa_fetch::{held_at, set_fetched, set_relation};
-use jpa_heap::{Collection, Held, Link};
 use jpa_model::Metamodel;
+use jpa_operations::fetch::{held_at, set_fetched, set_relation};
 use jpa_value::{Cause, Seq, TryCopy};
+use jpa_work::context::UnitOfWork;
+use jpa_work::heap::{Collection, Held, Link};
 use std::alloc::Global;
 
 /// An image holds this in a relation. Fails for want of memory alone, with `OutOfMemory`.

@@ -3,21 +3,21 @@ ghost use Rattle.std.specs.Prelude.{◌≡◌, ◌<◌, All, length, IfOk, OnOk,
 ghost use Rattle.jpa_value.specs.declared.refusal.Cause.{Cause};
 ghost use Rattle.jpa_value.specs.declared.refusal.State.{State};
 ghost use Rattle.jpa_behaviour.specs.Served.{world_of_unit};
-ghost use Rattle.jpa_context.specs.Carries.{Carries};
-ghost use Rattle.jpa_context.specs.Undo.{now};
-ghost use Rattle.jpa_fetch.specs.Grown.{GoesOn, IsReady};
-ghost use Rattle.jpa_fetch.specs.Load.{reach};
-ghost use Rattle.jpa_fetch.specs.Members.{collect};
+ghost use Rattle.jpa_work.specs.context.Carries.{Carries};
+ghost use Rattle.jpa_work.specs.context.Undo.{now};
+ghost use Rattle.jpa_operations.specs.fetch.Grown.{GoesOn, IsReady};
+ghost use Rattle.jpa_operations.specs.fetch.Load.{reach};
+ghost use Rattle.jpa_operations.specs.fetch.Members.{collect};
 ghost use Rattle.jpa_merge.specs.Imaged.{AreImaged};
 ghost use Rattle.jpa_merge.specs.Merge as merges;
 
 use crate::images::Images;
 use jpa_behaviour::{Behaviour, ServedUnit};
 use jpa_cascade::instance;
-use jpa_context::UnitOfWork;
-use jpa_fetch::{is_held, load};
-use jpa_heap::identity_of;
+use jpa_operations::fetch::{is_held, load};
 use jpa_value::{Cause, Identity, Seq, State, TryCopy};
+use jpa_work::context::UnitOfWork;
+use jpa_work::heap::identity_of;
 use std::alloc::Global;
 
 /// The context's instance of an identity, else its row, loaded. `IllegalState(reference)` where

@@ -3,9 +3,9 @@ use Rattle.std.specs.Prelude.{◌≡◌, ℕ, ◌<◌, true, List, All}
 use Rattle.std.proofs.Common.{sym, subst, get_or}
 use Rattle.jpa_model.specs.declared.unit.PersistenceUnit.{PersistenceUnit}
 use Rattle.jpa_model.specs.Chains.{is_kind_of}
-use Rattle.jpa_stored.specs.Sets.{StoredSet}
-use Rattle.jpa_ordered.specs.declared.column.Column.{Column}
-use Rattle.jpa_ordered.specs.Values.{Indexed, HasEntry, KeepsAll, has_column, valued, at_object}
+use Rattle.jpa_stored.specs.objects.Sets.{StoredSet}
+use Rattle.jpa_stored.specs.declared.ordered.column.Column.{Column}
+use Rattle.jpa_stored.specs.ordered.Values.{Indexed, HasEntry, KeepsAll, has_column, valued, at_object}
 use Rattle.jpa_open.specs.Holding.{HaveEntries, KeepsEntries}
 
 pub keeps_entries : (old new : Indexed) → new.columns ≡ old.columns → KeepsAll old.entries new.entries → KeepsEntries old new

@@ -8,9 +8,9 @@ use Rattle.std.specs.FinMap.Entries.{is_sorted, find-put}
 use Rattle.jpa_value.specs.declared.value.Identity.{Identity}
 use Rattle.jpa_value.specs.Value.{identity_cmp}
 use Rattle.jpa_value.proofs.Orders.{identity_total, identity_exact}
-use Rattle.jpa_stored.specs.declared.stored.Stored.{Stored}
-use Rattle.jpa_stored.specs.Sets.{StoredSet, stored_at, with_stored, without}
-use Rattle.jpa_stored.proofs.Puts as puts
+use Rattle.jpa_stored.specs.declared.objects.stored.Stored.{Stored}
+use Rattle.jpa_stored.specs.objects.Sets.{StoredSet, stored_at, with_stored, without}
+use Rattle.jpa_stored.proofs.objects.Puts as puts
 use Rattle.jpa_open.specs.Holding.{HoldsOf}
 use Rattle.jpa_open.specs.Layers.{Layer, over}
 use Rattle.jpa_open.specs.Opened.{layer}

@@ -14,10 +14,10 @@ use Rattle.jpa_value.specs.Value.{identity_cmp, same_identity}
 use Rattle.jpa_value.proofs.Orders.{identity_total, identity_exact}
 use Rattle.jpa_model.specs.declared.unit.PersistenceUnit.{PersistenceUnit}
 use Rattle.jpa_model.specs.Chains.{is_kind_of}
-use Rattle.jpa_stored.specs.declared.stored.Stored.{Stored}
-use Rattle.jpa_stored.specs.Sets.{StoredSet, stored_at}
-use Rattle.jpa_stored.proofs.Bridge.{own_kind}
-use Rattle.jpa_stored.proofs.Entries.{t_first, t_second, less}
+use Rattle.jpa_stored.specs.declared.objects.stored.Stored.{Stored}
+use Rattle.jpa_stored.specs.objects.Sets.{StoredSet, stored_at}
+use Rattle.jpa_stored.proofs.objects.Bridge.{own_kind}
+use Rattle.jpa_stored.proofs.objects.Entries.{t_first, t_second, less}
 use Rattle.jpa_open.specs.Opened.{lent_ids}
 use Rattle.jpa_open.specs.Valued.{passing, passing_under, AreAllThat, ids_passing, lent_cmp}
 use Rattle.jpa_open.proofs.Subclasses.{above_other}

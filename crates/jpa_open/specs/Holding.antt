@@ -1,9 +1,9 @@
 -- What holds of each object of a set, and so of an index that has the values of each.
 use Rattle.std.specs.Prelude.{◌≡◌, Some}
 use Rattle.jpa_value.specs.declared.value.Identity.{Identity}
-use Rattle.jpa_stored.specs.declared.stored.Stored.{Stored}
-use Rattle.jpa_stored.specs.Sets.{StoredSet, stored_at}
-use Rattle.jpa_ordered.specs.Values.{Indexed, HasEntries}
+use Rattle.jpa_stored.specs.declared.objects.stored.Stored.{Stored}
+use Rattle.jpa_stored.specs.objects.Sets.{StoredSet, stored_at}
+use Rattle.jpa_stored.specs.ordered.Values.{Indexed, HasEntries}
 
 -- this holds of each object of a set, under its identity
 abbrev pub HoldsOf : (Identity → Stored → Type 0) → StoredSet → Type 0

@@ -8,10 +8,10 @@ use Rattle.jpa_value.specs.Value.{identity_cmp, same_identity}
 use Rattle.jpa_model.specs.declared.unit.Member.{Member}
 use Rattle.jpa_model.specs.declared.unit.PersistenceUnit.{PersistenceUnit}
 use Rattle.jpa_model.specs.Chains.{is_kind_of}
-use Rattle.jpa_stored.specs.declared.stored.Stored.{Stored}
-use Rattle.jpa_stored.specs.Sets.{StoredSet, stored_at}
-use Rattle.jpa_ordered.specs.declared.cut.Span.{Span}
-use Rattle.jpa_ordered.specs.Values.{lies_in_any}
+use Rattle.jpa_stored.specs.declared.objects.stored.Stored.{Stored}
+use Rattle.jpa_stored.specs.objects.Sets.{StoredSet, stored_at}
+use Rattle.jpa_stored.specs.declared.ordered.cut.Span.{Span}
+use Rattle.jpa_stored.specs.ordered.Values.{lies_in_any}
 
 -- whether an object is of the class or below it and lies in one of the spans of the member
 abbrev pub is_valued : PersistenceUnit → ℕ → Member → List Span → Identity × Stored → Bool

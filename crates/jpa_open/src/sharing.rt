@@ -8,7 +8,7 @@ ghost use Rattle.jpa_open.specs.Opened.{unwritten};
 
 use crate::open::OpenSet;
 use crate::shared::Shared;
-use jpa_stored::{Stored, StoredSet};
+use jpa_stored::objects::{Stored, StoredSet};
 use jpa_value::{Boxed, Cause, Identity, TryCopy};
 use std::alloc::Global;
 

@@ -1,14 +1,14 @@
 //! What an index of values has of the objects of a set.
 ghost use Rattle.std.specs.Prelude.{◌≡◌, ◌<◌, length, OnOk, IfErr, IfOk};
 ghost use Rattle.jpa_value.specs.declared.refusal.Cause.{Cause};
-ghost use Rattle.jpa_ordered.specs.Values.{HaveColumns};
+ghost use Rattle.jpa_stored.specs.ordered.Values.{HaveColumns};
 ghost use Rattle.jpa_open.specs.Holding.{HaveEntries, KeepsEntries};
 
 use crate::index::most_references;
 use crate::shared::Shared;
 use jpa_model::Metamodel;
-use jpa_ordered::{Column, Valued, Values, list_each};
-use jpa_stored::Stored;
+use jpa_stored::objects::Stored;
+use jpa_stored::ordered::{Column, Valued, Values, list_each};
 use jpa_value::{Cause, Identity};
 use std::alloc::Global;
 
@@ -83,8 +83,8 @@ pub(crate) fn values_of(
     Ok(values)
 }
 
-/// A number that none of these columns has, as long as one is left. Where columns share one, who asks
-/// by it looks at the entries of both.
+/// A number that none of these columns has, as long as one is left. Where columns share one, who
+/// asks by it looks at the entries of both.
 pub(crate) fn next_number(columns: &[Column]) -> u16 {
     let mut next: u16 = 0;
     for column in columns {

@@ -3,15 +3,15 @@ use Rattle.std.proofs.Common.{◌≡◌, ℕ, List, [], ◌∷◌, refl, ap, sym
 use Rattle.std.specs.Prelude.{Result, Ok, Err}
 use Rattle.jpa_value.specs.declared.refusal.Cause.{Cause}
 use Rattle.jpa_behaviour.specs.Registered.{Meaning}
-use Rattle.jpa_rows.specs.declared.source.RowSource.{Ghosts}
+use Rattle.jpa_rows.specs.declared.rows.source.RowSource.{Ghosts}
 use Rattle.jpa_open.specs.Moves.{Scene, Move, Rests, IsAllowed, AreAllowed, moved, after}
 use Rattle.jpa_open.proofs.IsolatedMoves.{isolated}
 use Rattle.jpa_protocol.specs.declared.call.Call.{Call}
 use Rattle.jpa_protocol.specs.declared.reply.Reply.{Reply}
-use Rattle.jpql_tree.specs.declared.Language.{Language}
-use Rattle.jpa_lines.specs.CallOf.{meaning}
-use Rattle.jpa_lines.specs.Run.{AnswersTo, Runs}
-use Rattle.jpa_machine.specs.Isolated.{scene_of}
+use Rattle.jpql_trees.specs.declared.tree.Language.{Language}
+use Rattle.jpa_lines.specs.lines.CallOf.{meaning}
+use Rattle.jpa_lines.specs.lines.Run.{AnswersTo, Runs}
+use Rattle.jpa_machine.specs.machine.Isolated.{scene_of}
 use Rattle.jpa_provider.specs.Provided.{Provided, Steps}
 use Rattle.jpa_program.specs.Isolation.{MovesBy, RunsBy, IsIsolatedServing, IsolatesRuns}
 

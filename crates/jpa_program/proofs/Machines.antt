@@ -2,14 +2,14 @@
 use Rattle.std.proofs.Common.{◌≡◌, List, Option, Result, Ok, Err, OnOk, IfErr, ℕ, refl, subst, ◌∙◌}
 use Rattle.jpa_model.specs.declared.unit.PersistenceUnit.{PersistenceUnit}
 use Rattle.jpa_behaviour.specs.Registered.{Registered, Meaning, world_of}
-use Rattle.jpa_rows.specs.declared.source.RowSource.{Ghosts}
+use Rattle.jpa_rows.specs.declared.rows.source.RowSource.{Ghosts}
 use Rattle.jpa_protocol.specs.declared.call.Call.{Call}
 use Rattle.jpa_protocol.specs.declared.reply.Reply.{Reply}
-use Rattle.jpql_tree.specs.declared.Language.{Language}
-use Rattle.jpa_lines.specs.declared.run.RunFault.{RunFault}
-use Rattle.jpa_lines.specs.Run.{Served, Broken, AnswersRead}
+use Rattle.jpql_trees.specs.declared.tree.Language.{Language}
+use Rattle.jpa_lines.specs.declared.lines.run.RunFault.{RunFault}
+use Rattle.jpa_lines.specs.lines.Run.{Served, Broken, AnswersRead}
 use Rattle.jpa_provider.specs.Provided.{Provided, Steps, world_in}
-use Rattle.jpa_machine.specs.Step.{Step}
+use Rattle.jpa_machine.specs.machine.Step.{Step}
 use Rattle.jpa_program.specs.Run.{EndsAs, ServesSame}
 use Rattle.jpa_program.proofs.Mapped as mapped
 

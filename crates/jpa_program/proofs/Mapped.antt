@@ -3,10 +3,10 @@ use Rattle.std.proofs.Common.{List, [], ◌∷◌, Option, Result, Ok, Err, OnOk
 use Rattle.jpa_value.specs.declared.refusal.Cause.{Cause}
 use Rattle.jpa_protocol.specs.declared.call.Call.{Call}
 use Rattle.jpa_protocol.specs.declared.reply.Reply.{Reply}
-use Rattle.jpa_lines.specs.declared.run.RunFault.{RunFault}
-use Rattle.jpql_tree.specs.declared.Language.{Language}
-use Rattle.jpa_lines.specs.CallOf.{meaning}
-use Rattle.jpa_lines.specs.Run.{AnswersTo, Runs, Served, Broken, AnswersRead}
+use Rattle.jpa_lines.specs.declared.lines.run.RunFault.{RunFault}
+use Rattle.jpql_trees.specs.declared.tree.Language.{Language}
+use Rattle.jpa_lines.specs.lines.CallOf.{meaning}
+use Rattle.jpa_lines.specs.lines.Run.{AnswersTo, Runs, Served, Broken, AnswersRead}
 
 module _ {M N : Type 0} (language : Language) (f : M → N) (P : M → Type 0) (from : M → Call → Reply → M → Type 0) (to : N → Call → Reply → N → Type 0)
     (each : (old : M) (call : Call) (reply : Reply) (new : M) → from old call reply new → P old → to (f old) call reply (f new) × P new) where

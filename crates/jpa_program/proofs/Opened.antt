@@ -5,20 +5,20 @@ use Rattle.std.proofs.Math.Nat.{zero-add}
 use Rattle.sqlite_trees.specs.declared.store.Store.{Ghosts}
 use Rattle.jpa_value.specs.declared.refusal.Cause.{Cause}
 use Rattle.jpa_behaviour.specs.Behaviour.{World}
-use Rattle.jpa_history.specs.declared.history.History.{History}
+use Rattle.jpa_description.specs.declared.history.history.History.{History}
 use Rattle.sqlite.specs.Held.{Held, state}
 use Rattle.sqlite.specs.Schema.{Schema}
 use Rattle.sqlite.proofs.StateLemmas.{survives_then}
-use Rattle.jpa_cells_meaning.specs.Content.{Leaves}
-use Rattle.jpa_cells_meaning.specs.Schema.{cell_schema, no_schema}
-use Rattle.jpa_cells_meaning.specs.Store.{Stored, up_to_greatest, new_store, IsClean, IsOpen, Keeps, Becomes, Opens, Endures, HoldsTable, HasFault, tables_in}
-use Rattle.jpa_cells_meaning.specs.Tables.{Tables}
-use Rattle.jpa_rowspace.specs.Space.{Space, IsStoreCause}
-use Rattle.jpa_rowspace.proofs.Holding.{clean_before}
-use Rattle.jpa_migration.specs.Migration.{opened_tables}
-use Rattle.jpa_store_reader.specs.Damage.{AreDamagedAt}
-use Rattle.jpa_store_reader.specs.Opened.{IsMigrated, AllowsDue, CountsDue}
-use Rattle.jpa_cells.specs.Calls.{EnduresMaking}
+use Rattle.jpa_cells.specs.meaning.Content.{Leaves}
+use Rattle.jpa_cells.specs.meaning.Schema.{cell_schema, no_schema}
+use Rattle.jpa_cells.specs.meaning.Store.{Stored, up_to_greatest, new_store, IsClean, IsOpen, Keeps, Becomes, Opens, Endures, HoldsTable, HasFault, tables_in}
+use Rattle.jpa_cells.specs.meaning.Tables.{Tables}
+use Rattle.jpa_cells.specs.rowspace.Space.{Space, IsStoreCause}
+use Rattle.jpa_cells.proofs.rowspace.Holding.{clean_before}
+use Rattle.jpa_opening.specs.migration.Migration.{opened_tables}
+use Rattle.jpa_opening.specs.reader.Damage.{AreDamagedAt}
+use Rattle.jpa_opening.specs.reader.Opened.{IsMigrated, AllowsDue, CountsDue}
+use Rattle.jpa_cells.specs.cells.Calls.{EnduresMaking}
 use Rattle.jpa_program.specs.Opening.{no_rows, having_opened, IsFoundIn, OpensWriting, KeepsOrMakes, Opened, EnduresOpening, OpensCounting, IsOpenCause}
 
 module _ {S : Type 0} (g : Ghosts S) where

@@ -8,25 +8,25 @@ use Rattle.jpa_model.specs.Chains.{entity_at}
 use Rattle.jpa_model.specs.Kept.{IsDescribed}
 use Rattle.jpa_behaviour.specs.Behaviour.{World, IsRegular}
 use Rattle.jpa_behaviour.specs.Registered.{Registered, Meaning, world_of}
-use Rattle.jpa_stored.specs.Sets.{StoredSet}
-use Rattle.jpa_row_laws.proofs.Elements.{same_back}
-use Rattle.jpa_rows.specs.Cells.{CanBeHeld}
-use Rattle.jpa_rows.specs.Rows.{Rows}
-use Rattle.jpa_rows.specs.Tables.{schema_of}
-use Rattle.jpa_object_rows.specs.Flat as flat
-use Rattle.jpa_object_rows.specs.Unambiguous.{is_class}
-use Rattle.jpa_object_rows.proofs.Bytes.Described.{described_mapped}
-use Rattle.jpa_object_rows.proofs.Bytes.Mapped.{IsMapped}
-use Rattle.jpa_object_rows.proofs.Bytes.MappedClasses.{unambiguous_mapped}
-use Rattle.jpa_object_rows.specs.Objects.{is_discriminator}
-use Rattle.jpa_object_rows.specs.Raw.{raw}
-use Rattle.jpa_object_rows.specs.Sets.{rows_of}
-use Rattle.jpa_object_rows.proofs.Cells.{rows_stand_for}
-use Rattle.jpa_cells_meaning.specs.Store.{IsClean, tables_in}
-use Rattle.jpa_rowspace.specs.Space.{Space, HoldsRows}
-use Rattle.jpa_store_reader.specs.Damage.{cells_in}
-use Rattle.jpa_store_reader.proofs.Standing.{same_cells, stand_same}
-use Rattle.jpa_machine.specs.Machine.{Machine, opened}
+use Rattle.jpa_stored.specs.objects.Sets.{StoredSet}
+use Rattle.jpa_rows.proofs.laws.Elements.{same_back}
+use Rattle.jpa_rows.specs.rows.Cells.{CanBeHeld}
+use Rattle.jpa_rows.specs.rows.Rows.{Rows}
+use Rattle.jpa_rows.specs.rows.Tables.{schema_of}
+use Rattle.jpa_object_rows.specs.meaning.Flat as flat
+use Rattle.jpa_object_rows.specs.meaning.Unambiguous.{is_class}
+use Rattle.jpa_object_rows.proofs.meaning.Bytes.Described.{described_mapped}
+use Rattle.jpa_object_rows.proofs.meaning.Bytes.Mapped.{IsMapped}
+use Rattle.jpa_object_rows.proofs.meaning.Bytes.MappedClasses.{unambiguous_mapped}
+use Rattle.jpa_object_rows.specs.meaning.Objects.{is_discriminator}
+use Rattle.jpa_object_rows.specs.meaning.Raw.{raw}
+use Rattle.jpa_object_rows.specs.meaning.Sets.{rows_of}
+use Rattle.jpa_object_rows.proofs.meaning.Cells.{rows_stand_for}
+use Rattle.jpa_cells.specs.meaning.Store.{IsClean, tables_in}
+use Rattle.jpa_cells.specs.rowspace.Space.{Space, HoldsRows}
+use Rattle.jpa_opening.specs.reader.Damage.{cells_in}
+use Rattle.jpa_opening.proofs.reader.Standing.{same_cells, stand_same}
+use Rattle.jpa_machine.specs.machine.Machine.{Machine, opened}
 use Rattle.jpa_provider.specs.Provided.{Provided}
 use Rattle.jpa_program.specs.Opening.{HoldsCells}
 use Rattle.jpa_program.specs.Run.{HoldsCommitted}

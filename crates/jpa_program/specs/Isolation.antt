@@ -3,15 +3,15 @@
 use Rattle.std.specs.Prelude.{◌≡◌, ℕ, List, [], ◌∷◌, Result, Ok, Err}
 use Rattle.jpa_value.specs.declared.refusal.Cause.{Cause}
 use Rattle.jpa_behaviour.specs.Registered.{Meaning}
-use Rattle.jpa_rows.specs.declared.source.RowSource.{Ghosts}
+use Rattle.jpa_rows.specs.declared.rows.source.RowSource.{Ghosts}
 use Rattle.jpa_open.specs.Differences.{set_after}
 use Rattle.jpa_open.specs.Moves.{Move, Rests, AreAllowed, after, history, IsIsolated}
 use Rattle.jpa_protocol.specs.declared.call.Call.{Call}
 use Rattle.jpa_protocol.specs.declared.reply.Reply.{Reply}
-use Rattle.jpql_tree.specs.declared.Language.{Language}
-use Rattle.jpa_lines.specs.CallOf.{meaning}
-use Rattle.jpa_lines.specs.Run.{refused, Runs}
-use Rattle.jpa_machine.specs.Isolated.{scene_of, IsMove}
+use Rattle.jpql_trees.specs.declared.tree.Language.{Language}
+use Rattle.jpa_lines.specs.lines.CallOf.{meaning}
+use Rattle.jpa_lines.specs.lines.Run.{refused, Runs}
+use Rattle.jpa_machine.specs.machine.Isolated.{scene_of, IsMove}
 use Rattle.jpa_provider.specs.Provided.{Provided, Steps, world_in}
 
 -- the move of a line: that of its call's step; a line that is no call is refused, and moves nothing

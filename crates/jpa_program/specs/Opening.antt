@@ -8,22 +8,22 @@ use Rattle.jpa_behaviour.specs.Behaviour.{World}
 use Rattle.jpa_behaviour.specs.Registered.{Meaning}
 use Rattle.jpa_behaviour.specs.Served.{world_of_unit}
 use Rattle.jpa_behaviour.specs.declared.served_unit.ServedUnit.{ServedUnit}
-use Rattle.jpa_functions.specs.Known.{names_are_known}
-use Rattle.jpa_history.specs.declared.history.History.{History}
-use Rattle.jpa_stored.specs.Sets.{StoredSet}
-use Rattle.jpa_rows.specs.Cells.{CanBeHeld, StandFor}
-use Rattle.jpa_rows.specs.Tables.{schema_of}
-use Rattle.jpa_object_rows.specs.Sets.{rows_of}
-use Rattle.jpa_cells.specs.Calls.{EnduresMaking}
-use Rattle.jpa_cells_meaning.specs.Schema.{no_schema}
-use Rattle.jpa_cells_meaning.specs.Tables.{Tables, statements_of}
-use Rattle.jpa_cells_meaning.specs.Store.{Stored, up_to_greatest, new_store, IsClean, IsOpen, IsOrderedIfFound}
-use Rattle.jpa_cells_meaning.specs.Store.{HoldsTable, HasFault, Keeps, Opens, Endures, tables_in}
-use Rattle.jpa_rowspace.specs.Space.{Space, HoldsRows, IsStoreCause}
-use Rattle.jpa_migration.specs.Migration.{opened_tables, changes_due, defaults_pass}
-use Rattle.jpa_store_reader.specs.Damage.{cells_in, AreDamagedAt}
-use Rattle.jpa_store_reader.specs.Opened.{IsMigrated, AllowsDue}
-use Rattle.jpa_store_reader.specs.declared.judge.Committed.{Committed}
+use Rattle.jpa_json.specs.functions.Known.{names_are_known}
+use Rattle.jpa_description.specs.declared.history.history.History.{History}
+use Rattle.jpa_stored.specs.objects.Sets.{StoredSet}
+use Rattle.jpa_rows.specs.rows.Cells.{CanBeHeld, StandFor}
+use Rattle.jpa_rows.specs.rows.Tables.{schema_of}
+use Rattle.jpa_object_rows.specs.meaning.Sets.{rows_of}
+use Rattle.jpa_cells.specs.cells.Calls.{EnduresMaking}
+use Rattle.jpa_cells.specs.meaning.Schema.{no_schema}
+use Rattle.jpa_cells.specs.meaning.Tables.{Tables, statements_of}
+use Rattle.jpa_cells.specs.meaning.Store.{Stored, up_to_greatest, new_store, IsClean, IsOpen, IsOrderedIfFound}
+use Rattle.jpa_cells.specs.meaning.Store.{HoldsTable, HasFault, Keeps, Opens, Endures, tables_in}
+use Rattle.jpa_cells.specs.rowspace.Space.{Space, HoldsRows, IsStoreCause}
+use Rattle.jpa_opening.specs.migration.Migration.{opened_tables, changes_due, defaults_pass}
+use Rattle.jpa_opening.specs.reader.Damage.{cells_in, AreDamagedAt}
+use Rattle.jpa_opening.specs.reader.Opened.{IsMigrated, AllowsDue}
+use Rattle.jpa_opening.specs.declared.reader.judge.Committed.{Committed}
 
 -- the tables of an empty database
 abbrev pub no_rows : Tables

@@ -5,17 +5,17 @@ use Rattle.sqlite_trees.specs.declared.store.Store.{Ghosts}
 use Rattle.jpa_behaviour.specs.Registered.{Meaning}
 use Rattle.jpa_behaviour.specs.Served.{world_of_unit}
 use Rattle.jpa_behaviour.specs.declared.served_unit.ServedUnit.{ServedUnit}
-use Rattle.jpa_rows.specs.declared.source.RowSource.{Ghosts as SourceGhosts}
-use Rattle.jpa_rows.specs.Cells.{CanBeHeld}
-use Rattle.jpa_cells_meaning.specs.Store.{up_to_greatest, IsClean}
-use Rattle.jpa_rowspace.specs.Enduring.{EnduresRows, rows_then, rows_wider}
-use Rattle.jpa_rowspace.specs.Space.{Space, HoldsRows}
+use Rattle.jpa_rows.specs.declared.rows.source.RowSource.{Ghosts as SourceGhosts}
+use Rattle.jpa_rows.specs.rows.Cells.{CanBeHeld}
+use Rattle.jpa_cells.specs.meaning.Store.{up_to_greatest, IsClean}
+use Rattle.jpa_cells.specs.rowspace.Enduring.{EnduresRows, rows_then, rows_wider}
+use Rattle.jpa_cells.specs.rowspace.Space.{Space, HoldsRows}
 use Rattle.jpa_protocol.specs.declared.call.Call.{Call}
 use Rattle.jpa_protocol.specs.declared.reply.Reply.{Reply}
-use Rattle.jpql_tree.specs.declared.Language.{Language}
-use Rattle.jpa_lines.specs.declared.run.RunFault.{RunFault}
-use Rattle.jpa_lines.specs.Run.{Served, Broken, AnswersRead}
-use Rattle.jpa_machine.specs.Machine.{opened}
+use Rattle.jpql_trees.specs.declared.tree.Language.{Language}
+use Rattle.jpa_lines.specs.declared.lines.run.RunFault.{RunFault}
+use Rattle.jpa_lines.specs.lines.Run.{Served, Broken, AnswersRead}
+use Rattle.jpa_machine.specs.machine.Machine.{opened}
 use Rattle.jpa_provider.specs.Provided.{Provided, world_in}
 use Rattle.jpa_program.specs.Opening.{HoldsCells}
 

@@ -1,14 +1,14 @@
 //! The run over lines.
 ghost use Rattle.jpa_provider.specs.Provided.{Steps, world_in};
-ghost use Rattle.jpa_machine.specs.Step.{Step};
+ghost use Rattle.jpa_machine.specs.machine.Step.{Step};
 ghost use Rattle.jpa_program.specs.Isolation.{IsolatesRuns};
 ghost use Rattle.jpa_program.specs.Run.{EndsAs, HoldsCommitted, ServesSame, rows_over};
 
 use jpa_behaviour::Behaviour;
-use jpa_lines::RunFault;
-use jpa_lines::run::run as run_lines;
+use jpa_cells::rowspace::RowSpace;
+use jpa_lines::lines::RunFault;
+use jpa_lines::lines::run::run as run_lines;
 use jpa_provider::Provider;
-use jpa_rowspace::RowSpace;
 use sqlite::Alter;
 use std::alloc::Global;
 use std::io::{Read, Write};

@@ -14,7 +14,7 @@ ghost use Rattle.jpa_program.specs.Persons.{
   person_of_draft,
 };
 
-use jpa_description::check;
+use jpa_description::description::check;
 use jpa_model::{
     Cascade, Draft, DraftAttribute, DraftColumn, DraftEntity, DraftOrigin, DraftRelation,
     DraftRoot, DraftSide, DraftVersion, Metamodel, Part, RelationKind,

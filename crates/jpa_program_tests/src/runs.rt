@@ -1,18 +1,18 @@
 //! Runs of the program over a store in memory: reads and writes that fail, and memory that is
 //! refused. Input that ends anywhere is tried over the built program (tests/input.py).
 ghost use Rattle.std.specs.Prelude.{◌≡◌};
-ghost use Rattle.jpa_cells_meaning.specs.Store.{IsOrderedIfFound};
+ghost use Rattle.jpa_cells.specs.meaning.Store.{IsOrderedIfFound};
 
 use jpa_behaviour::{Registry, ServedUnit};
-use jpa_cells::{CellRow, CellStore};
-use jpa_functions::ProgramFunctions;
-use jpa_history::History;
-use jpa_lines::RunFault;
+use jpa_cells::cells::{CellRow, CellStore};
+use jpa_cells::rowspace::RowSpace;
+use jpa_description::history::History;
+use jpa_json::functions::ProgramFunctions;
+use jpa_lines::lines::RunFault;
 use jpa_program::{first_unit, open, run};
 use jpa_provider::Provider;
-use jpa_rowspace::RowSpace;
 use jpa_value::{Cause, Seq};
-use jpql_tree::Language;
+use jpql_trees::tree::Language;
 use sqlite::{Alter, Connection, MemStore};
 use std::alloc::{AllocError, Global};
 use std::io::{Read, Write};

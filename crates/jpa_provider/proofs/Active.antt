@@ -2,27 +2,27 @@
 use Rattle.std.proofs.Common.{◌≡◌, ◌<◌, ℕ, Bool, true, false, List, length, ap, sym, subst, ◌∙◌}
 use Rattle.std.specs.Prelude.{All}
 use Rattle.jpa_behaviour.specs.Behaviour.{World}
-use Rattle.jpa_stored.specs.Sets.{IsSound}
-use Rattle.jpa_rows.specs.Cells.{CanBeHeld, all_representable}
-use Rattle.jpa_context.specs.declared.Entry.{Entry}
-use Rattle.jpa_context.specs.Work.{Work}
-use Rattle.jpa_context.specs.Steps.{Outcome, Done, Refused}
+use Rattle.jpa_stored.specs.objects.Sets.{IsSound}
+use Rattle.jpa_rows.specs.rows.Cells.{CanBeHeld, all_representable}
+use Rattle.jpa_work.specs.declared.context.Entry.{Entry}
+use Rattle.jpa_work.specs.context.Work.{Work}
+use Rattle.jpa_work.specs.context.Steps.{Outcome, Done, Refused}
 use Rattle.jpa_queries.specs.Premises.{StaysReady}
-use Rattle.jpa_flush.specs.Flush.{flush_if}
+use Rattle.jpa_flush.specs.flush.Flush.{flush_if}
 use Rattle.jpa_updates.specs.Updates.{StaysSound}
-use Rattle.jpa_context.specs.Undo.{now, Since}
-use Rattle.jpa_fetch.specs.Grown.{IsReady}
-use Rattle.jpa_flush.specs.Flush.{flush}
-use Rattle.jpa_ops.specs.Names.{has_distinct_entries}
+use Rattle.jpa_work.specs.context.Undo.{now, Since}
+use Rattle.jpa_operations.specs.fetch.Grown.{IsReady}
+use Rattle.jpa_flush.specs.flush.Flush.{flush}
+use Rattle.jpa_operations.specs.ops.Names.{has_distinct_entries}
 use Rattle.jpa_provider.specs.declared.session.Session.{Session}
-use Rattle.jpa_machine.specs.Machine.{work_of}
-use Rattle.jpa_machine.specs.Invariant.{IsMachine, context_of}
+use Rattle.jpa_machine.specs.machine.Machine.{work_of}
+use Rattle.jpa_machine.specs.machine.Invariant.{IsMachine, context_of}
 use Rattle.jpa_provider.specs.Beside.{Rises}
 use Rattle.jpa_provider.specs.Serving.{machine_of, AreMarkedAway, IsServing}
 use Rattle.jpa_provider.specs.Stages.{CanFlush}
-use Rattle.jpa_machine.proofs.AtWork.{each_manager, taken, work_ready}
-use Rattle.jpa_machine.proofs.AfterFlush.{flushed_at_work}
-use Rattle.jpa_machine.proofs.Ready.{ready_at_work}
+use Rattle.jpa_machine.proofs.machine.AtWork.{each_manager, taken, work_ready}
+use Rattle.jpa_machine.proofs.machine.AfterFlush.{flushed_at_work}
+use Rattle.jpa_machine.proofs.machine.Ready.{ready_at_work}
 use Rattle.jpa_provider.proofs.Marked.{taken_marked}
 use Rattle.jpa_provider.proofs.Serving.{entries_in}
 use Rattle.jpa_provider.proofs.Sessions.{manager_there}

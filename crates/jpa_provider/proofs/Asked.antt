@@ -1,20 +1,20 @@
 -- How contains, clear and setFlushMode step.
-use Rattle.jpa_context.specs.Marks.{Entries}
+use Rattle.jpa_work.specs.context.Marks.{Entries}
 use Rattle.std.proofs.Common.{◌≡◌, inl, ℕ, ℤ, Bool, [], length, ap, sym, ◌∙◌}
 use Rattle.std.specs.Prelude.{slice_set, Some, None}
 use Rattle.jpa_value.specs.declared.refusal.Cause.{Cause}
 use Rattle.jpa_behaviour.specs.Behaviour.{World}
-use Rattle.jpa_heap.specs.Objects.{place_of, object_at}
-use Rattle.jpa_context.specs.Work.{is_managed, state_from}
-use Rattle.jpa_ops.specs.States.{detach_each}
+use Rattle.jpa_work.specs.heap.Objects.{place_of, object_at}
+use Rattle.jpa_work.specs.context.Work.{is_managed, state_from}
+use Rattle.jpa_operations.specs.ops.States.{detach_each}
 use Rattle.jpa_protocol.specs.declared.call.Call.{Call}
 use Rattle.jpa_protocol.specs.declared.call.FlushMode.{FlushMode}
 use Rattle.jpa_protocol.specs.declared.reply.Answer.{Answer}
 use Rattle.jpa_protocol.specs.declared.reply.Reply.{Reply}
 use Rattle.jpa_provider.specs.declared.session.Session.{Session}
-use Rattle.jpa_machine.specs.Machine.{Machine, Manager, with_manager, with_mode, cleared}
-use Rattle.jpa_machine.specs.Calls.{accepted}
-use Rattle.jpa_machine.specs.Routes.{answered, contains, contains_in}
+use Rattle.jpa_machine.specs.machine.Machine.{Machine, Manager, with_manager, with_mode, cleared}
+use Rattle.jpa_machine.specs.machine.Calls.{accepted}
+use Rattle.jpa_machine.specs.machine.Routes.{answered, contains, contains_in}
 use Rattle.jpa_open.specs.Opened.{Opened}
 use Rattle.jpa_provider.specs.Serving.{manager_in, machine_of, named, Serves}
 use Rattle.jpa_provider.proofs.Opened.{told, refusal}

@@ -2,13 +2,13 @@
 use Rattle.std.proofs.Common.{◌≡◌, ℕ, suc, List, [], ◌∷◌, ◌++◌, length, refl, sym, ap, ◌∙◌, subst, append_assoc, append-nil}
 use Rattle.std.specs.Prelude.{Option, Some, None}
 use Rattle.std.specs.Option.{option_map}
-use Rattle.jpa_heap.specs.declared.Handed.{Handed}
-use Rattle.jpa_heap.specs.declared.LiveObject.{LiveObject}
+use Rattle.jpa_work.specs.declared.heap.Handed.{Handed}
+use Rattle.jpa_work.specs.declared.heap.LiveObject.{LiveObject}
 use Rattle.jpa_protocol.specs.declared.call.Given.{Given}
 use Rattle.jpa_asked.specs.declared.asked.Binding.{Binding}
 use Rattle.jpa_asked.specs.Premises.{AreInHeap}
-use Rattle.jpa_machine.specs.Querying.{before, bindings_in, handed_in}
-use Rattle.jpa_machine.proofs.Updated.{AllBound, bindings_within}
+use Rattle.jpa_machine.specs.machine.Querying.{before, bindings_in, handed_in}
+use Rattle.jpa_machine.proofs.machine.Updated.{AllBound, bindings_within}
 
 -- bindings before those that there are
 abbrev pub behind : List Binding → Option (List Binding) → Option (List Binding)

@@ -12,16 +12,16 @@ use Rattle.jpa_behaviour.specs.Behaviour.{World}
 use Rattle.jpa_protocol.specs.declared.call.Given.{Given}
 use Rattle.jpa_protocol.specs.declared.event.Told.{Told}
 use Rattle.jpa_protocol.specs.declared.reply.Answer.{Answer}
-use Rattle.jpa_heap.specs.declared.Handed.{Handed}
-use Rattle.jpa_heap.specs.declared.LiveObject.{LiveObject}
-use Rattle.jpa_heap.specs.Objects.{object_at, is_new, place_of}
-use Rattle.jpa_heap.specs.Assign.{fits_part, fits_version, fits_plain, fits_link, unless_refused, set_member, set_in}
-use Rattle.jpa_context.specs.Work.{Work}
-use Rattle.jpa_context.specs.Steps.{Outcome, Op, Done, Refused, after, require, IsRefusedAs}
-use Rattle.jpa_fetch.specs.Load.{find}
-use Rattle.jpa_fetch.specs.Members.{placed, set}
-use Rattle.jpa_machine.specs.Calls.{give_or, handed, is_short_given, class_named, key_given, whole_key, told_as, nothing, object_or_null}
-use Rattle.jpa_machine.specs.Routes.{set_call, find_call}
+use Rattle.jpa_work.specs.declared.heap.Handed.{Handed}
+use Rattle.jpa_work.specs.declared.heap.LiveObject.{LiveObject}
+use Rattle.jpa_work.specs.heap.Objects.{object_at, is_new, place_of}
+use Rattle.jpa_work.specs.heap.Assign.{fits_part, fits_version, fits_plain, fits_link, unless_refused, set_member, set_in}
+use Rattle.jpa_work.specs.context.Work.{Work}
+use Rattle.jpa_work.specs.context.Steps.{Outcome, Op, Done, Refused, after, require, IsRefusedAs}
+use Rattle.jpa_operations.specs.fetch.Load.{find}
+use Rattle.jpa_operations.specs.fetch.Members.{placed, set}
+use Rattle.jpa_machine.specs.machine.Calls.{give_or, handed, is_short_given, class_named, key_given, whole_key, told_as, nothing, object_or_null}
+use Rattle.jpa_machine.specs.machine.Routes.{set_call, find_call}
 use Rattle.jpa_provider.specs.Operations.{on_numbered}
 
 -- ---- an object by its number

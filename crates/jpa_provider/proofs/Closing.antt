@@ -1,19 +1,19 @@
 -- How close steps.
-use Rattle.jpa_context.specs.Marks.{none_marked}
+use Rattle.jpa_work.specs.context.Marks.{none_marked}
 use Rattle.std.proofs.Common.{◌≡◌, inl, ℕ, ℤ, true, false, [], ap, sym, ◌∙◌}
 use Rattle.std.specs.Prelude.{slice_set, Some, None, if◌then◌else◌}
 use Rattle.jpa_value.specs.declared.refusal.Cause.{Cause}
 use Rattle.jpa_value.specs.declared.refusal.State.{State}
 use Rattle.jpa_behaviour.specs.Behaviour.{World}
-use Rattle.jpa_context.specs.declared.work.UnitOfWork.{UnitOfWork}
+use Rattle.jpa_work.specs.declared.context.work.UnitOfWork.{UnitOfWork}
 use Rattle.jpa_protocol.specs.declared.call.Call.{Call}
 use Rattle.jpa_protocol.specs.declared.reply.Answer.{Answer}
 use Rattle.jpa_provider.specs.declared.session.Session.{Session}
 use Rattle.jpa_provider.specs.declared.session.Status.{Status}
 use Rattle.jpa_provider.specs.declared.session.EntityManager.{EntityManager}
-use Rattle.jpa_machine.specs.Machine.{Machine, Manager, manager_at, closed, cleared, with_manager}
-use Rattle.jpa_machine.specs.Calls.{because, accepted}
-use Rattle.jpa_machine.specs.Routes.{close}
+use Rattle.jpa_machine.specs.machine.Machine.{Machine, Manager, manager_at, closed, cleared, with_manager}
+use Rattle.jpa_machine.specs.machine.Calls.{because, accepted}
+use Rattle.jpa_machine.specs.machine.Routes.{close}
 use Rattle.jpa_provider.specs.Serving.{manager_in, managers_of, machine_of, is_begun_status, named, Serves}
 use Rattle.jpa_provider.proofs.Opened.{told, refusal, none_there}
 use Rattle.jpa_provider.proofs.Sessions.{managers_changed, manager_there, begun_there}

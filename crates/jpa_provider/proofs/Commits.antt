@@ -1,5 +1,5 @@
 -- How a commit steps.
-use Rattle.jpa_context.specs.Marks.{Entries}
+use Rattle.jpa_work.specs.context.Marks.{Entries}
 use Rattle.std.proofs.Common.{◌≡◌, ◌<◌, ◌⊎◌, inl, inr, ℕ, ℤ, Bool, true, false, List, [], ◌∷◌, map, refl, ap, sym, subst, ◌∙◌}
 use Rattle.std.specs.Prelude.{All, not, Some, None, Err, slice_set}
 use Rattle.std.specs.List.{AllByRecursion, filter}
@@ -13,20 +13,20 @@ use Rattle.jpa_protocol.specs.declared.call.Call.{Call}
 use Rattle.jpa_protocol.specs.declared.event.Told.{Told}
 use Rattle.jpa_protocol.specs.declared.reply.Answer.{Answer}
 use Rattle.jpa_protocol.specs.declared.reply.Reply.{Reply}
-use Rattle.jpa_heap.specs.declared.LiveObject.{LiveObject}
+use Rattle.jpa_work.specs.declared.heap.LiveObject.{LiveObject}
 use Rattle.jpa_open.specs.Opened.{no_layers, begun_over, seen_over}
-use Rattle.jpa_context.specs.declared.Entry.{Entry}
-use Rattle.jpa_context.specs.Work.{Work, unlocked}
-use Rattle.jpa_context.specs.Steps.{Outcome, Done, Refused, IsRefusedAs}
-use Rattle.jpa_context.specs.Undo.{now}
-use Rattle.jpa_ops.specs.States.{detach_each}
+use Rattle.jpa_work.specs.declared.context.Entry.{Entry}
+use Rattle.jpa_work.specs.context.Work.{Work, unlocked}
+use Rattle.jpa_work.specs.context.Steps.{Outcome, Done, Refused, IsRefusedAs}
+use Rattle.jpa_work.specs.context.Undo.{now}
+use Rattle.jpa_operations.specs.ops.States.{detach_each}
 use Rattle.jpa_provider.specs.declared.session.Status.{Status}
 use Rattle.jpa_provider.specs.declared.session.EntityManager.{EntityManager}
 use Rattle.jpa_provider.specs.declared.session.Session.{Session}
-use Rattle.jpa_machine.specs.Machine.{Machine, manager_at, is_begun, begun_set, with_manager, work_of, is_gone, committed_after, rolled_back, IsStoredAs}
-use Rattle.jpa_machine.specs.Calls.{accepted}
-use Rattle.jpa_machine.specs.Transactions.{commit, commit_in, commit_of, commit_work}
-use Rattle.jpa_machine.specs.Step.{outcome, gives_up}
+use Rattle.jpa_machine.specs.machine.Machine.{Machine, manager_at, is_begun, begun_set, with_manager, work_of, is_gone, committed_after, rolled_back, IsStoredAs}
+use Rattle.jpa_machine.specs.machine.Calls.{accepted}
+use Rattle.jpa_machine.specs.machine.Transactions.{commit, commit_in, commit_of, commit_work}
+use Rattle.jpa_machine.specs.machine.Step.{outcome, gives_up}
 use Rattle.jpa_provider.specs.Beside.{IsBeside}
 use Rattle.jpa_provider.specs.Serving.{transaction_in, is_open_status, is_begun_status, managers_of, manager_in, machine_of, named, detached_at, detached_all, gone_objects, gave_up, Refuses, Stores, IsAway, IsCommitting, IsCounted, IsIdle, Serves}
 use Rattle.jpa_provider.proofs.Held.{same_managers}

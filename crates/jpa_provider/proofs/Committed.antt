@@ -4,20 +4,20 @@ use Rattle.std.specs.Prelude.{All, nat_le}
 use Rattle.std.proofs.lemmas.Bool.{false≢true}
 use Rattle.std.proofs.lemmas.List.Elements.{All-weaker}
 use Rattle.jpa_behaviour.specs.Behaviour.{World}
-use Rattle.jpa_machine.specs.Consistent.{IsEntry}
-use Rattle.jpa_machine.proofs.Ready.{ready_at_work}
-use Rattle.jpa_fetch.specs.Grown.{IsReady}
-use Rattle.jpa_context.specs.declared.Entry.{Entry}
-use Rattle.jpa_context.specs.Work.{Work}
-use Rattle.jpa_context.specs.Steps.{Done}
-use Rattle.jpa_context.specs.Undo.{now, since}
-use Rattle.jpa_machine.specs.Machine.{Machine, manager_at, is_begun, begun_in, begun_set, work_of}
-use Rattle.jpa_machine.specs.Transactions.{commit_work}
-use Rattle.jpa_machine.proofs.AtWork.{IsAtWork, taken}
-use Rattle.jpa_machine.proofs.AfterFlush.{still_at_work, numbers_rise}
+use Rattle.jpa_machine.specs.machine.Consistent.{IsEntry}
+use Rattle.jpa_machine.proofs.machine.Ready.{ready_at_work}
+use Rattle.jpa_operations.specs.fetch.Grown.{IsReady}
+use Rattle.jpa_work.specs.declared.context.Entry.{Entry}
+use Rattle.jpa_work.specs.context.Work.{Work}
+use Rattle.jpa_work.specs.context.Steps.{Done}
+use Rattle.jpa_work.specs.context.Undo.{now, since}
+use Rattle.jpa_machine.specs.machine.Machine.{Machine, manager_at, is_begun, begun_in, begun_set, work_of}
+use Rattle.jpa_machine.specs.machine.Transactions.{commit_work}
+use Rattle.jpa_machine.proofs.machine.AtWork.{IsAtWork, taken}
+use Rattle.jpa_machine.proofs.machine.AfterFlush.{still_at_work, numbers_rise}
 use Rattle.jpa_open.specs.Opened.{IsUndone}
-use Rattle.jpa_rows.specs.Cells.{CanBeHeld}
-use Rattle.jpa_stored.specs.Sets.{StoredSet, each_fits}
+use Rattle.jpa_rows.specs.rows.Cells.{CanBeHeld}
+use Rattle.jpa_stored.specs.objects.Sets.{StoredSet, each_fits}
 use Rattle.jpa_provider.specs.declared.session.Status.{Status}
 use Rattle.jpa_provider.specs.declared.session.Session.{Session}
 use Rattle.jpa_provider.specs.Beside.{AreHeld}

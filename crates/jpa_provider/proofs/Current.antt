@@ -10,18 +10,18 @@ use Rattle.jpa_value.specs.declared.refusal.PersistenceFault.{PersistenceFault}
 use Rattle.jpa_value.specs.Value.{identity_cmp, same_identity}
 use Rattle.jpa_model.specs.declared.unit.PersistenceUnit.{PersistenceUnit}
 use Rattle.jpa_behaviour.specs.Behaviour.{World}
-use Rattle.jpa_stored.specs.Sets.{StoredSet, IsSound, stored_at, fault_of}
+use Rattle.jpa_stored.specs.objects.Sets.{StoredSet, IsSound, stored_at, fault_of}
 use Rattle.jpa_open.specs.Differences.{agrees, differing, merged}
 use Rattle.jpa_open.proofs.MergedSets.{found_merged, is_differing}
 use Rattle.jpa_constraints.specs.declared.change.Change.{Change}
 use Rattle.jpa_constraints.specs.Changed.{class_at, is_changed, IsChanged}
 use Rattle.jpa_open.specs.Opened.{SameElsewhere}
-use Rattle.jpa_context.specs.Work.{Work}
-use Rattle.jpa_context.specs.Steps.{◌>>=◌, ◌>>◌, Op, Done, Refused, IsRefusedAs, Meets, after, change, read, require}
-use Rattle.jpa_flush.specs.Changes.{place_of}
-use Rattle.jpa_flush.specs.Flush.{flush, reads_hold, sound_or}
+use Rattle.jpa_work.specs.context.Work.{Work}
+use Rattle.jpa_work.specs.context.Steps.{◌>>=◌, ◌>>◌, Op, Done, Refused, IsRefusedAs, Meets, after, change, read, require}
+use Rattle.jpa_flush.specs.flush.Changes.{place_of}
+use Rattle.jpa_flush.specs.flush.Flush.{flush, reads_hold, sound_or}
 use Rattle.jpa_updates.specs.Updates.{with_view}
-use Rattle.jpa_machine.specs.Transactions.{is_current, commit_work}
+use Rattle.jpa_machine.specs.machine.Transactions.{is_current, commit_work}
 
 -- ---- where the set that a commit makes differs from what is committed
 

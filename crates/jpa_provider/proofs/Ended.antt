@@ -5,18 +5,18 @@ use Rattle.std.specs.List.{filter}
 use Rattle.std.proofs.lemmas.List.{get_or-set_other}
 use Rattle.jpa_behaviour.specs.Behaviour.{World}
 use Rattle.jpa_model.specs.declared.unit.PersistenceUnit.{PersistenceUnit}
-use Rattle.jpa_heap.specs.declared.LiveObject.{LiveObject}
-use Rattle.jpa_undo.specs.Undo.{Changes}
-use Rattle.jpa_context.specs.declared.work.UnitOfWork.{UnitOfWork}
-use Rattle.jpa_context.specs.Marks.{Entries, Marks}
-use Rattle.jpa_context.specs.Undo.{now}
-use Rattle.jpa_context.specs.Work.{Work, unlocked}
-use Rattle.jpa_flush.specs.Marked.{AreMarked, before}
-use Rattle.jpa_marking.specs.Shared.{LetsGo, OthersStay, OwnStay, TheirsStay, is_held_by, is_removed_by, seen_by}
-use Rattle.jpa_marking.specs.Shared as marking
-use Rattle.jpa_ops.specs.States.{detach_each}
-use Rattle.jpa_machine.specs.Machine.{Machine, Manager, committed_after, is_gone, manager_at, no_manager, work_of}
-use Rattle.jpa_machine.specs.Invariant.{IsMachine, context_of}
+use Rattle.jpa_work.specs.declared.heap.LiveObject.{LiveObject}
+use Rattle.jpa_work.specs.undo.Undo.{Changes}
+use Rattle.jpa_work.specs.declared.context.work.UnitOfWork.{UnitOfWork}
+use Rattle.jpa_work.specs.context.Marks.{Entries, Marks}
+use Rattle.jpa_work.specs.context.Undo.{now}
+use Rattle.jpa_work.specs.context.Work.{Work, unlocked}
+use Rattle.jpa_flush.specs.flush.Marked.{AreMarked, before}
+use Rattle.jpa_flush.specs.marking.Shared.{LetsGo, OthersStay, OwnStay, TheirsStay, is_held_by, is_removed_by, seen_by}
+use Rattle.jpa_flush.specs.marking.Shared as marking
+use Rattle.jpa_operations.specs.ops.States.{detach_each}
+use Rattle.jpa_machine.specs.machine.Machine.{Machine, Manager, committed_after, is_gone, manager_at, no_manager, work_of}
+use Rattle.jpa_machine.specs.machine.Invariant.{IsMachine, context_of}
 use Rattle.jpa_provider.specs.declared.session.EntityManager.{EntityManager}
 use Rattle.jpa_provider.specs.declared.session.Session.{Session}
 use Rattle.jpa_provider.specs.Beside.{AreHeld}

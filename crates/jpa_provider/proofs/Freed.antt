@@ -6,20 +6,20 @@ use Rattle.std.proofs.lemmas.Bool.{false≢true, cases_lt, eqb-true, or_cases}
 use Rattle.std.proofs.lemmas.List.{get_or_past}
 use Rattle.std.proofs.lemmas.List.Elements.{recursion_from_All}
 use Rattle.jpa_behaviour.specs.Behaviour.{World}
-use Rattle.jpa_heap.specs.declared.Life.{Life}
-use Rattle.jpa_heap.specs.declared.LiveObject.{LiveObject}
-use Rattle.jpa_heap.specs.Objects.{no_object, object_at, with_life}
-use Rattle.jpa_context.specs.declared.Entry.{Entry}
-use Rattle.jpa_context.specs.declared.EntityState.{EntityState}
-use Rattle.jpa_context.specs.Work.{Work, is_managed, is_removed, state_from, state_of}
-use Rattle.jpa_ops.specs.States.{detach_each}
-use Rattle.jpa_machine.specs.Consistent.{IsEntry}
-use Rattle.jpa_machine.specs.Consistent as consistent
-use Rattle.jpa_machine.proofs.Detached.{detached_at, freed, length_detached, stands, stands_held}
-use Rattle.jpa_marking.specs.Shared.{LetsGo, is_held_by, is_removed_by}
-use Rattle.jpa_machine.specs.Machine.{Machine, is_gone, manager_at}
-use Rattle.jpa_machine.specs.Invariant.{IsMachine}
-use Rattle.jpa_machine.proofs.AtWork.{each_manager}
+use Rattle.jpa_work.specs.declared.heap.Life.{Life}
+use Rattle.jpa_work.specs.declared.heap.LiveObject.{LiveObject}
+use Rattle.jpa_work.specs.heap.Objects.{no_object, object_at, with_life}
+use Rattle.jpa_work.specs.declared.context.Entry.{Entry}
+use Rattle.jpa_work.specs.declared.context.EntityState.{EntityState}
+use Rattle.jpa_work.specs.context.Work.{Work, is_managed, is_removed, state_from, state_of}
+use Rattle.jpa_operations.specs.ops.States.{detach_each}
+use Rattle.jpa_machine.specs.machine.Consistent.{IsEntry}
+use Rattle.jpa_machine.specs.machine.Consistent as consistent
+use Rattle.jpa_machine.proofs.machine.Detached.{detached_at, freed, length_detached, stands, stands_held}
+use Rattle.jpa_flush.specs.marking.Shared.{LetsGo, is_held_by, is_removed_by}
+use Rattle.jpa_machine.specs.machine.Machine.{Machine, is_gone, manager_at}
+use Rattle.jpa_machine.specs.machine.Invariant.{IsMachine}
+use Rattle.jpa_machine.proofs.machine.AtWork.{each_manager}
 
 -- ---- objects of entries
 

@@ -6,13 +6,13 @@ use Rattle.std.proofs.lemmas.Bool.Decides.{eqb_tells}
 use Rattle.std.proofs.Math.Dec.{eqb}
 use Rattle.std.proofs.lemmas.List.{length-set}
 use Rattle.jpa_value.specs.declared.value.Identity.{Identity}
-use Rattle.jpa_stored.specs.Sets.{StoredSet}
+use Rattle.jpa_stored.specs.objects.Sets.{StoredSet}
 use Rattle.jpa_open.specs.Opened.{Away, IsKeptBack, IsUntouched, IsUndone, SameElsewhere, begun_over, seen_over}
 use Rattle.jpa_open.proofs.Kept.{untouched_after}
 use Rattle.jpa_provider.specs.declared.session.Status.{Status}
 use Rattle.jpa_provider.specs.declared.session.EntityManager.{EntityManager}
 use Rattle.jpa_provider.specs.declared.session.Session.{Session}
-use Rattle.jpa_machine.specs.Machine.{Machine, Manager}
+use Rattle.jpa_machine.specs.machine.Machine.{Machine, Manager}
 use Rattle.jpa_provider.specs.Beside.{IsHeld, AreHeld, IsTold, AreTold, Rises}
 use Rattle.jpa_provider.specs.Serving.{transaction_in, is_open_status, is_begun_status, manager_of, managers_of, manager_in, open_places, IsAway, IsIdle}
 use Rattle.jpa_provider.proofs.Counted.{begun_is_open, place_there, places_within, same_places}

@@ -3,19 +3,19 @@ use Rattle.std.proofs.Common.{◌≡◌, ◌≢◌, ◌<◌, ◌≤◌, ◌⊎�
 use Rattle.std.specs.Prelude.{slice_set, ◌||◌}
 use Rattle.std.proofs.lemmas.Bool.{cases_eq, cases_lt}
 use Rattle.std.proofs.lemmas.List.{get_or-set_same, get_or-set_other, length-set, set_past}
-use Rattle.jpa_heap.specs.declared.Life.{Life}
-use Rattle.jpa_heap.specs.declared.LiveObject.{LiveObject}
-use Rattle.jpa_heap.specs.Objects.{no_object, object_at, with_life}
+use Rattle.jpa_work.specs.declared.heap.Life.{Life}
+use Rattle.jpa_work.specs.declared.heap.LiveObject.{LiveObject}
+use Rattle.jpa_work.specs.heap.Objects.{no_object, object_at, with_life}
 use Rattle.jpa_behaviour.specs.Behaviour.{World}
 use Rattle.jpa_cascade.specs.declared.Node.{Node}
 use Rattle.jpa_cascade.specs.declared.Operation.{Operation}
 use Rattle.jpa_cascade.specs.Waves.{waves}
-use Rattle.jpa_context.specs.declared.EntityState.{EntityState}
-use Rattle.jpa_context.specs.Steps.{after, each, Outcome, Done, Refused}
-use Rattle.jpa_context.specs.Work.{Work, is_managed, is_removed, state_of}
-use Rattle.jpa_ops.specs.States.{detach, detach_node, detach_one, let_go}
-use Rattle.jpa_marking.specs.Shared.{LetsGo, is_held_by}
-use Rattle.jpa_machine.specs.Going.{HoldsAfter}
+use Rattle.jpa_work.specs.declared.context.EntityState.{EntityState}
+use Rattle.jpa_work.specs.context.Steps.{after, each, Outcome, Done, Refused}
+use Rattle.jpa_work.specs.context.Work.{Work, is_managed, is_removed, state_of}
+use Rattle.jpa_operations.specs.ops.States.{detach, detach_node, detach_one, let_go}
+use Rattle.jpa_flush.specs.marking.Shared.{LetsGo, is_held_by}
+use Rattle.jpa_machine.specs.machine.Going.{HoldsAfter}
 
 module _ (test : Life → Bool) where
   abbrev IsFreed : LiveObject → LiveObject → Type 0

@@ -9,27 +9,27 @@ use Rattle.std.proofs.lemmas.List.Elements.{All-nil, All-weaker}
 use Rattle.jpa_behaviour.specs.Behaviour.{World}
 use Rattle.jpa_model.specs.declared.unit.PersistenceUnit.{PersistenceUnit}
 use Rattle.jpa_value.specs.declared.refusal.Cause.{Cause}
-use Rattle.jpa_heap.specs.declared.Life.{Life}
-use Rattle.jpa_heap.specs.declared.LiveObject.{LiveObject}
-use Rattle.jpa_heap.specs.Objects.{no_object, object_at}
-use Rattle.jpa_undo.specs.Undo.{Changes}
-use Rattle.jpa_context.specs.declared.Entry.{Entry}
-use Rattle.jpa_context.specs.declared.EntityState.{EntityState}
-use Rattle.jpa_context.specs.declared.work.UnitOfWork.{UnitOfWork}
-use Rattle.jpa_context.specs.Marks.{Entries, Marks, all_marked, is_marked}
-use Rattle.jpa_context.specs.Undo.{now, since, undone, Since, IsKept}
-use Rattle.jpa_context.specs.Work.{Work, object, state_from, is_managed}
-use Rattle.jpa_context.specs.Steps.{Outcome, Meets}
+use Rattle.jpa_work.specs.declared.heap.Life.{Life}
+use Rattle.jpa_work.specs.declared.heap.LiveObject.{LiveObject}
+use Rattle.jpa_work.specs.heap.Objects.{no_object, object_at}
+use Rattle.jpa_work.specs.undo.Undo.{Changes}
+use Rattle.jpa_work.specs.declared.context.Entry.{Entry}
+use Rattle.jpa_work.specs.declared.context.EntityState.{EntityState}
+use Rattle.jpa_work.specs.declared.context.work.UnitOfWork.{UnitOfWork}
+use Rattle.jpa_work.specs.context.Marks.{Entries, Marks, all_marked, is_marked}
+use Rattle.jpa_work.specs.context.Undo.{now, since, undone, Since, IsKept}
+use Rattle.jpa_work.specs.context.Work.{Work, object, state_from, is_managed}
+use Rattle.jpa_work.specs.context.Steps.{Outcome, Meets}
 use Rattle.jpa_protocol.specs.declared.event.Told.{Told}
-use Rattle.jpa_fetch.specs.Grown.{IsReady}
-use Rattle.jpa_flush.specs.Marked.{AreEntered, AreMarked, GoesOn, IsMarked, IsNamedStill, IsUntouched, before}
-use Rattle.jpa_marking.specs.Shared.{OthersGoOn, seen_by}
-use Rattle.jpa_machine.specs.Consistent.{contexts, stands_in}
-use Rattle.jpa_machine.specs.Going.{HoldsAfter}
-use Rattle.jpa_machine.proofs.Ready.{ready_at_work}
-use Rattle.jpa_machine.specs.Machine.{Machine, Manager, kept, manager_at, no_manager, seen_in, with_manager, work_of}
-use Rattle.jpa_machine.specs.Invariant.{context_of}
-use Rattle.jpa_machine.proofs.AtWork.{IsAtWork, others_of, taken}
+use Rattle.jpa_operations.specs.fetch.Grown.{IsReady}
+use Rattle.jpa_flush.specs.flush.Marked.{AreEntered, AreMarked, GoesOn, IsMarked, IsNamedStill, IsUntouched, before}
+use Rattle.jpa_flush.specs.marking.Shared.{OthersGoOn, seen_by}
+use Rattle.jpa_machine.specs.machine.Consistent.{contexts, stands_in}
+use Rattle.jpa_machine.specs.machine.Going.{HoldsAfter}
+use Rattle.jpa_machine.proofs.machine.Ready.{ready_at_work}
+use Rattle.jpa_machine.specs.machine.Machine.{Machine, Manager, kept, manager_at, no_manager, seen_in, with_manager, work_of}
+use Rattle.jpa_machine.specs.machine.Invariant.{context_of}
+use Rattle.jpa_machine.proofs.machine.AtWork.{IsAtWork, others_of, taken}
 use Rattle.jpa_provider.specs.declared.session.EntityManager.{EntityManager}
 use Rattle.jpa_provider.specs.declared.session.Session.{Session}
 use Rattle.jpa_provider.specs.Serving.{machine_of, manager_in, manager_of, marks_in, nobody, AreAllMarked, AreMarkedAway, AreMarkedNow, IsAway, IsServing, IsWorking, KeepsMarks}

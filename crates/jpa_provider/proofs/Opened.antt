@@ -1,5 +1,5 @@
 -- How managers and objects are made, and transactions begin, are marked and roll back.
-use Rattle.jpa_context.specs.Marks.{none_marked}
+use Rattle.jpa_work.specs.context.Marks.{none_marked}
 use Rattle.jpa_value.specs.Limits.{most_managers, most_objects, most_open_managers}
 use Rattle.std.proofs.Common.{◌≡◌, ◌<◌, ◌≤◌, ◌+◌, inl, inr, ℕ, suc, ℤ, drop, get_or, Bool, true, false, List, [], ◌∷◌, ◌++◌, length, refl, ap, sym, ◌∙◌}
 use Rattle.std.specs.Prelude.{Option, Some, None, Ok, Err, if◌then◌else◌, slice_get, slice_set, nat_lt, count_by, ◌&&◌}
@@ -11,27 +11,27 @@ use Rattle.jpa_value.specs.declared.refusal.Refusal.{Refusal}
 use Rattle.jpa_value.specs.declared.refusal.State.{State}
 use Rattle.jpa_value.specs.declared.refusal.Argument.{Argument}
 use Rattle.jpa_model.specs.Chains.{class_of}
-use Rattle.jpa_stored.specs.Sets.{StoredSet}
+use Rattle.jpa_stored.specs.objects.Sets.{StoredSet}
 use Rattle.jpa_open.specs.Opened.{no_layers, begun_over, seen_over}
 use Rattle.jpa_behaviour.specs.Behaviour.{World}
 use Rattle.jpa_protocol.specs.declared.call.Call.{Call}
 use Rattle.jpa_protocol.specs.declared.call.FlushMode.{FlushMode}
 use Rattle.jpa_protocol.specs.declared.reply.Answer.{Answer}
 use Rattle.jpa_protocol.specs.declared.reply.Reply.{Reply}
-use Rattle.jpa_heap.specs.declared.LiveObject.{LiveObject}
-use Rattle.jpa_heap.specs.declared.Life.{Life}
-use Rattle.jpa_heap.specs.Objects.{new_object, no_object, object_at}
-use Rattle.jpa_context.specs.declared.Entry.{Entry}
-use Rattle.jpa_context.specs.declared.work.UnitOfWork.{UnitOfWork}
-use Rattle.jpa_ops.specs.States.{detach_each}
+use Rattle.jpa_work.specs.declared.heap.LiveObject.{LiveObject}
+use Rattle.jpa_work.specs.declared.heap.Life.{Life}
+use Rattle.jpa_work.specs.heap.Objects.{new_object, no_object, object_at}
+use Rattle.jpa_work.specs.declared.context.Entry.{Entry}
+use Rattle.jpa_work.specs.declared.context.work.UnitOfWork.{UnitOfWork}
+use Rattle.jpa_operations.specs.ops.States.{detach_each}
 use Rattle.jpa_provider.specs.declared.session.Status.{Status}
 use Rattle.jpa_provider.specs.declared.session.EntityManager.{EntityManager}
 use Rattle.jpa_provider.specs.declared.session.Session.{Session}
-use Rattle.jpa_machine.specs.Machine.{Machine, Manager, Transaction, manager_at, new_manager, is_begun, marked, rolled_back, cleared, with_manager}
-use Rattle.jpa_machine.specs.Calls.{because}
-use Rattle.jpa_machine.specs.Transactions.{begin, begin_in, begun, rollback, rollback_in, set_rollback_only, only_rollback_in}
-use Rattle.jpa_machine.specs.Routes.{made_new}
-use Rattle.jpa_machine.specs.Step.{outcome}
+use Rattle.jpa_machine.specs.machine.Machine.{Machine, Manager, Transaction, manager_at, new_manager, is_begun, marked, rolled_back, cleared, with_manager}
+use Rattle.jpa_machine.specs.machine.Calls.{because}
+use Rattle.jpa_machine.specs.machine.Transactions.{begin, begin_in, begun, rollback, rollback_in, set_rollback_only, only_rollback_in}
+use Rattle.jpa_machine.specs.machine.Routes.{made_new}
+use Rattle.jpa_machine.specs.machine.Step.{outcome}
 use Rattle.jpa_provider.specs.Serving.{transaction_in, is_open_status, is_begun_status, manager_of, managers_of, manager_in, nobody, machine_of, named, detached_at, detached_all, IsCounted, IsIdle, Serves}
 use Rattle.jpa_provider.proofs.Counted.{as_counted, begun_is_open}
 use Rattle.jpa_provider.proofs.Sessions.{manager_there, managers_changed, managers_count, none_begun, nothing_begun, nothing_seen, begun_there, replaced}

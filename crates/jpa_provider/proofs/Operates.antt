@@ -1,33 +1,33 @@
 -- What an operation leaves of a manager at work: what holds while it works holds then.
 use Rattle.std.proofs.Common.{◌≡◌, ◌<◌, ℕ, Bool, true, List, length, sym, subst}
 use Rattle.jpa_behaviour.specs.Behaviour.{World, IsRegular}
-use Rattle.jpa_context.specs.Work.{Work}
-use Rattle.jpa_context.specs.Steps.{Done, Op, Outcome, Refused}
-use Rattle.jpa_fetch.specs.Orderly.{IsOrderly}
-use Rattle.jpa_flush.specs.Flush.{flush}
+use Rattle.jpa_work.specs.context.Work.{Work}
+use Rattle.jpa_work.specs.context.Steps.{Done, Op, Outcome, Refused}
+use Rattle.jpa_operations.specs.fetch.Orderly.{IsOrderly}
+use Rattle.jpa_flush.specs.flush.Flush.{flush}
 use Rattle.jpa_merge.specs.Merge.{merge}
-use Rattle.jpa_ops.specs.States.{persist, remove, refresh, detach, lock}
-use Rattle.jpa_rows.specs.Cells.{all_representable}
-use Rattle.jpql_kept.specs.Fits.{AreInherited}
+use Rattle.jpa_operations.specs.ops.States.{persist, remove, refresh, detach, lock}
+use Rattle.jpa_rows.specs.rows.Cells.{all_representable}
+use Rattle.jpql_bulk.specs.kept.Fits.{AreInherited}
 use Rattle.jpa_protocol.specs.declared.call.Call.{Call}
 use Rattle.jpa_protocol.specs.declared.call.Parameter.{Parameter}
 use Rattle.jpa_protocol.specs.declared.reply.Answer.{Answer}
-use Rattle.jpa_machine.specs.Going.{HoldsAfter}
-use Rattle.jpa_machine.proofs.Changed.{HasSet}
-use Rattle.jpa_machine.proofs.Flushed.{flush_goes, viewed_at_work}
-use Rattle.jpa_machine.proofs.Going.{More, only}
-use Rattle.jpa_machine.proofs.Instances.{at_work}
-use Rattle.jpa_machine.proofs.Laws.{Steps, persist_goes, remove_goes, refresh_goes, detach_goes, lock_goes}
-use Rattle.jpa_machine.proofs.Merging.{merge_goes}
-use Rattle.jpa_machine.specs.Machine.{Machine, work_of}
-use Rattle.jpa_machine.specs.Calls.{nothing, object_told, told_as}
-use Rattle.jpa_machine.specs.Invariant.{IsMachine, hands_representable}
-use Rattle.jpa_machine.specs.Querying.{update_call}
-use Rattle.jpa_machine.specs.Routes.{set_call, flush_call, lock_of}
-use Rattle.jpa_machine.proofs.AtWork.{IsAtWork, others_of, taken}
-use Rattle.jpa_machine.proofs.Handed.{told_holds, get_call_goes, add_call_goes, take_out_call_goes, set_call_holds, find_call_goes, get_reference_call_goes, flush_call_goes}
-use Rattle.jpa_machine.proofs.Queried.{query_call_goes, query_single_call_goes}
-use Rattle.jpa_machine.proofs.Updated.{update_call_goes}
+use Rattle.jpa_machine.specs.machine.Going.{HoldsAfter}
+use Rattle.jpa_machine.proofs.machine.Changed.{HasSet}
+use Rattle.jpa_machine.proofs.machine.Flushed.{flush_goes, viewed_at_work}
+use Rattle.jpa_machine.proofs.machine.Going.{More, only}
+use Rattle.jpa_machine.proofs.machine.Instances.{at_work}
+use Rattle.jpa_machine.proofs.machine.Laws.{Steps, persist_goes, remove_goes, refresh_goes, detach_goes, lock_goes}
+use Rattle.jpa_machine.proofs.machine.Merging.{merge_goes}
+use Rattle.jpa_machine.specs.machine.Machine.{Machine, work_of}
+use Rattle.jpa_machine.specs.machine.Calls.{nothing, object_told, told_as}
+use Rattle.jpa_machine.specs.machine.Invariant.{IsMachine, hands_representable}
+use Rattle.jpa_machine.specs.machine.Querying.{update_call}
+use Rattle.jpa_machine.specs.machine.Routes.{set_call, flush_call, lock_of}
+use Rattle.jpa_machine.proofs.machine.AtWork.{IsAtWork, others_of, taken}
+use Rattle.jpa_machine.proofs.machine.Handed.{told_holds, get_call_goes, add_call_goes, take_out_call_goes, set_call_holds, find_call_goes, get_reference_call_goes, flush_call_goes}
+use Rattle.jpa_machine.proofs.machine.Queried.{query_call_goes, query_single_call_goes}
+use Rattle.jpa_machine.proofs.machine.Updated.{update_call_goes}
 use Rattle.jpa_provider.specs.Operations.{at_object, by_key, by_query}
 
 module _ (world : World) (M : Machine) (m : ℕ) (orderly : IsOrderly world.model) (regular : IsRegular world) (h : IsMachine world M) where

@@ -11,9 +11,9 @@ use Rattle.jpa_model.specs.declared.unit.Member.{Member}
 use Rattle.jpa_model.specs.declared.unit.PersistenceUnit.{PersistenceUnit}
 use Rattle.jpa_model.specs.Chains.{class_of, member_of}
 use Rattle.jpa_behaviour.specs.Behaviour.{World}
-use Rattle.jpa_stored.specs.Sets.{StoredSet}
-use Rattle.jpa_heap.specs.Objects.{place_of, object_at}
-use Rattle.jpa_heap.specs.declared.LiveObject.{LiveObject}
+use Rattle.jpa_stored.specs.objects.Sets.{StoredSet}
+use Rattle.jpa_work.specs.heap.Objects.{place_of, object_at}
+use Rattle.jpa_work.specs.declared.heap.LiveObject.{LiveObject}
 use Rattle.jpa_protocol.specs.declared.call.Call.{Call}
 use Rattle.jpa_protocol.specs.declared.reply.Answer.{Answer}
 use Rattle.jpa_protocol.specs.declared.reply.Due.{Due}
@@ -22,14 +22,14 @@ use Rattle.jpa_protocol.specs.declared.reply.Shown.{Shown}
 use Rattle.jpa_open.specs.Opened.{begun_over, seen_over}
 use Rattle.jpa_provider.specs.declared.session.EntityManager.{EntityManager}
 use Rattle.jpa_provider.specs.declared.session.Session.{Session}
-use Rattle.jpa_machine.specs.Invariant.{IsMachine}
-use Rattle.jpa_machine.proofs.Members.{linked}
-use Rattle.jpa_machine.specs.Machine.{Machine, manager_at, has_transaction, any_begun, restarted}
-use Rattle.jpa_machine.specs.Calls.{accepted, because}
-use Rattle.jpa_machine.specs.Indexing.{indexed, index_of}
-use Rattle.jpa_machine.specs.Pending.{due_in, pending_at, pending_named}
-use Rattle.jpa_machine.specs.Routes.{answered, by_manager, if_open}
-use Rattle.jpa_machine.specs.Showing.{shown, shown_onto, all_shown, told_or}
+use Rattle.jpa_machine.specs.machine.Invariant.{IsMachine}
+use Rattle.jpa_machine.proofs.machine.Members.{linked}
+use Rattle.jpa_machine.specs.machine.Machine.{Machine, manager_at, has_transaction, any_begun, restarted}
+use Rattle.jpa_machine.specs.machine.Calls.{accepted, because}
+use Rattle.jpa_machine.specs.machine.Indexing.{indexed, index_of}
+use Rattle.jpa_machine.specs.machine.Pending.{due_in, pending_at, pending_named}
+use Rattle.jpa_machine.specs.machine.Routes.{answered, by_manager, if_open}
+use Rattle.jpa_machine.specs.machine.Showing.{shown, shown_onto, all_shown, told_or}
 use Rattle.jpa_provider.specs.Stages.{CanBeShown}
 use Rattle.jpa_provider.specs.Serving.{machine_of, manager_in, managers_of, named, is_begun_status, AreAllMarked, Serves}
 use Rattle.jpa_provider.proofs.Marked.{context_there, nothing_marked}

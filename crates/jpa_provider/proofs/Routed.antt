@@ -4,25 +4,25 @@ use Rattle.std.specs.Prelude.{Option, Some, None, is_some, if◌then◌else◌}
 use Rattle.std.proofs.lemmas.Bool.{false≢true, true≢false}
 use Rattle.jpa_value.specs.declared.refusal.Cause.{Cause}
 use Rattle.jpa_behaviour.specs.Behaviour.{World}
-use Rattle.jpa_heap.specs.declared.Life.{Life}
-use Rattle.jpa_heap.specs.Objects.{place_of, object_at}
-use Rattle.jpa_context.specs.Work.{Work}
-use Rattle.jpa_context.specs.Steps.{Op, after, done}
+use Rattle.jpa_work.specs.declared.heap.Life.{Life}
+use Rattle.jpa_work.specs.heap.Objects.{place_of, object_at}
+use Rattle.jpa_work.specs.context.Work.{Work}
+use Rattle.jpa_work.specs.context.Steps.{Op, after, done}
 use Rattle.jpa_protocol.specs.declared.call.Call.{Call}
 use Rattle.jpa_protocol.specs.declared.call.Parameter.{Parameter}
-use Rattle.jpa_machine.specs.Updating.{update_outcome}
+use Rattle.jpa_machine.specs.machine.Updating.{update_outcome}
 use Rattle.jpa_protocol.specs.declared.reply.Answer.{Answer}
 use Rattle.jpa_protocol.specs.declared.reply.Reply.{Reply}
 use Rattle.jpa_provider.specs.declared.replies.Rule.{Rule}
 use Rattle.jpa_provider.specs.declared.session.Session.{Session}
-use Rattle.jpa_machine.specs.Machine.{Machine, flushes_first, work_of}
-use Rattle.jpa_machine.specs.Calls.{because, ended, marks, marks_if_callback, give_or}
-use Rattle.jpa_machine.specs.Routes.{OfManager, ToQuery, InTransaction, OfObject, by_route, holder, holder_in, if_begun, transaction_required, required_of, stands_numbered, flush_call, is_free, route}
+use Rattle.jpa_machine.specs.machine.Machine.{Machine, flushes_first, work_of}
+use Rattle.jpa_machine.specs.machine.Calls.{because, ended, marks, marks_if_callback, give_or}
+use Rattle.jpa_machine.specs.machine.Routes.{OfManager, ToQuery, InTransaction, OfObject, by_route, holder, holder_in, if_begun, transaction_required, required_of, stands_numbered, flush_call, is_free, route}
 use Rattle.jpa_provider.specs.Operations.{on_numbered, manager_holding, EndsSo}
-use Rattle.jpa_machine.specs.Consistent.{stands_in}
-use Rattle.jpa_machine.specs.Invariant.{IsMachine, context_of}
+use Rattle.jpa_machine.specs.machine.Consistent.{stands_in}
+use Rattle.jpa_machine.specs.machine.Invariant.{IsMachine, context_of}
 use Rattle.jpa_provider.specs.Serving.{machine_of, manager_in, is_begun_status, named, Serves}
-use Rattle.jpa_machine.proofs.AtWork.{IsOpen, holding_open}
+use Rattle.jpa_machine.proofs.machine.AtWork.{IsOpen, holding_open}
 use Rattle.jpa_provider.proofs.Opened.{refusal}
 use Rattle.jpa_provider.proofs.Worked.{of_manager, of_nobody, some_same, ended_step}
 use Rattle.jpa_provider.proofs.Sessions.{managers_count, begun_there}

@@ -1,26 +1,26 @@
 -- What holds between calls holds after each step.
 use Rattle.std.proofs.Common.{◌≡◌, ◌<◌, ℕ, true, List, length, ap, sym, subst}
 use Rattle.std.specs.Prelude.{All, OnOk}
-use Rattle.jpql_kept.specs.Fits.{AreInherited}
-use Rattle.jpa_machine.specs.Updating.{MakesRepresentable}
+use Rattle.jpql_bulk.specs.kept.Fits.{AreInherited}
+use Rattle.jpa_machine.specs.machine.Updating.{MakesRepresentable}
 use Rattle.std.proofs.lemmas.List.Elements.{All-weaker}
 use Rattle.jpa_behaviour.specs.Behaviour.{World, IsRegular}
-use Rattle.jpa_stored.specs.Sets.{StoredSet}
-use Rattle.jpa_rows.specs.Cells.{CanBeHeld}
-use Rattle.jpa_context.specs.declared.Entry.{Entry}
+use Rattle.jpa_stored.specs.objects.Sets.{StoredSet}
+use Rattle.jpa_rows.specs.rows.Cells.{CanBeHeld}
+use Rattle.jpa_work.specs.declared.context.Entry.{Entry}
 use Rattle.jpa_protocol.specs.declared.call.Call.{Call}
 use Rattle.jpa_protocol.specs.declared.reply.Reply.{Reply}
 use Rattle.jpa_provider.specs.declared.session.Session.{Session}
-use Rattle.jpa_machine.specs.Machine.{Machine, Manager, manager_at, opened, work_of}
-use Rattle.jpa_machine.specs.Consistent.{IsEntry}
-use Rattle.jpa_machine.specs.Invariant.{IsMachine, context_of, hands_representable}
+use Rattle.jpa_machine.specs.machine.Machine.{Machine, Manager, manager_at, opened, work_of}
+use Rattle.jpa_machine.specs.machine.Consistent.{IsEntry}
+use Rattle.jpa_machine.specs.machine.Invariant.{IsMachine, context_of, hands_representable}
 use Rattle.jpa_provider.specs.Serving.{machine_of, manager_in, marks_in, AreAllMarked, IsServing, IsSettled, Serves}
-use Rattle.jpa_machine.proofs.AtWork.{each_manager}
+use Rattle.jpa_machine.proofs.machine.AtWork.{each_manager}
 use Rattle.jpa_provider.proofs.Marked.{nothing_marked}
 use Rattle.jpa_provider.proofs.Sessions.{manager_there}
-use Rattle.jpa_machine.proofs.Settled.{opened_holds}
-use Rattle.jpa_machine.proofs.Outcome.{step_keeps}
-use Rattle.jpa_fetch.specs.Orderly.{IsOrderly}
+use Rattle.jpa_machine.proofs.machine.Settled.{opened_holds}
+use Rattle.jpa_machine.proofs.machine.Outcome.{step_keeps}
+use Rattle.jpa_operations.specs.fetch.Orderly.{IsOrderly}
 
 -- whichever call it was
 pub serves_on : (world : World) (s t : Session) (call : Call) (reply : Reply) → IsServing world s → hands_representable call ≡ true → OnOk reply.answer (MakesRepresentable world (machine_of s) call) →

@@ -1,21 +1,21 @@
 -- How a session and its machine go together: managers at their places, and one of them at work.
-use Rattle.jpa_context.specs.Marks.{Entries}
+use Rattle.jpa_work.specs.context.Marks.{Entries}
 use Rattle.std.proofs.Common.{◌≡◌, ◌≢◌, ◌<◌, ◌⊎◌, inl, inr, ℕ, zero, suc, Bool, true, false, List, [], ◌∷◌, ◌++◌, length, refl, ap, sym, subst, ◌∙◌}
 use Rattle.std.specs.Prelude.{slice_set, slice_index_or, Option, Some, None}
 use Rattle.std.proofs.lemmas.Bool.{true≢false}
 use Rattle.std.proofs.lemmas.Bool.Decides.{eqb_tells}
 use Rattle.std.proofs.Math.Dec.{eqb}
 use Rattle.std.proofs.lemmas.List.{get_or-set_same, get_or-set_other, map-set, set-set, set-get_or, length-set, length-map}
-use Rattle.jpa_stored.specs.Sets.{StoredSet}
+use Rattle.jpa_stored.specs.objects.Sets.{StoredSet}
 use Rattle.jpa_open.specs.Opened.{Opened, Away, no_layers, begun_over, seen_over, after_keeping, after_undoing}
 use Rattle.jpa_open.proofs.Found.{nothing_over}
-use Rattle.jpa_context.specs.declared.work.UnitOfWork.{UnitOfWork}
-use Rattle.jpa_context.specs.Work.{Work}
-use Rattle.jpa_context.specs.Undo.{now, now_kept, since, IsKept}
+use Rattle.jpa_work.specs.declared.context.work.UnitOfWork.{UnitOfWork}
+use Rattle.jpa_work.specs.context.Work.{Work}
+use Rattle.jpa_work.specs.context.Undo.{now, now_kept, since, IsKept}
 use Rattle.jpa_provider.specs.declared.session.Status.{Status}
 use Rattle.jpa_provider.specs.declared.session.EntityManager.{EntityManager}
 use Rattle.jpa_provider.specs.declared.session.Session.{Session}
-use Rattle.jpa_machine.specs.Machine.{Machine, Manager, Transaction, manager_at, with_manager, no_manager, is_begun, work_of, view_in, seen_in, kept, marked, marked_in, with_mode}
+use Rattle.jpa_machine.specs.machine.Machine.{Machine, Manager, Transaction, manager_at, with_manager, no_manager, is_begun, work_of, view_in, seen_in, kept, marked, marked_in, with_mode}
 use Rattle.jpa_protocol.specs.declared.call.FlushMode.{FlushMode}
 use Rattle.jpa_provider.specs.Serving.{transaction_in, is_open_status, is_begun_status, manager_of, managers_of, manager_in, nobody, machine_of, marked_status, IsCounted, IsIdle, IsResting, IsSettled, IsAway, IsWorking}
 use Rattle.jpa_provider.specs.Turns.{HaveTurned}

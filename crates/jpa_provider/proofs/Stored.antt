@@ -4,20 +4,20 @@ use Rattle.std.specs.Prelude.{Some, Result, Ok, Err, IsErr, OnOk}
 use Rattle.std.proofs.lemmas.Bool.{false≢true, true≢false}
 use Rattle.jpa_value.specs.declared.refusal.Cause.{Cause}
 use Rattle.jpa_behaviour.specs.Behaviour.{World}
-use Rattle.jpa_rows.specs.Rows.{Rows}
-use Rattle.jpa_rows.specs.Commits.{Commits}
-use Rattle.jpa_rows.specs.declared.source.RowSource.{Ghosts}
-use Rattle.jpa_rows.proofs.Commits.{of_refusal}
-use Rattle.jpa_object_rows.specs.Sets.{rows_of}
+use Rattle.jpa_rows.specs.rows.Rows.{Rows}
+use Rattle.jpa_rows.specs.rows.Commits.{Commits}
+use Rattle.jpa_rows.specs.declared.rows.source.RowSource.{Ghosts}
+use Rattle.jpa_rows.proofs.rows.Commits.{of_refusal}
+use Rattle.jpa_object_rows.specs.meaning.Sets.{rows_of}
 use Rattle.jpa_protocol.specs.declared.call.Call.{Call}
 use Rattle.jpa_protocol.specs.declared.event.Told.{Told}
 use Rattle.jpa_protocol.specs.declared.reply.Reply.{Reply}
-use Rattle.jpa_context.specs.Work.{Work}
-use Rattle.jpa_context.specs.Steps.{Done}
-use Rattle.jpa_machine.specs.Faults.{tells_fault, faults_after_reply}
-use Rattle.jpa_machine.specs.Machine.{Machine, IsStoredAs}
-use Rattle.jpa_machine.specs.Routes.{is_commit}
-use Rattle.jpa_machine.specs.Step.{IsGivenUp}
+use Rattle.jpa_work.specs.context.Work.{Work}
+use Rattle.jpa_work.specs.context.Steps.{Done}
+use Rattle.jpa_machine.specs.machine.Faults.{tells_fault, faults_after_reply}
+use Rattle.jpa_machine.specs.machine.Machine.{Machine, IsStoredAs}
+use Rattle.jpa_machine.specs.machine.Routes.{is_commit}
+use Rattle.jpa_machine.specs.machine.Step.{IsGivenUp}
 use Rattle.jpa_provider.specs.declared.session.Status.{Status}
 use Rattle.jpa_provider.specs.declared.session.Session.{Session}
 use Rattle.jpa_provider.specs.Provided.{rows_kept, rows_made, StoresCall}

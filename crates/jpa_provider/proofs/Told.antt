@@ -5,10 +5,10 @@ use Rattle.jpa_value.specs.declared.refusal.Cause.{Cause}
 use Rattle.jpa_value.specs.declared.refusal.Refusal.{Refusal}
 use Rattle.jpa_protocol.specs.declared.event.Told.{Told}
 use Rattle.jpa_protocol.specs.declared.reply.Reply.{Reply}
-use Rattle.jpa_rows.specs.Faults.{one_more, faults_after}
-use Rattle.jpa_context.specs.Work.{Work}
-use Rattle.jpa_context.specs.Steps.{Outcome, IsRefusedAs, Meets}
-use Rattle.jpa_machine.specs.Faults.{is_store_fault, tells_fault, faults_after_reply}
+use Rattle.jpa_rows.specs.rows.Faults.{one_more, faults_after}
+use Rattle.jpa_work.specs.context.Work.{Work}
+use Rattle.jpa_work.specs.context.Steps.{Outcome, IsRefusedAs, Meets}
+use Rattle.jpa_machine.specs.machine.Faults.{is_store_fault, tells_fault, faults_after_reply}
 
 -- an operation on a unit of work looks at no store
 pub of_operation : {A : Type 0} (r : Cause) (events : List Told) (o : Outcome A) → IsRefusedAs r events o → is_store_fault r ≡ false

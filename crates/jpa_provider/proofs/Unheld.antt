@@ -3,12 +3,12 @@ use Rattle.std.proofs.Common.{◌≡◌, ◌≤◌, Bool, true, false, List, [],
 use Rattle.std.specs.Prelude.{slice_index_or}
 use Rattle.std.proofs.lemmas.List.{set_past}
 use Rattle.jpa_open.specs.Opened.{Opened, with_seen}
-use Rattle.jpa_context.specs.Work.{Work}
+use Rattle.jpa_work.specs.context.Work.{Work}
 use Rattle.jpa_provider.specs.declared.session.Session.{Session}
-use Rattle.jpa_machine.specs.Machine.{Manager, manager_at, no_manager, work_of, kept, marked_in, view_in}
-use Rattle.jpa_machine.specs.Calls.{marked_if}
+use Rattle.jpa_machine.specs.machine.Machine.{Manager, manager_at, no_manager, work_of, kept, marked_in, view_in}
+use Rattle.jpa_machine.specs.machine.Calls.{marked_if}
 use Rattle.jpa_provider.specs.Serving.{machine_of, managers_of, IsResting, IsSettled}
-use Rattle.jpa_machine.proofs.AtWork.{no_manager_kept}
+use Rattle.jpa_machine.proofs.machine.AtWork.{no_manager_kept}
 use Rattle.jpa_provider.proofs.Sessions.{managers_count}
 
 past_end : (xs : List Manager) → slice_index_or xs (length xs) no_manager ≡ no_manager

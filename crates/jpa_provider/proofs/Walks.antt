@@ -6,23 +6,23 @@ use Rattle.std.proofs.lemmas.Bool.{false≢true}
 use Rattle.std.proofs.lemmas.List.{append_assoc, append-nil}
 use Rattle.jpa_value.specs.declared.value.Identity.{Identity}
 use Rattle.jpa_model.specs.declared.unit.PersistenceUnit.{PersistenceUnit}
-use Rattle.jpa_stored.specs.Sets.{StoredSet}
-use Rattle.jpa_context.specs.declared.Entry.{Entry}
-use Rattle.jpa_context.specs.declared.EntityState.{EntityState}
-use Rattle.jpa_context.specs.declared.Lock.{Lock}
-use Rattle.jpa_context.specs.Work.{Work, identity_at, is_managed, is_removed, state_of, unlocked}
-use Rattle.jpa_fetch.specs.Grown.{IsReady}
+use Rattle.jpa_stored.specs.objects.Sets.{StoredSet}
+use Rattle.jpa_work.specs.declared.context.Entry.{Entry}
+use Rattle.jpa_work.specs.declared.context.EntityState.{EntityState}
+use Rattle.jpa_work.specs.declared.context.Lock.{Lock}
+use Rattle.jpa_work.specs.context.Work.{Work, identity_at, is_managed, is_removed, state_of, unlocked}
+use Rattle.jpa_operations.specs.fetch.Grown.{IsReady}
 use Rattle.jpa_protocol.specs.declared.event.Told.{Told}
-use Rattle.jpa_flush.specs.Flush.{is_read_lock, listed}
-use Rattle.jpa_flush.specs.Marked.{AreLooked, IsUntouched, from, is_calm, is_unlocked}
-use Rattle.jpa_flush.proofs.Alike.{alike_ready, like_none}
-use Rattle.jpa_flush.proofs.Gaps.{list_step, to_end}
-use Rattle.jpa_flush.proofs.Places.{below, between, from_rises, from_within, last_within, next_within}
-use Rattle.jpa_flush.proofs.Settled.{partly}
-use Rattle.jpa_flush.proofs.Silent.{calm_parts}
-use Rattle.jpa_flush.proofs.Turns.{rest_next}
-use Rattle.jpa_machine.specs.Machine.{is_gone}
-use Rattle.jpa_machine.specs.Transactions.{read_along}
+use Rattle.jpa_flush.specs.flush.Flush.{is_read_lock, listed}
+use Rattle.jpa_flush.specs.flush.Marked.{AreLooked, IsUntouched, from, is_calm, is_unlocked}
+use Rattle.jpa_flush.proofs.flush.Alike.{alike_ready, like_none}
+use Rattle.jpa_flush.proofs.flush.Gaps.{list_step, to_end}
+use Rattle.jpa_flush.proofs.flush.Places.{below, between, from_rises, from_within, last_within, next_within}
+use Rattle.jpa_flush.proofs.flush.Settled.{partly}
+use Rattle.jpa_flush.proofs.flush.Silent.{calm_parts}
+use Rattle.jpa_flush.proofs.flush.Turns.{rest_next}
+use Rattle.jpa_machine.specs.machine.Machine.{is_gone}
+use Rattle.jpa_machine.specs.machine.Transactions.{read_along}
 
 -- ---- what is known of the entries elsewhere
 

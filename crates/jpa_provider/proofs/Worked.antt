@@ -10,22 +10,22 @@ use Rattle.jpa_protocol.specs.declared.call.Call.{Call}
 use Rattle.jpa_protocol.specs.declared.event.Told.{Told}
 use Rattle.jpa_protocol.specs.declared.reply.Answer.{Answer}
 use Rattle.jpa_protocol.specs.declared.reply.Reply.{Reply}
-use Rattle.jpa_heap.specs.Objects.{place_of}
+use Rattle.jpa_work.specs.heap.Objects.{place_of}
 use Rattle.jpa_open.specs.Opened.{begun_over, seen_over}
-use Rattle.jpa_context.specs.declared.work.UnitOfWork.{UnitOfWork}
-use Rattle.jpa_context.specs.Work.{Work}
-use Rattle.jpa_context.specs.Steps.{Outcome, Refused, IsRefusedAs, Meets}
-use Rattle.jpa_context.specs.Undo.{since, Since}
+use Rattle.jpa_work.specs.declared.context.work.UnitOfWork.{UnitOfWork}
+use Rattle.jpa_work.specs.context.Work.{Work}
+use Rattle.jpa_work.specs.context.Steps.{Outcome, Refused, IsRefusedAs, Meets}
+use Rattle.jpa_work.specs.context.Undo.{since, Since}
 use Rattle.jpa_provider.specs.declared.session.Session.{Session}
 use Rattle.jpa_provider.specs.declared.session.EntityManager.{EntityManager}
 use Rattle.jpa_provider.specs.declared.replies.Rule.{Rule}
-use Rattle.jpa_machine.specs.Machine.{Machine, Manager, manager_at}
-use Rattle.jpa_machine.specs.Calls.{because, ended, marks, marks_if_callback, marked_if}
-use Rattle.jpa_machine.specs.Routes.{by_manager, if_open, takes_nothing}
-use Rattle.jpa_machine.specs.Step.{Step, IsGivenUp, gives_up, outcome}
+use Rattle.jpa_machine.specs.machine.Machine.{Machine, Manager, manager_at}
+use Rattle.jpa_machine.specs.machine.Calls.{because, ended, marks, marks_if_callback, marked_if}
+use Rattle.jpa_machine.specs.machine.Routes.{by_manager, if_open, takes_nothing}
+use Rattle.jpa_machine.specs.machine.Step.{Step, IsGivenUp, gives_up, outcome}
 use Rattle.jpa_provider.specs.Operations.{told_of, is_marked_by, Concludes, EndsSo}
 use Rattle.jpa_provider.specs.Serving.{machine_of, manager_in, transaction_in, is_open_status, if_named, named, IsAway, IsWorking}
-use Rattle.jpa_machine.proofs.Updated.{ok_from}
+use Rattle.jpa_machine.proofs.machine.Updated.{ok_from}
 use Rattle.jpa_provider.proofs.Sessions.{manager_there, managers_count}
 
 -- ---- refusals

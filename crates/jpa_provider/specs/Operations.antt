@@ -6,20 +6,20 @@ use Rattle.jpa_behaviour.specs.Behaviour.{World}
 use Rattle.jpa_protocol.specs.declared.event.Told.{Told}
 use Rattle.jpa_protocol.specs.declared.reply.Answer.{Answer}
 use Rattle.jpa_protocol.specs.declared.reply.Reply.{Reply}
-use Rattle.jpa_heap.specs.declared.Life.{Life}
-use Rattle.jpa_context.specs.Work.{Work}
-use Rattle.jpa_context.specs.Steps.{◌>>=◌, Outcome, Op, give}
-use Rattle.jpa_ops.specs.States.{persist, remove, refresh, detach, lock}
+use Rattle.jpa_work.specs.declared.heap.Life.{Life}
+use Rattle.jpa_work.specs.context.Work.{Work}
+use Rattle.jpa_work.specs.context.Steps.{◌>>=◌, Outcome, Op, give}
+use Rattle.jpa_operations.specs.ops.States.{persist, remove, refresh, detach, lock}
 use Rattle.jpa_merge.specs.Merge.{merge}
 use Rattle.jpa_protocol.specs.declared.call.Call.{Call}
 use Rattle.jpa_provider.specs.declared.replies.Rule.{Rule}
-use Rattle.jpa_machine.specs.Machine.{Machine, kept}
-use Rattle.jpa_machine.specs.Calls.{ended, marks, marks_if_callback, marked_if, object_numbered}
-use Rattle.jpa_machine.specs.Calls.{nothing, object_told, told_as}
-use Rattle.jpa_machine.specs.Routes.{get_call, set_call, add_call, take_out_call, lock_of}
-use Rattle.jpa_machine.specs.Routes.{find_call, get_reference_call}
-use Rattle.jpa_machine.specs.Querying.{query_call, query_single_call}
-use Rattle.jpa_machine.specs.Step.{IsGivenUp}
+use Rattle.jpa_machine.specs.machine.Machine.{Machine, kept}
+use Rattle.jpa_machine.specs.machine.Calls.{ended, marks, marks_if_callback, marked_if, object_numbered}
+use Rattle.jpa_machine.specs.machine.Calls.{nothing, object_told, told_as}
+use Rattle.jpa_machine.specs.machine.Routes.{get_call, set_call, add_call, take_out_call, lock_of}
+use Rattle.jpa_machine.specs.machine.Routes.{find_call, get_reference_call}
+use Rattle.jpa_machine.specs.machine.Querying.{query_call, query_single_call}
+use Rattle.jpa_machine.specs.machine.Step.{IsGivenUp}
 
 -- an operation on an object by its number
 abbrev pub on_numbered : ℤ → (World → ℕ → Op Answer) → World → Op Answer

@@ -3,19 +3,19 @@ use Rattle.std.specs.Prelude.{◌≡◌, ◌⊎◌, ℕ, List, nat_le, true, fal
 use Rattle.jpa_model.specs.declared.unit.PersistenceUnit.{PersistenceUnit}
 use Rattle.jpa_behaviour.specs.Behaviour.{World}
 use Rattle.jpa_behaviour.specs.Registered.{Meaning, Registered, world_of}
-use Rattle.jpa_stored.specs.Sets.{StoredSet, each_fits}
-use Rattle.jpa_object_rows.specs.Sets.{rows_of}
-use Rattle.jpa_rows.specs.Rows.{Rows}
-use Rattle.jpa_rows.specs.declared.source.RowSource.{Ghosts}
-use Rattle.jpa_rows.specs.Commits.{RunsAtMost, RunsDifference}
+use Rattle.jpa_stored.specs.objects.Sets.{StoredSet, each_fits}
+use Rattle.jpa_object_rows.specs.meaning.Sets.{rows_of}
+use Rattle.jpa_rows.specs.rows.Rows.{Rows}
+use Rattle.jpa_rows.specs.declared.rows.source.RowSource.{Ghosts}
+use Rattle.jpa_rows.specs.rows.Commits.{RunsAtMost, RunsDifference}
 use Rattle.jpa_protocol.specs.declared.call.Call.{Call}
 use Rattle.jpa_protocol.specs.declared.reply.Reply.{Reply}
-use Rattle.jpa_machine.specs.Machine.{Machine, opened, IsStoredAs}
-use Rattle.jpa_machine.specs.Step.{Step, IsGivenUp, outcome}
-use Rattle.jpa_machine.specs.Isolated.{IsSomeMove}
-use Rattle.jpa_machine.specs.Left.{LivesAsBefore, HoldsSameValues}
-use Rattle.jpa_machine.specs.Routes.{is_commit, is_rollback}
-use Rattle.jpa_machine.specs.Faults.{faults_after_reply}
+use Rattle.jpa_machine.specs.machine.Machine.{Machine, opened, IsStoredAs}
+use Rattle.jpa_machine.specs.machine.Step.{Step, IsGivenUp, outcome}
+use Rattle.jpa_machine.specs.machine.Isolated.{IsSomeMove}
+use Rattle.jpa_machine.specs.machine.Left.{LivesAsBefore, HoldsSameValues}
+use Rattle.jpa_machine.specs.machine.Routes.{is_commit, is_rollback}
+use Rattle.jpa_machine.specs.machine.Faults.{faults_after_reply}
 
 -- the unit that it serves with what is registered, the machine, and the store of rows
 pub record Provided (R L C : Type 0) : Type 0 where

@@ -1,42 +1,43 @@
 -- The machine that live data stand for: managers, each with the layers of its open transaction over
 -- the committed set, and one of them at work.
-use Rattle.jpa_context.specs.Marks.{Marks, none_marked}
+use Rattle.jpa_work.specs.context.Marks.{Marks, none_marked}
 use Rattle.std.specs.Prelude.{◌≡◌, ◌≢◌, ◌<◌, ◌+◌, ◌⊎◌, ℕ, ℤ, Bool, true, false, List, [], ◌∷◌, length, map, Option}
 use Rattle.std.specs.Prelude.{Some, None, Ok, Err, slice_index_or, slice_set, if◌then◌else◌}
 use Rattle.std.specs.List.{filter}
 use Rattle.jpa_value.specs.declared.refusal.Cause.{Cause}
 use Rattle.jpa_value.specs.declared.refusal.Refusal.{Refusal}
 use Rattle.jpa_behaviour.specs.Behaviour.{World, IsRegular}
-use Rattle.jpa_stored.specs.Sets.{StoredSet}
-use Rattle.jpa_rows.specs.Rows.{Rows}
-use Rattle.jpa_rows.specs.declared.source.RowSource.{Ghosts}
-use Rattle.jpa_rows.specs.Tables.{schema_of}
-use Rattle.jpa_object_rows.specs.Sets.{rows_of}
+use Rattle.jpa_stored.specs.objects.Sets.{StoredSet}
+use Rattle.jpa_rows.specs.rows.Rows.{Rows}
+use Rattle.jpa_rows.specs.declared.rows.source.RowSource.{Ghosts}
+use Rattle.jpa_rows.specs.rows.Tables.{schema_of}
+use Rattle.jpa_object_rows.specs.meaning.Sets.{rows_of}
 use Rattle.jpa_open.specs.Opened.{Opened, no_layers, begun_over, seen_over}
 use Rattle.jpa_protocol.specs.declared.call.Call.{Call}
 use Rattle.jpa_protocol.specs.declared.call.FlushMode.{FlushMode}
 use Rattle.jpa_protocol.specs.declared.event.Told.{Told}
 use Rattle.jpa_protocol.specs.declared.reply.Answer.{Answer}
 use Rattle.jpa_protocol.specs.declared.reply.Reply.{Reply}
-use Rattle.jpa_context.specs.declared.Entry.{Entry}
-use Rattle.jpa_context.specs.Work.{Work}
-use Rattle.jpa_context.specs.declared.work.UnitOfWork.{UnitOfWork}
-use Rattle.jpa_context.specs.Undo.{now, since, IsKept}
-use Rattle.jpa_flush.specs.Marked.{AreMarked, AreMarkedBefore, before}
-use Rattle.jpa_marking.specs.Shared.{seen_by}
+use Rattle.jpa_work.specs.declared.context.Entry.{Entry}
+use Rattle.jpa_work.specs.context.Work.{Work}
+use Rattle.jpa_work.specs.declared.context.work.UnitOfWork.{UnitOfWork}
+use Rattle.jpa_work.specs.context.Undo.{now, since, IsKept}
+use Rattle.jpa_flush.specs.flush.Marked.{AreMarked, AreMarkedBefore, before}
+use Rattle.jpa_flush.specs.marking.Shared.{seen_by}
 use Rattle.jpa_model.specs.declared.unit.PersistenceUnit.{PersistenceUnit}
-use Rattle.jpa_heap.specs.declared.Life.{Life}
-use Rattle.jpa_heap.specs.declared.LiveObject.{LiveObject}
-use Rattle.jpa_heap.specs.Objects.{place_of, object_at, with_life}
+use Rattle.jpa_work.specs.declared.heap.Life.{Life}
+use Rattle.jpa_work.specs.declared.heap.LiveObject.{LiveObject}
+use Rattle.jpa_work.specs.heap.Objects.{place_of, object_at, with_life}
 use Rattle.jpa_provider.specs.declared.session.Status.{Status}
 use Rattle.jpa_provider.specs.declared.session.EntityManager.{EntityManager}
 use Rattle.jpa_provider.specs.declared.session.Session.{Session}
-use Rattle.jpa_machine.specs.Machine.{Machine, Manager, Transaction, manager_at, is_begun, with_manager, work_of}
-use Rattle.jpa_machine.specs.Machine.{is_gone, committed_after, rolled_back}
-use Rattle.jpa_machine.specs.Step.{Step, gives_up}
-use Rattle.jpa_machine.specs.Invariant.{IsMachine, context_of}
-use Rattle.jpa_fetch.specs.Orderly.{IsOrderly}
-use Rattle.jpql_kept.specs.Fits.{AreInherited}
+use Rattle.jpa_machine.specs.machine.Machine.{Machine, Manager, Transaction, manager_at, is_begun, with_manager}
+use Rattle.jpa_machine.specs.machine.Machine.{work_of}
+use Rattle.jpa_machine.specs.machine.Machine.{is_gone, committed_after, rolled_back}
+use Rattle.jpa_machine.specs.machine.Step.{Step, gives_up}
+use Rattle.jpa_machine.specs.machine.Invariant.{IsMachine, context_of}
+use Rattle.jpa_operations.specs.fetch.Orderly.{IsOrderly}
+use Rattle.jpql_bulk.specs.kept.Fits.{AreInherited}
 use Rattle.jpa_provider.specs.Provided.{rows_kept, StoresCall}
 
 -- ---- managers

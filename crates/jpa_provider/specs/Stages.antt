@@ -4,28 +4,28 @@ use Rattle.std.specs.Prelude.{◌≡◌, ◌<◌, ℕ, [], All, List, nat_le, tr
 use Rattle.jpa_value.specs.declared.value.Identity.{Identity}
 use Rattle.jpa_model.specs.declared.unit.PersistenceUnit.{PersistenceUnit}
 use Rattle.jpa_behaviour.specs.Behaviour.{World}
-use Rattle.jpa_stored.specs.Sets.{IsSound, each_fits, is_rising}
+use Rattle.jpa_stored.specs.objects.Sets.{IsSound, each_fits, is_rising}
 use Rattle.jpa_open.specs.Differences.{differing}
 use Rattle.jpa_open.specs.Opened.{AreAllChanged}
-use Rattle.jpa_rows.specs.declared.source.RowSource.{Ghosts}
-use Rattle.jpa_rows.specs.Cells.{CanBeHeld}
-use Rattle.jpa_rows.specs.Tables.{schema_of}
+use Rattle.jpa_rows.specs.declared.rows.source.RowSource.{Ghosts}
+use Rattle.jpa_rows.specs.rows.Cells.{CanBeHeld}
+use Rattle.jpa_rows.specs.rows.Tables.{schema_of}
 use Rattle.jpa_protocol.specs.declared.reply.Answer.{Answer}
 use Rattle.jpa_protocol.specs.declared.reply.Reply.{Reply}
-use Rattle.jpa_context.specs.declared.Entry.{Entry}
-use Rattle.jpa_context.specs.declared.work.UnitOfWork.{UnitOfWork}
-use Rattle.jpa_context.specs.Marks.{none_marked}
-use Rattle.jpa_context.specs.Steps.{Op}
-use Rattle.jpa_context.specs.Undo.{now, since, IsKept}
+use Rattle.jpa_work.specs.declared.context.Entry.{Entry}
+use Rattle.jpa_work.specs.declared.context.work.UnitOfWork.{UnitOfWork}
+use Rattle.jpa_work.specs.context.Marks.{none_marked}
+use Rattle.jpa_work.specs.context.Steps.{Op}
+use Rattle.jpa_work.specs.context.Undo.{now, since, IsKept}
 use Rattle.jpa_cascade.specs.There.{HoldsWithin}
-use Rattle.jpa_heap.specs.declared.LiveObject.{LiveObject}
-use Rattle.jpa_fetch.specs.Grown.{IsReady}
-use Rattle.jpa_fetch.specs.Orderly.{IsOrderly}
-use Rattle.jpa_flush.specs.declared.chosen.Looked.{Looked}
-use Rattle.jpa_flush.specs.Marked.{AreLooked, IsMarked, IsUntouched}
-use Rattle.jpa_ops.specs.Names.{has_distinct_entries}
+use Rattle.jpa_work.specs.declared.heap.LiveObject.{LiveObject}
+use Rattle.jpa_operations.specs.fetch.Grown.{IsReady}
+use Rattle.jpa_operations.specs.fetch.Orderly.{IsOrderly}
+use Rattle.jpa_flush.specs.declared.flush.chosen.Looked.{Looked}
+use Rattle.jpa_flush.specs.flush.Marked.{AreLooked, IsMarked, IsUntouched}
+use Rattle.jpa_operations.specs.ops.Names.{has_distinct_entries}
 use Rattle.jpa_queries.specs.Premises.{StaysReady}
-use Rattle.jpa_machine.specs.Machine.{Machine, cleared, work_of}
+use Rattle.jpa_machine.specs.machine.Machine.{Machine, cleared, work_of}
 use Rattle.jpa_provider.specs.declared.commit_work.Found.{Found}
 use Rattle.jpa_provider.specs.declared.replies.Rule.{Rule}
 use Rattle.jpa_provider.specs.declared.session.Session.{Session}

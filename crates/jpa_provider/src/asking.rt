@@ -1,9 +1,9 @@
 //! Questions to a manager, which change nothing (Jakarta Persistence 3.1, chapter 3.2.8).
 ghost use Rattle.std.specs.Prelude.{◌≡◌, false};
 ghost use Rattle.jpa_behaviour.specs.Served.{world_of_unit};
-ghost use Rattle.jpa_context.specs.Work.{is_managed, state_from};
+ghost use Rattle.jpa_work.specs.context.Work.{is_managed, state_from};
 ghost use Rattle.jpa_protocol.specs.declared.call.Call.{Call};
-ghost use Rattle.jpa_machine.specs.Faults.{tells_fault};
+ghost use Rattle.jpa_machine.specs.machine.Faults.{tells_fault};
 ghost use Rattle.jpa_provider.specs.Serving.{Serves};
 
 use crate::at_work::manager_named;
@@ -11,9 +11,9 @@ use crate::handing::place_of;
 use crate::replies::{accepted, because};
 use crate::session::Session;
 use jpa_behaviour::{Behaviour, ServedUnit};
-use jpa_heap::Life;
 use jpa_protocol::{Answer, Reply};
 use jpa_value::Cause;
+use jpa_work::heap::Life;
 use std::alloc::Global;
 
 /// Whether an object in this state is managed by the manager.

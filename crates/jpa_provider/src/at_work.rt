@@ -1,12 +1,12 @@
 //! A manager at work: while a call of it is served, its context stands in the session's unit of
 //! work, and so do the layers of its open transaction.
 ghost use Rattle.std.specs.Prelude.{◌≡◌, ◌≢◌, ◌<◌, ℕ, [], false, true, length, IfErr, IfSome, OnErr, OnOk};
-ghost use Rattle.jpa_context.specs.Marks.{all_marked};
-ghost use Rattle.jpa_context.specs.Undo.{now, IsKept};
-ghost use Rattle.jpa_fetch.specs.Grown.{IsReady};
-ghost use Rattle.jpa_flush.specs.Marked.{AreMarkedBefore};
-ghost use Rattle.jpa_machine.specs.Faults.{is_store_fault, tells_fault};
-ghost use Rattle.jpa_machine.specs.Machine.{Machine, kept, marked, work_of};
+ghost use Rattle.jpa_work.specs.context.Marks.{all_marked};
+ghost use Rattle.jpa_work.specs.context.Undo.{now, IsKept};
+ghost use Rattle.jpa_operations.specs.fetch.Grown.{IsReady};
+ghost use Rattle.jpa_flush.specs.flush.Marked.{AreMarkedBefore};
+ghost use Rattle.jpa_machine.specs.machine.Faults.{is_store_fault, tells_fault};
+ghost use Rattle.jpa_machine.specs.machine.Machine.{Machine, kept, marked, work_of};
 ghost use Rattle.jpa_model.specs.declared.unit.PersistenceUnit.{PersistenceUnit};
 ghost use Rattle.jpa_provider.specs.Operations.{Concludes};
 ghost use Rattle.jpa_provider.specs.Stages.{IsUndoneTo};
@@ -18,11 +18,11 @@ use crate::replies::{Rule, is_marked_by, told_of};
 use crate::session::{
     Session, Status, exchange, exchange_if_begun, set_marks, set_status, status_of,
 };
-use jpa_context::Marks;
-use jpa_marking::{keep_others, mark_anew};
+use jpa_flush::marking::{keep_others, mark_anew};
 use jpa_model::Metamodel;
 use jpa_protocol::{Answer, Reply};
 use jpa_value::{Cause, Refusal, Seq};
+use jpa_work::context::Marks;
 use std::alloc::Global;
 use std::mem;
 

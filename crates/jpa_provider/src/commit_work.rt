@@ -1,30 +1,30 @@
 //! What a commit does before it stores (Jakarta Persistence 3.1, chapters 3.4 and 7.5).
 ghost use Rattle.std.specs.Prelude.{◌≡◌, ◌<◌, ◌&&◌, ◌++◌, length, map, true, IfErr, IfOk, OnOk};
 ghost use Rattle.jpa_behaviour.specs.Served.{world_of_unit};
-ghost use Rattle.jpa_context.specs.Steps.{after, change, Ends, Meets};
-ghost use Rattle.jpa_context.specs.Undo.{now, since};
-ghost use Rattle.jpa_context.specs.Work.{is_managed, state_from, state_of};
-ghost use Rattle.jpa_fetch.specs.Grown.{IsReady};
-ghost use Rattle.jpa_flush.specs.Changes.{place_of};
-ghost use Rattle.jpa_flush.specs.Flush as flushes;
-ghost use Rattle.jpa_flush.specs.Marked.{is_calm, AreLooked};
+ghost use Rattle.jpa_work.specs.context.Steps.{after, change, Ends, Meets};
+ghost use Rattle.jpa_work.specs.context.Undo.{now, since};
+ghost use Rattle.jpa_work.specs.context.Work.{is_managed, state_from, state_of};
+ghost use Rattle.jpa_operations.specs.fetch.Grown.{IsReady};
+ghost use Rattle.jpa_flush.specs.flush.Changes.{place_of};
+ghost use Rattle.jpa_flush.specs.flush.Flush as flushes;
+ghost use Rattle.jpa_flush.specs.flush.Marked.{is_calm, AreLooked};
 ghost use Rattle.jpa_open.specs.Differences.{differing, merged};
 ghost use Rattle.jpa_constraints.specs.Changed.{class_at};
-ghost use Rattle.jpa_machine.specs.Transactions as transactions;
+ghost use Rattle.jpa_machine.specs.machine.Transactions as transactions;
 ghost use Rattle.jpa_open.specs.Opened.{AreAllChanged};
 ghost use Rattle.jpa_provider.specs.Stages.{CanCommit, CanMerge, IsFound};
-ghost use Rattle.jpa_stored.specs.Sets.{fault_of};
+ghost use Rattle.jpa_stored.specs.objects.Sets.{fault_of};
 ghost use Rattle.jpa_updates.specs.Updates.{with_view};
 ghost use Rattle.jpa_value.specs.declared.refusal.Cause.{Cause};
 
 use jpa_behaviour::{Behaviour, ServedUnit};
 use jpa_constraints::{Change, judge};
-use jpa_context::{Entry, Lock, UnitOfWork};
-use jpa_flush::{Looked, calm_laws, flush, looked, reads_hold};
-use jpa_heap::{Life, identity_of};
+use jpa_flush::flush::{Looked, calm_laws, flush, looked, reads_hold};
 use jpa_model::Metamodel;
 use jpa_open::OpenSet;
 use jpa_value::{Cause, Identity, Seq};
+use jpa_work::context::{Entry, Lock, UnitOfWork};
+use jpa_work::heap::{Life, identity_of};
 use std::alloc::Global;
 
 /// Whether an object in this state is managed by the manager.

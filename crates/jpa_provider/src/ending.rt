@@ -1,12 +1,12 @@
 //! The ends of transactions but for commit (Jakarta Persistence 3.1, chapter 7.5).
 ghost use Rattle.std.specs.Prelude.{◌≡◌, ◌==◌, ◌<◌, All, false, filter, not, true, length};
 ghost use Rattle.jpa_behaviour.specs.Served.{world_of_unit};
-ghost use Rattle.jpa_ops.specs.States.{detach_each};
+ghost use Rattle.jpa_operations.specs.ops.States.{detach_each};
 ghost use Rattle.jpa_protocol.specs.declared.call.Call.{Call};
-ghost use Rattle.jpa_machine.specs.Faults.{tells_fault};
+ghost use Rattle.jpa_machine.specs.machine.Faults.{tells_fault};
 ghost use Rattle.jpa_behaviour.specs.Behaviour.{World};
-ghost use Rattle.jpa_machine.specs.Invariant.{IsMachine};
-ghost use Rattle.jpa_machine.specs.Machine.{closed, rolled_back};
+ghost use Rattle.jpa_machine.specs.machine.Invariant.{IsMachine};
+ghost use Rattle.jpa_machine.specs.machine.Machine.{closed, rolled_back};
 ghost use Rattle.jpa_provider.specs.Stages.{HasManager, IsCleared};
 ghost use Rattle.jpa_provider.specs.Serving.{machine_of, manager_in, detached_all, detached_at, is_begun_status, AreAllMarked, IsAtRest, IsServing, IsSettled, Serves};
 
@@ -16,12 +16,12 @@ use crate::session::{
     Session, Status, context_of, end_transaction, exchange, set_status, status_of,
 };
 use jpa_behaviour::{Behaviour, ServedUnit};
-use jpa_context::{Entry, PersistenceContext};
-use jpa_heap::{Life, LiveObject};
-use jpa_marking::other_laws;
+use jpa_flush::marking::other_laws;
 use jpa_protocol::{Answer, Reply};
-use jpa_undo::UndoList;
 use jpa_value::{Cause, Key, Seq, State};
+use jpa_work::context::{Entry, PersistenceContext};
+use jpa_work::heap::{Life, LiveObject};
+use jpa_work::undo::UndoList;
 use std::alloc::Global;
 
 /// An object that holds the place of another while that changes.

@@ -1,14 +1,14 @@
 //! The calls find and getReference (Jakarta Persistence 3.1, chapter 3.1.1).
 ghost use Rattle.std.specs.Prelude.{◌≡◌, false};
 ghost use Rattle.jpa_behaviour.specs.Served.{world_of_unit};
-ghost use Rattle.jpa_context.specs.Carries.{Carries};
-ghost use Rattle.jpa_context.specs.Steps.{Meets};
-ghost use Rattle.jpa_context.specs.Undo.{now};
-ghost use Rattle.jpa_context.specs.Work.{Work};
-ghost use Rattle.jpa_fetch.specs.Grown.{IsReady};
-ghost use Rattle.jpa_machine.specs.Faults.{tells_fault};
-ghost use Rattle.jpa_machine.specs.Routes as routes;
-ghost use Rattle.jpa_machine.specs.Routes.{route, OfManager};
+ghost use Rattle.jpa_work.specs.context.Carries.{Carries};
+ghost use Rattle.jpa_work.specs.context.Steps.{Meets};
+ghost use Rattle.jpa_work.specs.context.Undo.{now};
+ghost use Rattle.jpa_work.specs.context.Work.{Work};
+ghost use Rattle.jpa_operations.specs.fetch.Grown.{IsReady};
+ghost use Rattle.jpa_machine.specs.machine.Faults.{tells_fault};
+ghost use Rattle.jpa_machine.specs.machine.Routes as routes;
+ghost use Rattle.jpa_machine.specs.machine.Routes.{route, OfManager};
 ghost use Rattle.jpa_provider.specs.Operations.{by_key};
 ghost use Rattle.jpa_provider.specs.Serving.{IsAtRest, IsServing, Serves};
 
@@ -17,10 +17,10 @@ use crate::handing::{are_short, whole_key};
 use crate::replies::{Rule, because};
 use crate::session::Session;
 use jpa_behaviour::{Behaviour, ServedUnit};
-use jpa_context::UnitOfWork;
-use jpa_fetch::find;
+use jpa_operations::fetch::find;
 use jpa_protocol::{Answer, Call, Given, Reply};
 use jpa_value::{Argument, Cause, Seq, Text};
+use jpa_work::context::UnitOfWork;
 use std::alloc::Global;
 
 /// Finds an object by the name of its entity and the parts of its key, by slices. `Limit` where a

@@ -1,11 +1,11 @@
 //! The call flush (Jakarta Persistence 3.1, chapter 3.2.4).
 ghost use Rattle.std.specs.Prelude.{◌≡◌, false};
 ghost use Rattle.jpa_behaviour.specs.Served.{world_of_unit};
-ghost use Rattle.jpa_context.specs.Steps.{Meets};
-ghost use Rattle.jpa_context.specs.Undo.{now, since};
+ghost use Rattle.jpa_work.specs.context.Steps.{Meets};
+ghost use Rattle.jpa_work.specs.context.Undo.{now, since};
 ghost use Rattle.jpa_protocol.specs.declared.call.Call.{Call};
-ghost use Rattle.jpa_machine.specs.Faults.{tells_fault};
-ghost use Rattle.jpa_machine.specs.Routes as routes;
+ghost use Rattle.jpa_machine.specs.machine.Faults.{tells_fault};
+ghost use Rattle.jpa_machine.specs.machine.Routes as routes;
 ghost use Rattle.jpa_provider.specs.Stages.{CanFlush};
 ghost use Rattle.jpa_provider.specs.Serving.{IsAtRest, IsServing, Serves};
 
@@ -13,10 +13,10 @@ use crate::at_work::{conclude, manager_named, take_work};
 use crate::replies::{Rule, because};
 use crate::session::{Session, status_of};
 use jpa_behaviour::{Behaviour, ServedUnit};
-use jpa_context::UnitOfWork;
-use jpa_flush::flush;
+use jpa_flush::flush::flush;
 use jpa_protocol::{Answer, Reply};
 use jpa_value::Cause;
+use jpa_work::context::UnitOfWork;
 use std::alloc::Global;
 
 /// The flush of a manager at work, and its answer. Refused as the flush is.

@@ -2,18 +2,18 @@
 ghost use Rattle.std.specs.Prelude.{◌≡◌, ◌<◌, ◌⊎◌, length, true, IfOk, IfErr, IfSome};
 ghost use Rattle.std.specs.List.{list_all};
 ghost use Rattle.jpa_value.specs.declared.refusal.Cause.{Cause};
-ghost use Rattle.jpa_heap.specs.Objects.{place_of};
-ghost use Rattle.jpa_heap.specs.Shape.{IsInHeap};
-ghost use Rattle.jpa_context.specs.Steps.{Meets};
-ghost use Rattle.jpa_context.specs.Work.{Work};
-ghost use Rattle.jpa_machine.specs.Calls as calls;
-ghost use Rattle.jpa_machine.specs.Invariant as invariant;
+ghost use Rattle.jpa_work.specs.heap.Objects.{place_of};
+ghost use Rattle.jpa_work.specs.heap.Shape.{IsInHeap};
+ghost use Rattle.jpa_work.specs.context.Steps.{Meets};
+ghost use Rattle.jpa_work.specs.context.Work.{Work};
+ghost use Rattle.jpa_machine.specs.machine.Calls as calls;
+ghost use Rattle.jpa_machine.specs.machine.Invariant as invariant;
 
-use jpa_heap::Handed;
 use jpa_model::Part;
 use jpa_protocol::{Call, Given, Parameter, ParameterValue};
-use jpa_rows::{is_short, value_is_representable};
+use jpa_rows::rows::{is_short, value_is_representable};
 use jpa_value::{Cause, Key, TryCopy, Value, fits};
+use jpa_work::heap::Handed;
 use std::alloc::Global;
 
 /// The place of what goes by a number, from 1, among so many.

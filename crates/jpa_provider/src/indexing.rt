@@ -4,8 +4,8 @@ ghost use Rattle.jpa_value.specs.declared.refusal.Cause.{Cause};
 ghost use Rattle.jpa_behaviour.specs.Served.{world_of_unit};
 ghost use Rattle.jpa_protocol.specs.declared.call.Call.{Call};
 ghost use Rattle.jpa_protocol.specs.declared.reply.Answer.{Answer};
-ghost use Rattle.jpa_machine.specs.Faults.{tells_fault};
-ghost use Rattle.jpa_machine.specs.Step.{gives_up};
+ghost use Rattle.jpa_machine.specs.machine.Faults.{tells_fault};
+ghost use Rattle.jpa_machine.specs.machine.Step.{gives_up};
 ghost use Rattle.jpa_provider.specs.Serving.{IsAtRest, IsServing, Serves};
 
 use crate::replies::{accepted, because};

@@ -2,8 +2,8 @@
 ghost use Rattle.std.specs.Prelude.{◌≡◌, ◌<◌, false, length};
 ghost use Rattle.jpa_behaviour.specs.Served.{world_of_unit};
 ghost use Rattle.jpa_protocol.specs.declared.call.Call.{Call};
-ghost use Rattle.jpa_machine.specs.Faults.{tells_fault};
-ghost use Rattle.jpa_machine.specs.Machine.{with_mode};
+ghost use Rattle.jpa_machine.specs.machine.Faults.{tells_fault};
+ghost use Rattle.jpa_machine.specs.machine.Machine.{with_mode};
 ghost use Rattle.jpa_provider.specs.Serving.{machine_of, IsAtRest, IsServing, Serves, StaysAtRest};
 
 use crate::at_work::manager_named;

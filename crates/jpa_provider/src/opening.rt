@@ -3,19 +3,19 @@
 ghost use Rattle.std.specs.Prelude.{◌≡◌, ◌++◌, ◌∷◌, [], false, is_ok, length, if◌then◌else◌};
 ghost use Rattle.jpa_behaviour.specs.Served.{world_of_unit};
 ghost use Rattle.jpa_protocol.specs.declared.call.Call.{Call};
-ghost use Rattle.jpa_machine.specs.Faults.{tells_fault};
+ghost use Rattle.jpa_machine.specs.machine.Faults.{tells_fault};
 ghost use Rattle.jpa_provider.specs.Serving.{IsAtRest, IsServing, Serves};
 
 use crate::at_work::manager_named;
 use crate::replies::{accepted, because};
 use crate::session::{EntityManager, Session, Status, set_status, status_of};
 use jpa_behaviour::{Behaviour, ServedUnit};
-use jpa_context::PersistenceContext;
-use jpa_heap::new_object;
-use jpa_marking::other_laws;
+use jpa_flush::marking::other_laws;
 use jpa_open::TransactionLayers;
 use jpa_protocol::{Answer, FlushMode, Reply};
 use jpa_value::{Argument, Cause, MOST_OBJECTS, MOST_OPEN_MANAGERS, State};
+use jpa_work::context::PersistenceContext;
+use jpa_work::heap::new_object;
 use std::alloc::{AllocError, Global};
 
 /// The most entity managers that one run makes.

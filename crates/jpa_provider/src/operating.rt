@@ -3,29 +3,29 @@
 ghost use Rattle.std.specs.Prelude.{◌≡◌, ◌<◌, suc, All, IfOk, IfErr, OnErr, map};
 ghost use Rattle.jpa_value.specs.declared.refusal.Cause.{Cause};
 ghost use Rattle.jpa_behaviour.specs.Served.{world_of_unit};
-ghost use Rattle.jpa_context.specs.Carries.{Carries};
-ghost use Rattle.jpa_context.specs.Steps.{Meets};
-ghost use Rattle.jpa_context.specs.Undo.{now, since};
-ghost use Rattle.jpa_fetch.specs.Members.{IsGotWithin};
-ghost use Rattle.jpa_fetch.specs.declared.getting.Got.{Got};
-ghost use Rattle.jpa_machine.specs.Calls as calls;
-ghost use Rattle.jpa_machine.specs.Routes as routes;
+ghost use Rattle.jpa_work.specs.context.Carries.{Carries};
+ghost use Rattle.jpa_work.specs.context.Steps.{Meets};
+ghost use Rattle.jpa_work.specs.context.Undo.{now, since};
+ghost use Rattle.jpa_operations.specs.fetch.Members.{IsGotWithin};
+ghost use Rattle.jpa_operations.specs.declared.fetch.getting.Got.{Got};
+ghost use Rattle.jpa_machine.specs.machine.Calls as calls;
+ghost use Rattle.jpa_machine.specs.machine.Routes as routes;
 ghost use Rattle.jpa_merge.specs.Merge as merges;
-ghost use Rattle.jpa_ops.specs.States as states;
+ghost use Rattle.jpa_operations.specs.ops.States as states;
 ghost use Rattle.jpa_provider.specs.Operations.{at_object};
 ghost use Rattle.jpa_provider.specs.Serving.{KeepsMarks};
 ghost use Rattle.jpa_provider.specs.Stages.{CanOperate};
 
 use crate::handing::{handed, place_of};
 use jpa_behaviour::{Behaviour, ServedUnit};
-use jpa_context::{Lock, Marks, UnitOfWork};
-use jpa_fetch::{Got, add, get, take_out};
-use jpa_heap::assign;
-use jpa_marking::other_laws;
+use jpa_flush::marking::other_laws;
 use jpa_merge::merge;
-use jpa_ops::{detach, lock, persist, refresh, remove};
+use jpa_operations::fetch::{Got, add, get, take_out};
+use jpa_operations::ops::{detach, lock, persist, refresh, remove};
 use jpa_protocol::{Answer, Call, Given, LockMode};
 use jpa_value::{Cause, Seq, Value};
+use jpa_work::context::{Lock, Marks, UnitOfWork};
+use jpa_work::heap::assign;
 use std::alloc::Global;
 
 /// A value as it is answered.

@@ -3,19 +3,19 @@
 ghost use Rattle.std.specs.Prelude.{◌≡◌, [], ◌∷◌, ◌++◌, length, IfErr, IfOk};
 ghost use Rattle.std.specs.Option.{option_map};
 ghost use Rattle.jpa_value.specs.declared.refusal.Cause.{Cause};
-ghost use Rattle.jpa_context.specs.Steps.{Meets};
-ghost use Rattle.jpa_context.specs.Undo.{now};
+ghost use Rattle.jpa_work.specs.context.Steps.{Meets};
+ghost use Rattle.jpa_work.specs.context.Undo.{now};
 ghost use Rattle.jpa_asked.specs.Premises.{AreInHeap};
-ghost use Rattle.jpa_machine.specs.Querying as querying;
+ghost use Rattle.jpa_machine.specs.machine.Querying as querying;
 
 use crate::handing::{are_short, is_short_given, place_of};
 use jpa_asked::Binding;
-use jpa_context::UnitOfWork;
-use jpa_heap::Handed;
 use jpa_protocol::{Given, Parameter, ParameterValue};
 use jpa_value::{Cause, Seq, Text, TryCopy};
-use jpql_grammar::{GivenList, value_name};
-use jpql_text::MOST_LIST_VALUES;
+use jpa_work::context::UnitOfWork;
+use jpa_work::heap::Handed;
+use jpql_grammar::grammar::{GivenList, value_name};
+use jpql_text::text::MOST_LIST_VALUES;
 use std::alloc::Global;
 
 /// What is handed in as a value; none where a number names no object.

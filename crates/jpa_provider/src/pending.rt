@@ -2,11 +2,11 @@
 ghost use Rattle.std.specs.Prelude.{◌≡◌, false, filter, map, IfOk, IfErr};
 ghost use Rattle.jpa_value.specs.declared.refusal.Cause.{Cause};
 ghost use Rattle.jpa_behaviour.specs.Served.{world_of_unit};
-ghost use Rattle.jpa_context.specs.Undo.{now, since};
-ghost use Rattle.jpa_flush.specs.Flush as flushes;
+ghost use Rattle.jpa_work.specs.context.Undo.{now, since};
+ghost use Rattle.jpa_flush.specs.flush.Flush as flushes;
 ghost use Rattle.jpa_protocol.specs.declared.call.Call.{Call};
-ghost use Rattle.jpa_machine.specs.Faults.{tells_fault};
-ghost use Rattle.jpa_machine.specs.Pending as pending;
+ghost use Rattle.jpa_machine.specs.machine.Faults.{tells_fault};
+ghost use Rattle.jpa_machine.specs.machine.Pending as pending;
 ghost use Rattle.jpa_provider.specs.Stages.{CanFlush};
 ghost use Rattle.jpa_provider.specs.Serving.{IsAtRest, IsServing, Serves};
 
@@ -14,10 +14,10 @@ use crate::at_work::{manager_named, restore, take_work};
 use crate::replies::{accepted, because};
 use crate::session::{Session, status_of};
 use jpa_behaviour::{Behaviour, ServedUnit};
-use jpa_context::UnitOfWork;
-use jpa_flush::flush;
+use jpa_flush::flush::flush;
 use jpa_protocol::{Answer, Due, Reply, Told};
 use jpa_value::{Cause, LifecycleEvent, Seq};
+use jpa_work::context::UnitOfWork;
 use std::alloc::Global;
 
 /// Whether an event comes before its write.

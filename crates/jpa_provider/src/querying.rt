@@ -2,19 +2,19 @@
 //! 4.11).
 ghost use Rattle.std.specs.Prelude.{◌≡◌, false, length, true, IfErr, IfOk, IfSome, OnOk};
 ghost use Rattle.jpa_behaviour.specs.Served.{world_of_unit};
-ghost use Rattle.jpa_context.specs.Steps.{Done, Meets};
-ghost use Rattle.jpa_context.specs.Work.{Work};
-ghost use Rattle.jpa_rows.specs.Cells.{all_representable};
-ghost use Rattle.jpa_flush.specs.Flush.{flush_if};
+ghost use Rattle.jpa_work.specs.context.Steps.{Done, Meets};
+ghost use Rattle.jpa_work.specs.context.Work.{Work};
+ghost use Rattle.jpa_rows.specs.rows.Cells.{all_representable};
+ghost use Rattle.jpa_flush.specs.flush.Flush.{flush_if};
 ghost use Rattle.jpa_updates.specs.Updates.{StaysSound};
-ghost use Rattle.jpa_machine.specs.Updating.{MakesRepresentable};
-ghost use Rattle.jpa_context.specs.Undo.{now, since};
+ghost use Rattle.jpa_machine.specs.machine.Updating.{MakesRepresentable};
+ghost use Rattle.jpa_work.specs.context.Undo.{now, since};
 ghost use Rattle.jpa_protocol.specs.declared.call.Call.{Call};
-ghost use Rattle.jpa_machine.specs.Faults.{tells_fault};
-ghost use Rattle.jpa_machine.specs.Machine as machine;
-ghost use Rattle.jpa_machine.specs.Querying as querying;
+ghost use Rattle.jpa_machine.specs.machine.Faults.{tells_fault};
+ghost use Rattle.jpa_machine.specs.machine.Machine as machine;
+ghost use Rattle.jpa_machine.specs.machine.Querying as querying;
 ghost use Rattle.jpa_provider.specs.Operations.{by_query};
-ghost use Rattle.jpa_machine.specs.Routes.{route, ToQuery};
+ghost use Rattle.jpa_machine.specs.machine.Routes.{route, ToQuery};
 ghost use Rattle.jpa_provider.specs.Stages.{CanFlush};
 ghost use Rattle.jpa_provider.specs.Serving.{machine_of, IsAtRest, IsServing, Serves, is_begun_status};
 ghost use Rattle.jpa_asked.specs.Premises.{AreInHeap};
@@ -27,12 +27,12 @@ use crate::replies::{Rule, because};
 use crate::session::{Session, Status, mode_of, status_of};
 use jpa_asked::Asked;
 use jpa_behaviour::{Behaviour, ServedUnit};
-use jpa_context::UnitOfWork;
 use jpa_protocol::{Answer, Call, FlushMode, Parameter, Reply};
 use jpa_queries::{query, query_single};
 use jpa_updates::execute_update;
 use jpa_value::{Cause, Seq, Text};
-use jpql_tree::Language;
+use jpa_work::context::UnitOfWork;
+use jpql_trees::tree::Language;
 use std::alloc::Global;
 
 /// What a call asks, with what is bound to its parameters. Refused as `bound` is.

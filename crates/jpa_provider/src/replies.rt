@@ -1,7 +1,7 @@
 //! How calls end.
 ghost use Rattle.std.specs.Prelude.{◌≡◌, [], Ok, Err};
 ghost use Rattle.jpa_value.specs.declared.refusal.Refusal.{Refusal};
-ghost use Rattle.jpa_machine.specs.Calls as calls;
+ghost use Rattle.jpa_machine.specs.machine.Calls as calls;
 ghost use Rattle.jpa_provider.specs.Operations as operations;
 
 use jpa_protocol::{Answer, Reply, Told};

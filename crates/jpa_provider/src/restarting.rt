@@ -3,16 +3,16 @@ ghost use Rattle.std.specs.Prelude.{◌≡◌, false};
 ghost use Rattle.std.specs.List.{list_any};
 ghost use Rattle.jpa_behaviour.specs.Served.{world_of_unit};
 ghost use Rattle.jpa_protocol.specs.declared.call.Call.{Call};
-ghost use Rattle.jpa_machine.specs.Faults.{tells_fault};
-ghost use Rattle.jpa_machine.specs.Machine.{restarted};
+ghost use Rattle.jpa_machine.specs.machine.Faults.{tells_fault};
+ghost use Rattle.jpa_machine.specs.machine.Machine.{restarted};
 ghost use Rattle.jpa_provider.specs.Serving.{machine_of, is_begun_status, IsAtRest, IsServing, Serves, StaysAtRest};
 
 use crate::replies::{accepted, because};
 use crate::session::{EntityManager, Session};
 use jpa_behaviour::{Behaviour, ServedUnit};
 use jpa_protocol::{Answer, Reply};
-use jpa_undo::UndoList;
 use jpa_value::{Cause, State};
+use jpa_work::undo::UndoList;
 use std::alloc::Global;
 
 /// Whether any manager has an open transaction. Takes no memory.

@@ -5,10 +5,10 @@ ghost use Rattle.jpa_provider.specs.Serving.{manager_in};
 ghost use Rattle.jpa_provider.specs.Turns.{HaveTurned};
 ghost use Rattle.jpa_provider.specs.declared.session.Status.{Status};
 
-use jpa_context::{Entry, Marks, PersistenceContext, UnitOfWork};
 use jpa_open::{OpenSet, TransactionLayers};
 use jpa_protocol::FlushMode;
 use jpa_value::Seq;
+use jpa_work::context::{Entry, Marks, PersistenceContext, UnitOfWork};
 use std::alloc::Global;
 use std::mem;
 

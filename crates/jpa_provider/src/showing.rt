@@ -3,10 +3,10 @@ ghost use Rattle.std.specs.Prelude.{◌≡◌, ◌<◌, ◌++◌, All, false, le
 ghost use Rattle.jpa_value.specs.declared.refusal.Cause.{Cause};
 ghost use Rattle.jpa_behaviour.specs.Served.{world_of_unit};
 ghost use Rattle.jpa_cascade.specs.There.{HoldsWithin};
-ghost use Rattle.jpa_heap.specs.Objects as objects;
+ghost use Rattle.jpa_work.specs.heap.Objects as objects;
 ghost use Rattle.jpa_protocol.specs.declared.call.Call.{Call};
-ghost use Rattle.jpa_machine.specs.Faults.{tells_fault};
-ghost use Rattle.jpa_machine.specs.Showing as showing;
+ghost use Rattle.jpa_machine.specs.machine.Faults.{tells_fault};
+ghost use Rattle.jpa_machine.specs.machine.Showing as showing;
 ghost use Rattle.jpa_provider.specs.Serving.{IsServing, Serves};
 ghost use Rattle.jpa_provider.specs.Stages.{CanBeShown};
 
@@ -15,10 +15,10 @@ use crate::operating::numbers_of;
 use crate::replies::{accepted, because};
 use crate::session::Session;
 use jpa_behaviour::{Behaviour, ServedUnit};
-use jpa_heap::{Collection, Held, Link, LiveObject};
 use jpa_model::Metamodel;
 use jpa_protocol::{Answer, Reached, Reply, Shown};
 use jpa_value::{Cause, Seq, Text, TryCopy, Value};
+use jpa_work::heap::{Collection, Held, Link, LiveObject};
 use std::alloc::Global;
 
 /// What a relation holds, as it is told, in a heap of so many objects. Fails for want of memory

@@ -2,12 +2,12 @@
 //! (Jakarta Persistence 3.1, chapters 2.2 and 3.1.1).
 ghost use Rattle.std.specs.Prelude.{◌≡◌, ◌<◌, length, false};
 ghost use Rattle.jpa_behaviour.specs.Served.{world_of_unit};
-ghost use Rattle.jpa_machine.specs.Faults.{is_store_fault, tells_fault};
+ghost use Rattle.jpa_machine.specs.machine.Faults.{is_store_fault, tells_fault};
 ghost use Rattle.jpa_provider.specs.Operations.{at_object, on_numbered};
 ghost use Rattle.jpa_provider.specs.Operations as operations;
-ghost use Rattle.jpa_machine.specs.Routes.{route, InTransaction, OfManager, OfObject, stands_numbered};
-ghost use Rattle.jpa_machine.specs.Routes as routes;
-ghost use Rattle.jpa_heap.specs.Objects as objects;
+ghost use Rattle.jpa_machine.specs.machine.Routes.{route, InTransaction, OfManager, OfObject, stands_numbered};
+ghost use Rattle.jpa_machine.specs.machine.Routes as routes;
+ghost use Rattle.jpa_work.specs.heap.Objects as objects;
 ghost use Rattle.jpa_provider.specs.Serving.{IsAtRest, IsServing, Serves};
 ghost use Rattle.jpa_provider.specs.Stages.{EndsWork};
 ghost use Rattle.jpa_provider.specs.declared.replies.Rule.{Rule};
@@ -18,11 +18,11 @@ use crate::operating::operate;
 use crate::replies::{Rule, because, told_of};
 use crate::session::{Session, status_of};
 use jpa_behaviour::{Behaviour, ServedUnit};
-use jpa_context::PersistenceContext;
-use jpa_heap::Life;
-use jpa_marking::keep_others;
+use jpa_flush::marking::keep_others;
 use jpa_protocol::{Call, Reply};
 use jpa_value::{Cause, Refusal, Seq};
+use jpa_work::context::PersistenceContext;
+use jpa_work::heap::Life;
 use std::alloc::Global;
 use std::mem;
 

@@ -1,7 +1,7 @@
 -- The first rows are enough for those that are asked.
 use Rattle.std.proofs.Common.{◌≡◌, ◌∙◌, ◌+◌, ap, sym, arith, ℕ, ℤ, List, take, drop, Option}
 use Rattle.std.proofs.lemmas.List.{drop-take, take-take}
-use Rattle.jpql_eval.specs.declared.datum.Datum.{Datum}
+use Rattle.jpql_meaning.specs.declared.eval.datum.Datum.{Datum}
 use Rattle.jpa_queries.specs.Queries.{skipped, limited, cut}
 
 -- so many as are kept behind those that are skipped

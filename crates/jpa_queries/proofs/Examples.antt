@@ -9,20 +9,20 @@ use Rattle.jpa_value.specs.declared.refusal.Cause.{Cause}
 use Rattle.jpa_protocol.specs.declared.reply.Item.{Item}
 use Rattle.jpa_model.specs.declared.unit.Origin.{Origin}
 use Rattle.jpa_model.specs.declared.unit.PersistenceUnit.{PersistenceUnit}
-use Rattle.jpql_tree.specs.declared.Language.{Language}
+use Rattle.jpql_trees.specs.declared.tree.Language.{Language}
 use Rattle.jpa_behaviour.specs.declared.Heard.{Heard}
 use Rattle.jpa_behaviour.specs.Behaviour.{World}
-use Rattle.jpa_stored.specs.declared.stored.Stored.{Stored}
-use Rattle.jpa_heap.specs.declared.Handed.{Handed}
-use Rattle.jpa_heap.specs.declared.Life.{Life}
-use Rattle.jpa_heap.specs.declared.LiveObject.{LiveObject}
-use Rattle.jpa_context.specs.declared.Entry.{Entry}
-use Rattle.jpa_context.specs.declared.Lock.{Lock}
-use Rattle.jpa_context.specs.Steps.{Done, Refused}
-use Rattle.jpa_context.specs.Work.{Work}
-use Rattle.jpa_fetch.specs.Members.{collect}
+use Rattle.jpa_stored.specs.declared.objects.stored.Stored.{Stored}
+use Rattle.jpa_work.specs.declared.heap.Handed.{Handed}
+use Rattle.jpa_work.specs.declared.heap.Life.{Life}
+use Rattle.jpa_work.specs.declared.heap.LiveObject.{LiveObject}
+use Rattle.jpa_work.specs.declared.context.Entry.{Entry}
+use Rattle.jpa_work.specs.declared.context.Lock.{Lock}
+use Rattle.jpa_work.specs.context.Steps.{Done, Refused}
+use Rattle.jpa_work.specs.context.Work.{Work}
+use Rattle.jpa_operations.specs.fetch.Members.{collect}
 use Rattle.jpql_types.specs.declared.sort.Sort.{Sort}
-use Rattle.jpql_eval.specs.declared.datum.Datum.{Datum}
+use Rattle.jpql_meaning.specs.declared.eval.datum.Datum.{Datum}
 use Rattle.jpa_asked.specs.declared.asked.Binding.{Binding}
 use Rattle.jpa_asked.specs.Asking.{sorts_of, arguments_of}
 use Rattle.jpa_queries.specs.Queries.{cut, row_of, single_row}

@@ -4,11 +4,11 @@ use Rattle.std.specs.Prelude.{◌&&◌}
 use Rattle.jpa_value.specs.declared.refusal.Cause.{Cause}
 use Rattle.jpa_value.specs.declared.refusal.Argument.{Argument}
 use Rattle.jpa_model.specs.declared.unit.PersistenceUnit.{PersistenceUnit}
-use Rattle.jpa_context.specs.Steps.{◌>>=◌, ◌>>◌, Op, Outcome, Done, after, require, Meets, IsRefusedAs}
-use Rattle.jpa_context.specs.Work.{Work}
-use Rattle.jpa_fetch.proofs.Loaded.{refused_after}
-use Rattle.jpql_typed.specs.declared.typed.TypedSelect.{TypedSelect}
-use Rattle.jpql_eval.specs.declared.datum.Datum.{Datum}
+use Rattle.jpa_work.specs.context.Steps.{◌>>=◌, ◌>>◌, Op, Outcome, Done, after, require, Meets, IsRefusedAs}
+use Rattle.jpa_work.specs.context.Work.{Work}
+use Rattle.jpa_operations.proofs.fetch.Loaded.{refused_after}
+use Rattle.jpql_trees.specs.declared.typed.typed.TypedSelect.{TypedSelect}
+use Rattle.jpql_meaning.specs.declared.eval.datum.Datum.{Datum}
 use Rattle.jpa_asked.specs.declared.asked.Asked.{Asked}
 use Rattle.jpa_asked.specs.declared.asked.Reading.{Reading}
 use Rattle.jpa_asked.specs.declared.asked.Statement.{Statement}

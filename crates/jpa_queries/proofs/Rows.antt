@@ -2,12 +2,12 @@
 use Rattle.std.proofs.Common.{◌≡◌, ◌∙◌, Bool, List, Result, Ok, Err, ap}
 use Rattle.std.specs.Prelude.{OnOk}
 use Rattle.jpa_behaviour.specs.Behaviour.{World}
-use Rattle.jpa_context.specs.Steps.{◌>>◌, Outcome, Done, after}
-use Rattle.jpa_context.specs.Work.{Work}
-use Rattle.jpql_typed.specs.declared.typed.TypedSelect.{TypedSelect}
-use Rattle.jpql_eval.specs.declared.datum.Datum.{Datum}
+use Rattle.jpa_work.specs.context.Steps.{◌>>◌, Outcome, Done, after}
+use Rattle.jpa_work.specs.context.Work.{Work}
+use Rattle.jpql_trees.specs.declared.typed.typed.TypedSelect.{TypedSelect}
+use Rattle.jpql_meaning.specs.declared.eval.datum.Datum.{Datum}
 use Rattle.jpa_asked.specs.declared.asked.Asked.{Asked}
-use Rattle.jpa_flush.specs.Flush.{flush_if}
+use Rattle.jpa_flush.specs.flush.Flush.{flush_if}
 use Rattle.jpa_queries.specs.Queries.{judged, rows_found, rows_asked}
 
 pub rows_so : (world : World) (flushes : Bool) (call : Asked) (select : TypedSelect) (arguments : List Datum) (w v : Work) →

@@ -4,10 +4,10 @@ use Rattle.std.specs.FinMap.Entries.{is_sorted}
 use Rattle.jpa_value.specs.Value.{identity_cmp}
 use Rattle.jpa_model.specs.declared.unit.PersistenceUnit.{PersistenceUnit}
 use Rattle.jpa_behaviour.specs.Behaviour.{World}
-use Rattle.jpa_context.specs.Steps.{Done}
-use Rattle.jpa_context.specs.Work.{Work}
-use Rattle.jpa_fetch.specs.Grown.{IsReady}
-use Rattle.jpa_flush.specs.Flush.{flush_if}
+use Rattle.jpa_work.specs.context.Steps.{Done}
+use Rattle.jpa_work.specs.context.Work.{Work}
+use Rattle.jpa_operations.specs.fetch.Grown.{IsReady}
+use Rattle.jpa_flush.specs.flush.Flush.{flush_if}
 
 -- operations may go on, and what is seen stands in rising order
 pub record IsReadyToAsk (m : PersistenceUnit) (w : Work) : Type 0 where

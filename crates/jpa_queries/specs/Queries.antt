@@ -8,14 +8,14 @@ use Rattle.jpa_value.specs.declared.refusal.State.{State}
 use Rattle.jpa_model.specs.declared.unit.PersistenceUnit.{PersistenceUnit}
 use Rattle.jpa_behaviour.specs.Behaviour.{World}
 use Rattle.jpa_protocol.specs.declared.reply.Item.{Item}
-use Rattle.jpa_context.specs.Steps.{◌>>=◌, ◌>>◌, Op, give, refuse, require}
-use Rattle.jpa_fetch.specs.Load.{reach}
-use Rattle.jpa_fetch.specs.Members.{collect}
-use Rattle.jpa_flush.specs.Flush.{flush_if}
-use Rattle.jpql_typed.specs.declared.typed.TypedSelect.{TypedSelect}
-use Rattle.jpql_eval.specs.declared.datum.Datum.{Datum}
-use Rattle.jpql_eval.specs.Answers.{Answer, gives, overflows}
-use Rattle.jpql_plan.specs.Selection.{selected}
+use Rattle.jpa_work.specs.context.Steps.{◌>>=◌, ◌>>◌, Op, give, refuse, require}
+use Rattle.jpa_operations.specs.fetch.Load.{reach}
+use Rattle.jpa_operations.specs.fetch.Members.{collect}
+use Rattle.jpa_flush.specs.flush.Flush.{flush_if}
+use Rattle.jpql_trees.specs.declared.typed.typed.TypedSelect.{TypedSelect}
+use Rattle.jpql_meaning.specs.declared.eval.datum.Datum.{Datum}
+use Rattle.jpql_meaning.specs.eval.Answers.{Answer, gives, overflows}
+use Rattle.jpql_meaning.specs.plan.Selection.{selected}
 use Rattle.jpa_asked.specs.declared.asked.Asked.{Asked}
 use Rattle.jpa_asked.specs.declared.asked.Statement.{Statement}
 use Rattle.jpa_asked.specs.Asking.{give_or, read_of, statement_of, select_in}

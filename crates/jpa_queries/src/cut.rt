@@ -2,13 +2,13 @@
 ghost use Rattle.std.specs.Prelude.{◌≡◌, ◌<◌, ◌^◌, drop, take, IfOk, IfErr, IfSome, List};
 ghost use Rattle.jpa_value.specs.declared.refusal.Cause.{Cause};
 ghost use Rattle.jpa_queries.specs.Queries as queries;
-ghost use Rattle.jpql_eval.specs.declared.datum.Datum.{Datum};
-ghost use Rattle.jpql_first.specs.First.{first_of};
-ghost use Rattle.jpql_select.specs.Tables.{rows_in};
+ghost use Rattle.jpql_meaning.specs.declared.eval.datum.Datum.{Datum};
+ghost use Rattle.jpql_select.specs.first.First.{first_of};
+ghost use Rattle.jpql_select.specs.select.Tables.{rows_in};
 
 use jpa_value::{Cause, Seq, TryCopy};
-use jpql_eval::Datum;
-use jpql_select::{Table, rows_of};
+use jpql_meaning::eval::Datum;
+use jpql_select::select::{Table, rows_of};
 use std::alloc::Global;
 
 /// Whether a number of rows, where one is asked, isn't negative.

@@ -1,11 +1,11 @@
 //! query and querySingle.
 ghost use Rattle.std.specs.Prelude.{OnOk};
 ghost use Rattle.jpa_behaviour.specs.Served.{world_of_unit};
-ghost use Rattle.jpa_context.specs.Steps.{Meets};
-ghost use Rattle.jpa_context.specs.Undo.{now};
-ghost use Rattle.jpa_context.specs.Work.{Work};
-ghost use Rattle.jpa_fetch.specs.Grown.{IsReady};
-ghost use Rattle.jpa_flush.specs.Passes.{IsFlushable, Performs};
+ghost use Rattle.jpa_work.specs.context.Steps.{Meets};
+ghost use Rattle.jpa_work.specs.context.Undo.{now};
+ghost use Rattle.jpa_work.specs.context.Work.{Work};
+ghost use Rattle.jpa_operations.specs.fetch.Grown.{IsReady};
+ghost use Rattle.jpa_flush.specs.flush.Passes.{IsFlushable, Performs};
 ghost use Rattle.jpa_asked.specs.Premises.{AreInHeap};
 ghost use Rattle.jpa_queries.specs.Premises.{IsReadyToAsk, StaysReady};
 ghost use Rattle.jpa_queries.specs.Queries as queries;
@@ -14,14 +14,14 @@ use crate::cut::{cut, is_count, wanted};
 use crate::results::{row_of, rows_of};
 use jpa_asked::{Asked, Statement, read_of, statement_of};
 use jpa_behaviour::{Behaviour, ServedUnit};
-use jpa_context::UnitOfWork;
-use jpa_flush::flush_if;
+use jpa_flush::flush::flush_if;
 use jpa_model::Metamodel;
 use jpa_protocol::Item;
 use jpa_value::{Argument, Cause, Seq, State};
-use jpql_eval::{Datum, Failure};
-use jpql_first::select_first;
-use jpql_typed::{Typed, TypedSelect};
+use jpa_work::context::UnitOfWork;
+use jpql_meaning::eval::{Datum, Failure};
+use jpql_select::first::select_first;
+use jpql_trees::typed::{Typed, TypedSelect};
 use std::alloc::Global;
 
 /// The SELECT that a statement is, with what stands for its parameters; `IllegalState(statement)` for

@@ -1,19 +1,19 @@
 //! What a query answers of its rows.
 ghost use Rattle.std.specs.Prelude.{◌≡◌, OnOk};
 ghost use Rattle.jpa_behaviour.specs.Served.{world_of_unit};
-ghost use Rattle.jpa_context.specs.Steps.{Meets};
-ghost use Rattle.jpa_context.specs.Undo.{now, since};
-ghost use Rattle.jpa_fetch.specs.Grown.{IsReady};
-ghost use Rattle.jpa_fetch.specs.Members.{collect};
-ghost use Rattle.jpa_flush.specs.Passes.{Performs};
+ghost use Rattle.jpa_work.specs.context.Steps.{Meets};
+ghost use Rattle.jpa_work.specs.context.Undo.{now, since};
+ghost use Rattle.jpa_operations.specs.fetch.Grown.{IsReady};
+ghost use Rattle.jpa_operations.specs.fetch.Members.{collect};
+ghost use Rattle.jpa_flush.specs.flush.Passes.{Performs};
 ghost use Rattle.jpa_queries.specs.Queries as queries;
 
 use jpa_behaviour::{Behaviour, ServedUnit};
-use jpa_context::UnitOfWork;
-use jpa_fetch::reach;
+use jpa_operations::fetch::reach;
 use jpa_protocol::Item;
 use jpa_value::{Cause, Seq};
-use jpql_eval::Datum;
+use jpa_work::context::UnitOfWork;
+use jpql_meaning::eval::Datum;
 use std::alloc::Global;
 
 /// An item of a row (Jakarta Persistence 3.1, chapter 4.9): a value, or the context's instance of

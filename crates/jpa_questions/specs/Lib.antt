@@ -1,8 +1,3 @@
-pub mod Revisions
-pub mod Asking
-pub mod Plans
-pub mod ManagedPlans
-pub mod Parameters
-pub mod Questions
-pub mod Lines
-pub mod Telling
+pub mod by_key
+pub mod row_queries
+pub mod questions

@@ -1,3 +1,2 @@
-pub mod ClaimOrder
-pub mod Places
-pub mod Sets
+pub mod objects
+pub mod ordered

@@ -1,9 +1,9 @@
 -- The drop of a person is a change of the schema.
 use Rattle.std.proofs.Common.{◌≡◌, refl, [], ◌∷◌}
 use Rattle.std.proofs.lemmas.List.Elements.{All-cons, All-nil}
-use Rattle.jpa_rows.specs.declared.row.RowChange.{RowChange}
-use Rattle.jpa_rows.specs.Rows.{table_of, IsChangeBy, AreChanges}
-use Rattle.jpa_rowspace.specs.Samples.{shop}
+use Rattle.jpa_rows.specs.declared.rows.row.RowChange.{RowChange}
+use Rattle.jpa_rows.specs.rows.Rows.{table_of, IsChangeBy, AreChanges}
+use Rattle.jpa_cells.specs.rowspace.Samples.{shop}
 use Rattle.jpa_tests.specs.Samples.{drops_person}
 
 abbrev Fits : RowChange → Type 0

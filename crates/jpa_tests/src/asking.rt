@@ -4,18 +4,18 @@
 //! subclass that owns pairs (table 9).
 use crate::cells::{Changed, ONE, apply, in_memory};
 use jpa_behaviour::Registry;
-use jpa_functions::ProgramFunctions;
-use jpa_mapping::read_mapping;
+use jpa_cells::rowspace::RowSpace;
+use jpa_json::functions::ProgramFunctions;
+use jpa_json::mapping::read_mapping;
 use jpa_model::Metamodel;
-use jpa_overlay::Overlay;
-use jpa_row_queries::run;
-use jpa_rows::{RowReader, Schema};
-use jpa_rowspace::RowSpace;
+use jpa_questions::row_queries::run;
+use jpa_rows::overlay::Overlay;
+use jpa_rows::rows::{RowReader, Schema};
 use jpa_value::{Cause, Seq, Value};
-use jpql_eval::Datum;
-use jpql_text::read_query;
-use jpql_tree::Language;
-use jpql_typed::{Typed, TypedSelect};
+use jpql_meaning::eval::Datum;
+use jpql_text::text::read_query;
+use jpql_trees::tree::Language;
+use jpql_trees::typed::{Typed, TypedSelect};
 use jpql_types::check_query;
 use std::alloc::Global;
 use std::process::Abort;

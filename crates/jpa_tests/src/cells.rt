@@ -1,7 +1,7 @@
 //! Cells over a store in memory: each call once, what a store refuses, and the statements that are
 //! counted.
 
-use jpa_cells::{Cell, CellChange, CellRow, CellSink, CellStore};
+use jpa_cells::cells::{Cell, CellChange, CellRow, CellSink, CellStore};
 use jpa_value::{Bytes, Cause, Seq};
 use sqlite::{Alter, Connection, MemStore};
 use std::alloc::Global;

@@ -1,8 +1,8 @@
 //! A listener that is heard, without a run of the program.
 use jpa_behaviour::{Heard, Image, Named, Registry};
-use jpa_functions::{ProgramFunctions, read_functions, registry_of};
+use jpa_json::functions::{ProgramFunctions, read_functions, registry_of};
 use jpa_value::{Cause, LifecycleEvent, Seq, Text, Value};
-use jpql_tree::Language;
+use jpql_trees::tree::Language;
 use std::alloc::Global;
 use std::test::Fail;
 

@@ -9,6 +9,8 @@ mod asking;
 #[cfg(test)]
 mod cells;
 #[cfg(test)]
+mod grammar;
+#[cfg(test)]
 mod hearing;
 #[cfg(test)]
 mod pairs;
@@ -20,3 +22,5 @@ mod related;
 mod rows;
 #[cfg(test)]
 mod stops;
+#[cfg(test)]
+mod undo;

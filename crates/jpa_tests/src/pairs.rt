@@ -1,5 +1,5 @@
 //! Pairs of keys, by which the rows of join tables are named.
-use jpa_key::{decode_front, decode_pair, encode_pair};
+use jpa_rows::keys::{decode_front, decode_pair, encode_pair};
 use jpa_value::{Cause, Key, Kind, Text, Value, order_keys};
 use std::alloc::Global;
 use std::cmp::Ordering;

@@ -1,9 +1,9 @@
 //! The members of a relation, without a run of the program.
 //!
 //! A person (class 0, table 1) has orders, the inverse of an order's person (class 1, table 2).
-use jpa_mapping::read_mapping;
+use jpa_json::mapping::read_mapping;
 use jpa_model::Metamodel;
-use jpa_stored::{Stored, StoredSet, members};
+use jpa_stored::objects::{Stored, StoredSet, members};
 use jpa_value::{Cause, Identity, Key, Seq, Value, is_same_identity};
 use std::alloc::Global;
 use std::process::Abort;

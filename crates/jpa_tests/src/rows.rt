@@ -2,16 +2,16 @@
 //! whom order 10 leads.
 ghost use Rattle.std.specs.Prelude.{◌≡◌, ◌∷◌, [], IfOk};
 ghost use Rattle.jpa_value.specs.declared.value.Kind.{Kind};
-ghost use Rattle.jpa_rows.specs.Tables as tables;
-ghost use Rattle.jpa_rowspace.specs.Samples as samples;
+ghost use Rattle.jpa_rows.specs.rows.Tables as tables;
+ghost use Rattle.jpa_cells.specs.rowspace.Samples as samples;
 ghost use Rattle.jpa_tests.specs.Samples.{drops_person};
 
 use crate::cells::{Changed, Line, ONE, apply, in_memory, shows};
-use jpa_overlay::Overlay;
-use jpa_rows::{
+use jpa_cells::rowspace::RowSpace;
+use jpa_rows::overlay::Overlay;
+use jpa_rows::rows::{
     ColumnRule, Content, Field, Holds, Row, RowChange, RowId, RowReader, RowSink, Schema, TableRule,
 };
-use jpa_rowspace::RowSpace;
 use jpa_value::{Cause, Key, Kind, Seq, TryCopy, Value, is_same_identity};
 use sqlite::{Alter, MemStore};
 use std::alloc::{AllocError, Global};

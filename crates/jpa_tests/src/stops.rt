@@ -2,10 +2,10 @@
 //! it.
 ghost use Rattle.std.specs.Prelude.{IsTrue, IfOk};
 ghost use Rattle.sqlite_disk.specs.Memory.{memory_is_usable};
-ghost use Rattle.jpa_cells_meaning.specs.Store.{IsOrderedIfFound};
+ghost use Rattle.jpa_cells.specs.meaning.Store.{IsOrderedIfFound};
 
 use crate::cells::{FIRST, FIRST_CHANGES, Line, SECOND, SECOND_CHANGES, is_refused, shows};
-use jpa_cells::CellStore;
+use jpa_cells::cells::CellStore;
 use jpa_value::Cause;
 use sqlite::{Alter, Connection, Error, ErrorCode, FileStore, Files, Options};
 use sqlite_disk::{Disk, Fuse, Memory};

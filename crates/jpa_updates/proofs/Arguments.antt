@@ -9,13 +9,13 @@ use Rattle.jpa_value.specs.Value.{fits, is_null}
 use Rattle.jpa_model.specs.declared.unit.PersistenceUnit.{PersistenceUnit}
 use Rattle.jpa_model.specs.declared.unit.Part.{Part}
 use Rattle.jpa_model.specs.Chains.{root_of}
-use Rattle.jpa_stored.specs.Sets.{each_fits, is_key_of}
-use Rattle.jpa_heap.specs.declared.Handed.{Handed}
-use Rattle.jpa_heap.specs.Objects.{is_whole}
-use Rattle.jpa_heap.specs.Shape.{IsInHeap}
-use Rattle.jpa_context.specs.Work.{Work, object}
-use Rattle.jpql_eval.specs.declared.datum.Datum.{Datum}
-use Rattle.jpql_kept.specs.Fits.{is_of, are_of}
+use Rattle.jpa_stored.specs.objects.Sets.{each_fits, is_key_of}
+use Rattle.jpa_work.specs.declared.heap.Handed.{Handed}
+use Rattle.jpa_work.specs.heap.Objects.{is_whole}
+use Rattle.jpa_work.specs.heap.Shape.{IsInHeap}
+use Rattle.jpa_work.specs.context.Work.{Work, object}
+use Rattle.jpql_meaning.specs.declared.eval.datum.Datum.{Datum}
+use Rattle.jpql_bulk.specs.kept.Fits.{is_of, are_of}
 use Rattle.jpa_asked.specs.declared.asked.Binding.{Binding}
 use Rattle.jpa_asked.specs.Asking.{sort_of_value, sort_of, datum_of, datum_of_identity, sorts_of, onto, arguments_of}
 use Rattle.jpa_asked.specs.Premises.{AreInHeap}

@@ -6,20 +6,20 @@ use Rattle.jpa_value.specs.declared.refusal.Argument.{Argument}
 use Rattle.jpa_value.specs.declared.refusal.State.{State}
 use Rattle.jpa_model.specs.declared.unit.PersistenceUnit.{PersistenceUnit}
 use Rattle.jpa_behaviour.specs.Behaviour.{World, AnswersConvertible}
-use Rattle.jpa_context.specs.Work.{Work}
-use Rattle.jpa_context.specs.Steps.{Outcome, Done, Refused, Op, after, give, require}
-use Rattle.jpql_grammar.specs.declared.lists.GivenList.{GivenList}
-use Rattle.jpql_tree.specs.declared.Language.{Language}
-use Rattle.jpql_tree.specs.declared.Query.{Query}
-use Rattle.jpql_tree.specs.Names.{Text}
+use Rattle.jpa_work.specs.context.Work.{Work}
+use Rattle.jpa_work.specs.context.Steps.{Outcome, Done, Refused, Op, after, give, require}
+use Rattle.jpql_grammar.specs.declared.grammar.lists.GivenList.{GivenList}
+use Rattle.jpql_trees.specs.declared.tree.Language.{Language}
+use Rattle.jpql_trees.specs.declared.tree.Query.{Query}
+use Rattle.jpql_trees.specs.tree.Names.{Text}
 use Rattle.jpql_types.specs.Statements.{checked}
-use Rattle.jpql_kept.specs.Fits.{AreInherited}
+use Rattle.jpql_bulk.specs.kept.Fits.{AreInherited}
 use Rattle.jpa_asked.specs.declared.asked.Binding.{Binding}
 use Rattle.jpa_asked.specs.declared.asked.Reading.{Reading}
 use Rattle.jpa_asked.specs.declared.asked.Statement.{Statement}
 use Rattle.jpa_asked.specs.Asking.{give_or, given, read_of, sorts_of, arguments_of, are_apart, statement_of}
 use Rattle.jpa_asked.specs.Premises.{AreInHeap}
-use Rattle.jpa_flush.specs.Flush.{flush_if}
+use Rattle.jpa_flush.specs.flush.Flush.{flush_if}
 use Rattle.jpa_asked.specs.Reading.{tokens_in, query_of, are_used_in, is_within, declares_few}
 use Rattle.jpa_updates.specs.Held.{HaveKeys, IsExecuted}
 use Rattle.jpa_updates.specs.Updates.{is_bulk, judged_bulk, execute_update}

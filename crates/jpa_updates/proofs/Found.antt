@@ -5,13 +5,13 @@ use Rattle.jpa_value.specs.declared.refusal.Cause.{Cause}
 use Rattle.jpa_value.specs.declared.value.Value.{Value}
 use Rattle.jpa_model.specs.declared.unit.PersistenceUnit.{PersistenceUnit}
 use Rattle.jpa_behaviour.specs.Registered.{Meaning, Registered, world_of}
-use Rattle.jpql_eval.specs.Answers.{Answer, gives}
-use Rattle.jpql_plan.specs.Bulk.{or_refuse}
-use Rattle.jpql_bulk.specs.declared.refused.Refused.{Refused}
-use Rattle.jpql_bulk.specs.Assigns.{Refuses}
-use Rattle.jpql_bulk.specs.Causes.{cause_of}
-use Rattle.jpql_bulk.specs.Throwing as registered
-use Rattle.jpql_kept.specs.Fits as kept
+use Rattle.jpql_meaning.specs.eval.Answers.{Answer, gives}
+use Rattle.jpql_meaning.specs.plan.Bulk.{or_refuse}
+use Rattle.jpql_bulk.specs.declared.bulk.refused.Refused.{Refused}
+use Rattle.jpql_bulk.specs.bulk.Assigns.{Refuses}
+use Rattle.jpql_bulk.specs.bulk.Causes.{cause_of}
+use Rattle.jpql_bulk.specs.bulk.Throwing as registered
+use Rattle.jpql_bulk.specs.kept.Fits as kept
 use Rattle.jpa_updates.specs.Changing.{AnswersAs}
 
 -- converters that are registered throw as those of their world

@@ -5,19 +5,19 @@ use Rattle.jpa_value.specs.declared.refusal.Cause.{Cause}
 use Rattle.jpa_value.specs.declared.refusal.PersistenceFault.{PersistenceFault}
 use Rattle.jpa_model.specs.declared.unit.PersistenceUnit.{PersistenceUnit}
 use Rattle.jpa_behaviour.specs.Behaviour.{World}
-use Rattle.jpa_stored.specs.Sets.{StoredSet, fault_of, IsSound}
-use Rattle.jpa_rows.specs.Cells.{CanBeHeld, all_representable}
-use Rattle.jpa_context.specs.Work.{Work}
-use Rattle.jpa_context.specs.Steps.{Done, Refused, after}
-use Rattle.jpa_flush.specs.Flush.{sound_or}
-use Rattle.jpql_tree.specs.declared.Query.{Query}
-use Rattle.jpql_tree.specs.Names.{Text}
+use Rattle.jpa_stored.specs.objects.Sets.{StoredSet, fault_of, IsSound}
+use Rattle.jpa_rows.specs.rows.Cells.{CanBeHeld, all_representable}
+use Rattle.jpa_work.specs.context.Work.{Work}
+use Rattle.jpa_work.specs.context.Steps.{Done, Refused, after}
+use Rattle.jpa_flush.specs.flush.Flush.{sound_or}
+use Rattle.jpql_trees.specs.declared.tree.Query.{Query}
+use Rattle.jpql_trees.specs.tree.Names.{Text}
 use Rattle.jpql_types.specs.declared.sort.Sort.{Sort}
-use Rattle.jpql_typed.specs.declared.typed.Typed.{Typed}
-use Rattle.jpql_eval.specs.declared.datum.Datum.{Datum}
-use Rattle.jpql_plan.specs.Bulk.{Changed, updated, deleted}
-use Rattle.jpql_kept.specs.Fits.{throws_in}
-use Rattle.jpql_kept.proofs.Kept.{update_keeps, delete_keeps}
+use Rattle.jpql_trees.specs.declared.typed.typed.Typed.{Typed}
+use Rattle.jpql_meaning.specs.declared.eval.datum.Datum.{Datum}
+use Rattle.jpql_meaning.specs.plan.Bulk.{Changed, updated, deleted}
+use Rattle.jpql_bulk.specs.kept.Fits.{throws_in}
+use Rattle.jpql_bulk.proofs.kept.Kept.{update_keeps, delete_keeps}
 use Rattle.jpa_asked.specs.declared.asked.Statement.{Statement}
 use Rattle.jpa_updates.specs.Held.{IsAsked, IsHeld}
 use Rattle.jpa_updates.specs.Updates.{changed_by, settle, settled, with_view, run_bulk}

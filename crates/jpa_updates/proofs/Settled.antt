@@ -12,14 +12,14 @@ use Rattle.jpa_value.specs.declared.refusal.PersistenceFault.{PersistenceFault}
 use Rattle.jpa_value.specs.Value.{identity_cmp, same_identity}
 use Rattle.jpa_value.proofs.Orders.{identity_total, identity_exact}
 use Rattle.jpa_model.specs.declared.unit.PersistenceUnit.{PersistenceUnit}
-use Rattle.jpa_stored.specs.declared.stored.Stored.{Stored}
-use Rattle.jpa_stored.specs.Sets.{StoredSet, stored_at, with_stored, put_all, without, fault_of, IsSound}
-use Rattle.jpa_stored.proofs.Puts.{rises}
+use Rattle.jpa_stored.specs.declared.objects.stored.Stored.{Stored}
+use Rattle.jpa_stored.specs.objects.Sets.{StoredSet, stored_at, with_stored, put_all, without, fault_of, IsSound}
+use Rattle.jpa_stored.proofs.objects.Puts.{rises}
 use Rattle.jpa_constraints.specs.declared.change.Change.{Change}
 use Rattle.jpa_constraints.specs.Changed.{class_at, is_changed, IsChanged}
-use Rattle.jpa_context.specs.Work.{Work}
-use Rattle.jpa_context.specs.Steps.{Done, Refused, Meets, IsRefusedAs, after}
-use Rattle.jpa_flush.specs.Flush.{sound_or}
+use Rattle.jpa_work.specs.context.Work.{Work}
+use Rattle.jpa_work.specs.context.Steps.{Done, Refused, Meets, IsRefusedAs, after}
+use Rattle.jpa_flush.specs.flush.Flush.{sound_or}
 use Rattle.jpa_updates.specs.Changing.{Place, ArePlaces, name_of, place_in, place_of, take_each}
 use Rattle.jpa_updates.specs.Updates.{settle, with_view}
 use Rattle.jpa_updates.proofs.Updated.{refused_after}

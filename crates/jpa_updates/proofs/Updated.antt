@@ -5,14 +5,14 @@ use Rattle.std.specs.List.{list_any}
 use Rattle.jpa_value.specs.declared.refusal.Cause.{Cause}
 use Rattle.jpa_value.specs.declared.value.Identity.{Identity}
 use Rattle.jpa_value.specs.Value.{same_identity}
-use Rattle.jpa_stored.specs.Sets.{StoredSet, put_all, without}
-use Rattle.jpa_rows.specs.Cells.{all_representable, names_representable, holds_representable}
-use Rattle.jpa_context.specs.Work.{Work}
-use Rattle.jpa_context.specs.Steps.{Outcome, Done, Op, after, IsRefusedAs, Meets}
+use Rattle.jpa_stored.specs.objects.Sets.{StoredSet, put_all, without}
+use Rattle.jpa_rows.specs.rows.Cells.{all_representable, names_representable, holds_representable}
+use Rattle.jpa_work.specs.context.Work.{Work}
+use Rattle.jpa_work.specs.context.Steps.{Outcome, Done, Op, after, IsRefusedAs, Meets}
 use Rattle.jpa_protocol.specs.declared.event.Told.{Told}
-use Rattle.jpql_plan.specs.Paths.{Entry}
-use Rattle.jpql_kept.proofs.Items.{all_filtered}
-use Rattle.jpql_kept.proofs.Puts.{all_put}
+use Rattle.jpql_meaning.specs.plan.Paths.{Entry}
+use Rattle.jpql_bulk.proofs.kept.Items.{all_filtered}
+use Rattle.jpql_bulk.proofs.kept.Puts.{all_put}
 
 -- a refusal goes through what would follow
 pub refused_after : {A B : Type 0} (r : Cause) (events : List Told) (o : Outcome A) (f : A → Op B) → IsRefusedAs r events o → IsRefusedAs r events (after o f)

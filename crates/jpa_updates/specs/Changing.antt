@@ -2,11 +2,11 @@
 use Rattle.std.specs.Prelude.{◌≡◌, ℕ, List, [], ◌∷◌, Option, Result, Ok, Err, map}
 use Rattle.jpa_value.specs.declared.refusal.Cause.{Cause}
 use Rattle.jpa_value.specs.declared.value.Identity.{Identity}
-use Rattle.jpa_stored.specs.declared.stored.Stored.{Stored}
-use Rattle.jpa_stored.specs.Sets.{StoredSet, without}
+use Rattle.jpa_stored.specs.declared.objects.stored.Stored.{Stored}
+use Rattle.jpa_stored.specs.objects.Sets.{StoredSet, without}
 use Rattle.jpa_constraints.specs.declared.change.Change.{Change}
 use Rattle.jpa_constraints.specs.Changed.{class_at}
-use Rattle.jpql_eval.specs.declared.failure.Failure.{Failure}
+use Rattle.jpql_meaning.specs.declared.eval.failure.Failure.{Failure}
 
 -- the same, unless memory ran out
 abbrev pub AnswersAs : {A B : Type 0} → (A → B) → Result A Cause → Result B Cause → Type 0

@@ -6,24 +6,24 @@ use Rattle.jpa_model.specs.declared.unit.PersistenceUnit.{PersistenceUnit}
 use Rattle.jpa_model.specs.declared.unit.Part.{Part}
 use Rattle.jpa_model.specs.Chains.{root_of}
 use Rattle.jpa_behaviour.specs.Behaviour.{World, AnswersConvertible}
-use Rattle.jpa_stored.specs.Sets.{each_fits}
-use Rattle.jpa_rows.specs.Cells.{CanBeHeld, all_representable}
-use Rattle.jpa_context.specs.Work.{Work, object}
-use Rattle.jpa_context.specs.Steps.{Done}
-use Rattle.jpql_grammar.specs.declared.lists.GivenList.{GivenList}
-use Rattle.jpql_tree.specs.declared.Language.{Language}
-use Rattle.jpql_tree.specs.declared.Query.{Query}
-use Rattle.jpql_tree.specs.Names.{Text}
+use Rattle.jpa_stored.specs.objects.Sets.{each_fits}
+use Rattle.jpa_rows.specs.rows.Cells.{CanBeHeld, all_representable}
+use Rattle.jpa_work.specs.context.Work.{Work, object}
+use Rattle.jpa_work.specs.context.Steps.{Done}
+use Rattle.jpql_grammar.specs.declared.grammar.lists.GivenList.{GivenList}
+use Rattle.jpql_trees.specs.declared.tree.Language.{Language}
+use Rattle.jpql_trees.specs.declared.tree.Query.{Query}
+use Rattle.jpql_trees.specs.tree.Names.{Text}
 use Rattle.jpql_types.specs.declared.sort.Sort.{Sort}
-use Rattle.jpql_typed.specs.declared.typed.Typed.{Typed}
+use Rattle.jpql_trees.specs.declared.typed.typed.Typed.{Typed}
 use Rattle.jpql_types.specs.Statements.{checked}
-use Rattle.jpql_eval.specs.declared.datum.Datum.{Datum}
-use Rattle.jpql_kept.specs.Fits.{are_of, AreInherited}
+use Rattle.jpql_meaning.specs.declared.eval.datum.Datum.{Datum}
+use Rattle.jpql_bulk.specs.kept.Fits.{are_of, AreInherited}
 use Rattle.jpa_asked.specs.declared.asked.Binding.{Binding}
 use Rattle.jpa_asked.specs.declared.asked.Statement.{Statement}
 use Rattle.jpa_asked.specs.Asking.{sorts_of, arguments_of}
 use Rattle.jpa_asked.specs.Premises.{AreInHeap}
-use Rattle.jpa_flush.specs.Flush.{flush_if}
+use Rattle.jpa_flush.specs.flush.Flush.{flush_if}
 use Rattle.jpa_updates.specs.Updates.{with_view, run_bulk, execute_update}
 
 -- a statement of a language that was checked for arguments of these sorts, asked of a work that sees a set which

@@ -7,21 +7,21 @@ use Rattle.jpa_value.specs.declared.refusal.State.{State}
 use Rattle.jpa_value.specs.Value.{identity_cmp}
 use Rattle.jpa_model.specs.declared.unit.PersistenceUnit.{PersistenceUnit}
 use Rattle.jpa_behaviour.specs.Behaviour.{World}
-use Rattle.jpa_stored.specs.Sets.{StoredSet, fault_of, all_shaped, IsSound}
-use Rattle.jpa_context.specs.Work.{Work}
-use Rattle.jpa_context.specs.Steps.{◌>>=◌, ◌>>◌, Op, Done, give, require, read, change}
-use Rattle.jpa_flush.specs.Flush.{sound_or}
-use Rattle.jpql_grammar.specs.declared.lists.GivenList.{GivenList}
-use Rattle.jpql_tree.specs.declared.Language.{Language}
-use Rattle.jpql_tree.specs.Names.{Text}
-use Rattle.jpql_typed.specs.declared.typed.Typed.{Typed}
-use Rattle.jpql_eval.specs.declared.datum.Datum.{Datum}
-use Rattle.jpql_plan.specs.Bulk.{Changed, updated, deleted}
-use Rattle.jpql_kept.specs.Fits.{throws_in}
+use Rattle.jpa_stored.specs.objects.Sets.{StoredSet, fault_of, all_shaped, IsSound}
+use Rattle.jpa_work.specs.context.Work.{Work}
+use Rattle.jpa_work.specs.context.Steps.{◌>>=◌, ◌>>◌, Op, Done, give, require, read, change}
+use Rattle.jpa_flush.specs.flush.Flush.{sound_or}
+use Rattle.jpql_grammar.specs.declared.grammar.lists.GivenList.{GivenList}
+use Rattle.jpql_trees.specs.declared.tree.Language.{Language}
+use Rattle.jpql_trees.specs.tree.Names.{Text}
+use Rattle.jpql_trees.specs.declared.typed.typed.Typed.{Typed}
+use Rattle.jpql_meaning.specs.declared.eval.datum.Datum.{Datum}
+use Rattle.jpql_meaning.specs.plan.Bulk.{Changed, updated, deleted}
+use Rattle.jpql_bulk.specs.kept.Fits.{throws_in}
 use Rattle.jpa_asked.specs.declared.asked.Binding.{Binding}
 use Rattle.jpa_asked.specs.declared.asked.Statement.{Statement}
 use Rattle.jpa_asked.specs.Asking.{given, read_of, statement_of}
-use Rattle.jpa_flush.specs.Flush.{flush_if}
+use Rattle.jpa_flush.specs.flush.Flush.{flush_if}
 
 -- ---- what is asked
 

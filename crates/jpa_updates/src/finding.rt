@@ -3,11 +3,11 @@ ghost use Rattle.std.specs.Prelude.{◌≡◌, true, IfOk, IfErr, Ok};
 ghost use Rattle.jpa_behaviour.specs.Served.{world_of_unit};
 ghost use Rattle.jpa_open.specs.Opened as opened;
 ghost use Rattle.jpa_updates.specs.Changing.{AnswersAs, same, failure_cause};
-ghost use Rattle.jpa_rows.specs.Cells.{all_representable};
+ghost use Rattle.jpa_rows.specs.rows.Cells.{all_representable};
 ghost use Rattle.jpa_value.specs.declared.refusal.Cause.{Cause};
-ghost use Rattle.jpql_bulk.specs.Changes as changes;
-ghost use Rattle.jpql_kept.specs.Fits.{throws_in};
-ghost use Rattle.jpql_plan.specs.Bulk as bulk;
+ghost use Rattle.jpql_bulk.specs.bulk.Changes as changes;
+ghost use Rattle.jpql_bulk.specs.kept.Fits.{throws_in};
+ghost use Rattle.jpql_meaning.specs.plan.Bulk as bulk;
 ghost use Rattle.jpql_run.specs.Keys as keys;
 ghost use Rattle.jpql_run.specs.Objects.{identities};
 
@@ -15,11 +15,11 @@ use crate::representable::objects_are_representable;
 use jpa_behaviour::{Behaviour, ServedUnit};
 use jpa_model::Metamodel;
 use jpa_open::OpenSet;
-use jpa_stored::Stored;
+use jpa_stored::objects::Stored;
 use jpa_value::{Boxed, Cause, Identity, Seq, TryCopy};
-use jpql_bulk::{assign, found_by_delete, found_by_update};
-use jpql_eval::{Datum, Failure};
-use jpql_typed::{TypedAssignment, TypedCondition};
+use jpql_bulk::bulk::{assign, found_by_delete, found_by_update};
+use jpql_meaning::eval::{Datum, Failure};
+use jpql_trees::typed::{TypedAssignment, TypedCondition};
 use std::alloc::Global;
 
 /// Why nothing was computed, as a call tells it.

@@ -6,7 +6,7 @@ ghost use Rattle.jpa_value.specs.declared.refusal.Cause.{Cause};
 
 use jpa_constraints::Change;
 use jpa_open::OpenSet;
-use jpa_stored::Stored;
+use jpa_stored::objects::Stored;
 use jpa_value::{Cause, Identity};
 use std::alloc::Global;
 

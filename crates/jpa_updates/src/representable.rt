@@ -1,10 +1,10 @@
 //! What a statement writes are values of the program: integers of 64 bits, texts in UTF-8 and
 //! bytes. For contracts to cite; these functions read and do nothing.
 ghost use Rattle.std.specs.Prelude.{◌≡◌, ◌&&◌, true};
-ghost use Rattle.jpa_rows.specs.Cells as cells;
+ghost use Rattle.jpa_rows.specs.rows.Cells as cells;
 
-use jpa_rows::{identity_is_representable, object_is_representable};
-use jpa_stored::Stored;
+use jpa_rows::rows::{identity_is_representable, object_is_representable};
+use jpa_stored::objects::Stored;
 use jpa_value::Identity;
 
 fn entry_is_representable(object: &(Identity, Stored))

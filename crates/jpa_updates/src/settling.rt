@@ -1,21 +1,21 @@
 //! A set that a statement changed is judged: it is seen where it is sound.
 ghost use Rattle.std.specs.Prelude.{◌≡◌, T, length, true};
 ghost use Rattle.std.specs.FinMap.Entries.{is_sorted};
-ghost use Rattle.jpa_context.specs.Steps.{Meets};
-ghost use Rattle.jpa_context.specs.Undo.{now, since};
-ghost use Rattle.jpa_flush.specs.Flush.{sound_or};
+ghost use Rattle.jpa_work.specs.context.Steps.{Meets};
+ghost use Rattle.jpa_work.specs.context.Undo.{now, since};
+ghost use Rattle.jpa_flush.specs.flush.Flush.{sound_or};
 ghost use Rattle.jpa_constraints.specs.Changed.{IsChanged};
 ghost use Rattle.jpa_updates.specs.Updates as updates;
-ghost use Rattle.jpa_stored.specs.Sets as sets;
+ghost use Rattle.jpa_stored.specs.objects.Sets as sets;
 ghost use Rattle.jpa_value.specs.Value.{identity_cmp};
 
 use crate::places::{changes_at, changes_at_objects};
 use crate::writing::{put_all, take_all};
 use jpa_constraints::{Change, judge};
-use jpa_context::UnitOfWork;
 use jpa_model::Metamodel;
-use jpa_stored::Stored;
+use jpa_stored::objects::Stored;
 use jpa_value::{Cause, Identity};
+use jpa_work::context::UnitOfWork;
 use std::alloc::Global;
 
 /// Whether the set that a manager sees is sound (chapters 2.9, 2.10 and 3.2.4) after these changes

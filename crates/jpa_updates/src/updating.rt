@@ -1,29 +1,29 @@
 //! executeUpdate.
 ghost use Rattle.std.specs.Prelude.{◌≡◌, true, OnOk};
 ghost use Rattle.jpa_behaviour.specs.Served.{world_of_unit};
-ghost use Rattle.jpa_context.specs.Steps.{Meets, Done};
-ghost use Rattle.jpa_context.specs.Undo.{now, since};
-ghost use Rattle.jpa_context.specs.Work.{Work};
-ghost use Rattle.jpa_fetch.specs.Grown.{IsReady};
+ghost use Rattle.jpa_work.specs.context.Steps.{Meets, Done};
+ghost use Rattle.jpa_work.specs.context.Undo.{now, since};
+ghost use Rattle.jpa_work.specs.context.Work.{Work};
+ghost use Rattle.jpa_operations.specs.fetch.Grown.{IsReady};
 ghost use Rattle.jpa_asked.specs.Premises.{AreInHeap};
-ghost use Rattle.jpa_flush.specs.Flush.{flush_if};
-ghost use Rattle.jpa_flush.specs.Passes.{IsFlushable, Performs};
+ghost use Rattle.jpa_flush.specs.flush.Flush.{flush_if};
+ghost use Rattle.jpa_flush.specs.flush.Passes.{IsFlushable, Performs};
 ghost use Rattle.jpa_updates.specs.Updates as updates;
-ghost use Rattle.jpa_rows.specs.Cells.{all_representable};
-ghost use Rattle.jpql_typed.specs.declared.typed.Typed.{Typed};
+ghost use Rattle.jpa_rows.specs.rows.Cells.{all_representable};
+ghost use Rattle.jpql_trees.specs.declared.typed.typed.Typed.{Typed};
 
 use crate::finding::{made_by_update, taken_by_delete};
 use crate::settling::{put_sound, take_sound};
 use jpa_asked::{Binding, Statement, read_of, statement_of};
 use jpa_behaviour::{Behaviour, ServedUnit};
-use jpa_context::UnitOfWork;
-use jpa_flush::flush_if;
+use jpa_flush::flush::flush_if;
 use jpa_model::Metamodel;
 use jpa_value::{Boxed, Cause, State};
-use jpql_eval::Datum;
-use jpql_grammar::GivenList;
-use jpql_tree::Language;
-use jpql_typed::{Typed, TypedAssignment, TypedCondition};
+use jpa_work::context::UnitOfWork;
+use jpql_grammar::grammar::GivenList;
+use jpql_meaning::eval::Datum;
+use jpql_trees::tree::Language;
+use jpql_trees::typed::{Typed, TypedAssignment, TypedCondition};
 use std::alloc::Global;
 
 /// Whether a statement changes objects.

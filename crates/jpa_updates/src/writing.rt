@@ -1,15 +1,15 @@
 //! What a statement writes over the set that a manager sees.
 ghost use Rattle.std.specs.Prelude.{◌≡◌, true, IfErr, OnOk, OnErr};
-ghost use Rattle.jpa_context.specs.Undo.{now, since};
+ghost use Rattle.jpa_work.specs.context.Undo.{now, since};
 ghost use Rattle.jpa_open.specs.Opened.{with_seen};
 ghost use Rattle.jpa_updates.specs.Changing.{take_each};
-ghost use Rattle.jpa_stored.specs.Sets as sets;
+ghost use Rattle.jpa_stored.specs.objects.Sets as sets;
 ghost use Rattle.jpa_value.specs.declared.refusal.Cause.{Cause};
 
-use jpa_context::UnitOfWork;
 use jpa_open::OpenSet;
-use jpa_stored::Stored;
+use jpa_stored::objects::Stored;
 use jpa_value::{Cause, Identity, TryCopy};
+use jpa_work::context::UnitOfWork;
 
 /// Puts a copy of an object under its identity.
 fn put(view: &mut OpenSet, object: &(Identity, Stored)) -> Result<(), Cause>

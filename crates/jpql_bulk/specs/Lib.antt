@@ -1,6 +1,2 @@
-pub mod Bulks
-pub mod Changes
-pub mod Laws
-pub mod Assigns
-pub mod Causes
-pub mod Throwing
+pub mod bulk
+pub mod kept

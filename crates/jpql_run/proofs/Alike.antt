@@ -15,24 +15,24 @@ use Rattle.jpa_value.specs.declared.value.Value.{Value}
 use Rattle.jpa_value.specs.Value.{identity_cmp, value_cmp}
 use Rattle.jpa_model.specs.declared.unit.Member.{Member}
 use Rattle.jpa_model.specs.declared.unit.PersistenceUnit.{PersistenceUnit}
-use Rattle.jpa_stored.specs.Sets.{StoredSet}
-use Rattle.jpa_ordered.specs.Values.{at_object, cut_cmp, goes_on, has_begun, least, lies_in_any, own_value}
-use Rattle.jpa_ordered.specs.declared.cut.Cut.{Cut}
-use Rattle.jpa_ordered.specs.declared.cut.Span.{Span}
+use Rattle.jpa_stored.specs.objects.Sets.{StoredSet}
+use Rattle.jpa_stored.specs.ordered.Values.{at_object, cut_cmp, goes_on, has_begun, least, lies_in_any, own_value}
+use Rattle.jpa_stored.specs.declared.ordered.cut.Cut.{Cut}
+use Rattle.jpa_stored.specs.declared.ordered.cut.Span.{Span}
 use Rattle.jpa_open.specs.Opened.{now}
-use Rattle.jpql_typed.specs.declared.path.TypedPath.{TypedPath}
-use Rattle.jpql_typed.specs.declared.typed.TypedCondition.TheVariants as is
-use Rattle.jpql_typed.specs.declared.typed.TypedValue.{TypedValue}
-use Rattle.jpql_typed.specs.declared.typed.TypedValue.TheVariants as v
-use Rattle.jpql_eval.specs.Texts.{Text, escape_of, is_escape, is_like, is_matched, mark_of, marks, only, takes_plain}
-use Rattle.jpql_eval.specs.Answers.{both, gives}
-use Rattle.jpql_eval.specs.Calls.{like}
-use Rattle.jpql_eval.specs.Truths.{truth_of}
-use Rattle.jpql_eval.specs.declared.datum.Datum.{Datum}
-use Rattle.jpql_eval.specs.declared.datum.Truth.{Truth}
-use Rattle.jpql_eval.specs.declared.patterns.Mark.{Mark}
-use Rattle.jpql_plan.specs.Meaning.{alone, value}
-use Rattle.jpql_plan.specs.Paths.{Entry, Tuple, with_object}
+use Rattle.jpql_trees.specs.declared.typed.path.TypedPath.{TypedPath}
+use Rattle.jpql_trees.specs.declared.typed.typed.TypedCondition.TheVariants as is
+use Rattle.jpql_trees.specs.declared.typed.typed.TypedValue.{TypedValue}
+use Rattle.jpql_trees.specs.declared.typed.typed.TypedValue.TheVariants as v
+use Rattle.jpql_meaning.specs.eval.Texts.{Text, escape_of, is_escape, is_like, is_matched, mark_of, marks, only, takes_plain}
+use Rattle.jpql_meaning.specs.eval.Answers.{both, gives}
+use Rattle.jpql_meaning.specs.eval.Calls.{like}
+use Rattle.jpql_meaning.specs.eval.Truths.{truth_of}
+use Rattle.jpql_meaning.specs.declared.eval.datum.Datum.{Datum}
+use Rattle.jpql_meaning.specs.declared.eval.datum.Truth.{Truth}
+use Rattle.jpql_meaning.specs.declared.eval.patterns.Mark.{Mark}
+use Rattle.jpql_meaning.specs.plan.Meaning.{alone, value}
+use Rattle.jpql_meaning.specs.plan.Paths.{Entry, Tuple, with_object}
 use Rattle.jpql_run.specs.Ends.{IsOwn, LeadsTo}
 use Rattle.jpql_run.specs.Likes.{CoversBegun, CoversLike, CoversOthers, IsBehind, IsFront, IsFrontOf, IsOther, IsPlain}
 use Rattle.jpql_run.specs.Refused.{Refuses}

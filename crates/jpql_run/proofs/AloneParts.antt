@@ -2,20 +2,20 @@
 use Rattle.std.proofs.Common.{◌≡◌, ◌∙◌, refl, ap, sym, ℕ, Bool, true, false, List, [], ◌∷◌, Option, Some, None, map, nat_le}
 use Rattle.std.specs.Prelude.{◌&&◌, option_map}
 use Rattle.std.specs.List.{list_all}
-use Rattle.jpql_tree.specs.declared.Function.{Function}
-use Rattle.jpql_typed.specs.declared.typed.TypedValue.{TypedValue, TypedValue-F}
-use Rattle.jpql_typed.specs.declared.typed.TypedValue.TheFolds as values
-use Rattle.jpql_typed.specs.declared.typed.TypedValue.TheOpen as part
-use Rattle.jpql_typed.specs.declared.typed.TypedValue.TheVariants as v
-use Rattle.jpql_typed.specs.declared.typed.TypedValue.TheViews.{roll-TypedValue}
-use Rattle.jpql_typed.specs.declared.typed.TypedCondition.{TypedCondition}
-use Rattle.jpql_typed.specs.declared.typed.TypedCondition.TheOpen.{TypedBlock-F, TypedJoin-F, TypedSource-F}
-use Rattle.jpql_typed.specs.declared.typed.TypedCondition.TheViews.{out-TypedBlock, out-TypedJoin, out-TypedSource, roll-out-TypedBlock, roll-out-TypedJoin, roll-out-TypedSource}
-use Rattle.jpql_typed.specs.declared.typed.TypedCondition.TheFolds as folds
-use Rattle.jpql_typed.specs.declared.typed.TypedBlock.{TypedBlock, roll-TypedBlock}
-use Rattle.jpql_typed.specs.declared.typed.TypedJoin.{TypedJoin, roll-TypedJoin}
-use Rattle.jpql_typed.specs.declared.typed.TypedSource.{TypedSource, roll-TypedSource}
-use Rattle.jpql_plan.specs.Alone.{value_step, condition_step, block_step, join_step, source_step, is_alone_value, is_alone, is_alone_block, is_alone_join, is_alone_source, is_alone_origin, is_any_alone}
+use Rattle.jpql_trees.specs.declared.tree.Function.{Function}
+use Rattle.jpql_trees.specs.declared.typed.typed.TypedValue.{TypedValue, TypedValue-F}
+use Rattle.jpql_trees.specs.declared.typed.typed.TypedValue.TheFolds as values
+use Rattle.jpql_trees.specs.declared.typed.typed.TypedValue.TheOpen as part
+use Rattle.jpql_trees.specs.declared.typed.typed.TypedValue.TheVariants as v
+use Rattle.jpql_trees.specs.declared.typed.typed.TypedValue.TheViews.{roll-TypedValue}
+use Rattle.jpql_trees.specs.declared.typed.typed.TypedCondition.{TypedCondition}
+use Rattle.jpql_trees.specs.declared.typed.typed.TypedCondition.TheOpen.{TypedBlock-F, TypedJoin-F, TypedSource-F}
+use Rattle.jpql_trees.specs.declared.typed.typed.TypedCondition.TheViews.{out-TypedBlock, out-TypedJoin, out-TypedSource, roll-out-TypedBlock, roll-out-TypedJoin, roll-out-TypedSource}
+use Rattle.jpql_trees.specs.declared.typed.typed.TypedCondition.TheFolds as folds
+use Rattle.jpql_trees.specs.declared.typed.typed.TypedBlock.{TypedBlock, roll-TypedBlock}
+use Rattle.jpql_trees.specs.declared.typed.typed.TypedJoin.{TypedJoin, roll-TypedJoin}
+use Rattle.jpql_trees.specs.declared.typed.typed.TypedSource.{TypedSource, roll-TypedSource}
+use Rattle.jpql_meaning.specs.plan.Alone.{value_step, condition_step, block_step, join_step, source_step, is_alone_value, is_alone, is_alone_block, is_alone_join, is_alone_source, is_alone_origin, is_any_alone}
 use Rattle.jpql_run.proofs.CalmValues.{all_made}
 
 module _ (n : ℕ) where

@@ -3,12 +3,12 @@ use Rattle.std.proofs.Common.{rules, ◌≡◌, ◌∙◌, refl, ap, sym, ℕ, B
 use Rattle.std.specs.Prelude.{◌||◌, nat_eq}
 use Rattle.std.specs.List.{filter, list_any}
 use Rattle.std.proofs.lemmas.Bool.{false≢true}
-use Rattle.jpql_tree.specs.declared.Comparison.{Comparison}
-use Rattle.jpql_eval.specs.declared.datum.Datum.{Datum}
-use Rattle.jpql_eval.specs.declared.datum.Truth.{Truth}
-use Rattle.jpql_eval.specs.Data.{is_nothing, same_datum, datum_cmp, holds, compared, among}
-use Rattle.jpql_eval.specs.Truths.{truth_of, or3}
-use Rattle.jpql_plan.specs.Meaning.{is_any}
+use Rattle.jpql_trees.specs.declared.tree.Comparison.{Comparison}
+use Rattle.jpql_meaning.specs.declared.eval.datum.Datum.{Datum}
+use Rattle.jpql_meaning.specs.declared.eval.datum.Truth.{Truth}
+use Rattle.jpql_meaning.specs.eval.Data.{is_nothing, same_datum, datum_cmp, holds, compared, among}
+use Rattle.jpql_meaning.specs.eval.Truths.{truth_of, or3}
+use Rattle.jpql_meaning.specs.plan.Meaning.{is_any}
 use Rattle.jpql_run.specs.ByValue.{print}
 use Rattle.jpql_run.specs.Ready.{is_printed_as}
 use Rattle.jpql_run.proofs.Asked.{same_exact}

@@ -2,15 +2,15 @@
 use Rattle.std.proofs.Common.{rules, ◌≡◌, Bool, List, map, ◌∙◌, ap}
 use Rattle.std.proofs.lemmas.Simd.{map-map}
 use Rattle.jpa_model.specs.declared.unit.PersistenceUnit.{PersistenceUnit}
-use Rattle.jpa_stored.specs.Sets.{StoredSet}
-use Rattle.jpql_tree.specs.declared.Function.{Function}
-use Rattle.jpql_tree.specs.declared.Aggregate.{Aggregate}
-use Rattle.jpql_typed.specs.declared.typed.TypedValue.{TypedValue, fold-TypedValue}
-use Rattle.jpql_typed.specs.declared.typed.TypedValue.TheVariants as v
-use Rattle.jpql_typed.specs.declared.typed.TypedValue.TheFolds as folds
-use Rattle.jpql_eval.specs.declared.datum.Datum.{Datum}
-use Rattle.jpql_eval.specs.Answers.{Answer}
-use Rattle.jpql_plan.specs.Meaning.{Case, alone, call, aggregate, value, value_step}
+use Rattle.jpa_stored.specs.objects.Sets.{StoredSet}
+use Rattle.jpql_trees.specs.declared.tree.Function.{Function}
+use Rattle.jpql_trees.specs.declared.tree.Aggregate.{Aggregate}
+use Rattle.jpql_trees.specs.declared.typed.typed.TypedValue.{TypedValue, fold-TypedValue}
+use Rattle.jpql_trees.specs.declared.typed.typed.TypedValue.TheVariants as v
+use Rattle.jpql_trees.specs.declared.typed.typed.TypedValue.TheFolds as folds
+use Rattle.jpql_meaning.specs.declared.eval.datum.Datum.{Datum}
+use Rattle.jpql_meaning.specs.eval.Answers.{Answer}
+use Rattle.jpql_meaning.specs.plan.Meaning.{Case, alone, call, aggregate, value, value_step}
 
 call_parts : (m : PersistenceUnit) (s : StoredSet) (ps : List Datum) (f : Function) (all : List TypedValue) (at : Case)
     → value m s ps (v.Call f all) at ≡ call f (map (λ a. a at) (map (fold-TypedValue (Case → Answer Datum) (value_step m s ps)) all))

@@ -5,25 +5,25 @@ use Rattle.std.specs.List.{AllByRecursion, list_all}
 use Rattle.std.proofs.lemmas.Bool.{and_parts, false≢true}
 use Rattle.std.proofs.lemmas.List.Elements.{All-from_recursion}
 use Rattle.jpa_model.specs.declared.unit.PersistenceUnit.{PersistenceUnit}
-use Rattle.jpa_stored.specs.Sets.{StoredSet}
-use Rattle.jpql_tree.specs.declared.Function.{Function}
-use Rattle.jpql_tree.specs.declared.Sign.{Sign}
-use Rattle.jpql_typed.specs.declared.path.TypedPath.{TypedPath}
-use Rattle.jpql_typed.specs.declared.typed.TypedValue.{TypedValue, TypedValue-F}
-use Rattle.jpql_typed.specs.declared.typed.TypedValue.TheViews.{roll-TypedValue}
-use Rattle.jpql_typed.specs.declared.typed.TypedValue.TheOpen as part
-use Rattle.jpql_typed.specs.declared.typed.TypedValue.TheVariants as v
-use Rattle.jpql_typed.specs.declared.typed.TypedValue.TheFolds as values
-use Rattle.jpql_eval.specs.declared.datum.Datum.{Datum}
-use Rattle.jpql_eval.specs.Answers.{gives, overflows, ◌>>=◌}
-use Rattle.jpql_eval.specs.Calls.{applied, of_some}
-use Rattle.jpql_eval.specs.Data.{null}
-use Rattle.jpql_eval.specs.Numbers.{number, signed}
-use Rattle.jpql_eval.specs.Texts.{Text}
+use Rattle.jpa_stored.specs.objects.Sets.{StoredSet}
+use Rattle.jpql_trees.specs.declared.tree.Function.{Function}
+use Rattle.jpql_trees.specs.declared.tree.Sign.{Sign}
+use Rattle.jpql_trees.specs.declared.typed.path.TypedPath.{TypedPath}
+use Rattle.jpql_trees.specs.declared.typed.typed.TypedValue.{TypedValue, TypedValue-F}
+use Rattle.jpql_trees.specs.declared.typed.typed.TypedValue.TheViews.{roll-TypedValue}
+use Rattle.jpql_trees.specs.declared.typed.typed.TypedValue.TheOpen as part
+use Rattle.jpql_trees.specs.declared.typed.typed.TypedValue.TheVariants as v
+use Rattle.jpql_trees.specs.declared.typed.typed.TypedValue.TheFolds as values
+use Rattle.jpql_meaning.specs.declared.eval.datum.Datum.{Datum}
+use Rattle.jpql_meaning.specs.eval.Answers.{gives, overflows, ◌>>=◌}
+use Rattle.jpql_meaning.specs.eval.Calls.{applied, of_some}
+use Rattle.jpql_meaning.specs.eval.Data.{null}
+use Rattle.jpql_meaning.specs.eval.Numbers.{number, signed}
+use Rattle.jpql_meaning.specs.eval.Texts.{Text}
 use Rattle.jpa_value.specs.declared.value.Value.TheVariants as values_of
 use Rattle.jpa_value.specs.Value.{is_i64}
-use Rattle.jpql_plan.specs.Paths.{path_datum, collection}
-use Rattle.jpql_plan.specs.Meaning.{Case, size, value}
+use Rattle.jpql_meaning.specs.plan.Paths.{path_datum, collection}
+use Rattle.jpql_meaning.specs.plan.Meaning.{Case, size, value}
 use Rattle.jpql_run.specs.Keys.{is_given, NeverOverflows}
 use Rattle.jpql_run.proofs.Told.{call_never}
 use Rattle.jpql_run.specs.Calm.{Calmness, calmness, plain, is_calm_function, is_small, value_step, is_calm_value}
@@ -46,19 +46,19 @@ each_tested p P k (x ∷ xs) h =
     let parts = and_parts (p x) (list_all p xs) h in
     (k x parts.0, each_tested p P k xs parts.1)
 
-calm_one : (f : Function) (a : Datum) → is_calm_function f ≡ true → is_given (Rattle.jpql_eval.specs.Calls.of_operand f a) ≡ true
+calm_one : (f : Function) (a : Datum) → is_calm_function f ≡ true → is_given (Rattle.jpql_meaning.specs.eval.Calls.of_operand f a) ≡ true
 calm_one Function.Abs a h = absurd (false≢true h)
 calm_one Function.Length a h = refl
 calm_one _ a h = refl
 
-calm_two : (f : Function) (a b : Datum) → is_calm_function f ≡ true → is_given (Rattle.jpql_eval.specs.Calls.of_two f a b) ≡ true
+calm_two : (f : Function) (a b : Datum) → is_calm_function f ≡ true → is_given (Rattle.jpql_meaning.specs.eval.Calls.of_two f a b) ≡ true
 calm_two Function.Mod a b h = absurd (false≢true h)
 calm_two Function.Substring a b h = refl
 calm_two Function.Locate a b h = refl
 calm_two Function.NullIf a b h = refl
 calm_two _ a b h = refl
 
-calm_three : (f : Function) (a b c : Datum) → is_given (Rattle.jpql_eval.specs.Calls.of_three f a b c) ≡ true
+calm_three : (f : Function) (a b c : Datum) → is_given (Rattle.jpql_meaning.specs.eval.Calls.of_three f a b c) ≡ true
 calm_three Function.Substring a b c = refl
 calm_three Function.Locate a b c = refl
 calm_three _ a b c = refl

@@ -5,12 +5,12 @@ use Rattle.std.specs.Ordering.{is_le, is_lt, ordering_reverse}
 use Rattle.std.specs.Cmp.{IsTotalOrder}
 use Rattle.std.specs.declared.cmp.Ordering.{Ordering}
 use Rattle.std.proofs.lemmas.Cmp.{alike_right}
-use Rattle.jpql_tree.specs.declared.Comparison.{Comparison}
-use Rattle.jpql_eval.specs.declared.datum.Datum.{Datum}
-use Rattle.jpql_eval.specs.declared.datum.Truth.{Truth}
-use Rattle.jpql_eval.specs.Data.{null, is_nothing, same_datum, datum_cmp, holds, compared}
-use Rattle.jpql_eval.specs.SeenOrder.{datum_total}
-use Rattle.jpql_eval.specs.Truths.{truth_of, not3, and3, or3, any3, all3}
+use Rattle.jpql_trees.specs.declared.tree.Comparison.{Comparison}
+use Rattle.jpql_meaning.specs.declared.eval.datum.Datum.{Datum}
+use Rattle.jpql_meaning.specs.declared.eval.datum.Truth.{Truth}
+use Rattle.jpql_meaning.specs.eval.Data.{null, is_nothing, same_datum, datum_cmp, holds, compared}
+use Rattle.jpql_meaning.specs.eval.SeenOrder.{datum_total}
+use Rattle.jpql_meaning.specs.eval.Truths.{truth_of, not3, and3, or3, any3, all3}
 use Rattle.jpql_run.specs.Ready.{is_ordered, opposite, reaches, harder, nulls, few}
 
 -- ---- a total order

@@ -3,14 +3,14 @@ use Rattle.std.proofs.Common.{rules, ◌≡◌, ◌∙◌, Bool, List, map}
 use Rattle.std.specs.List.{list_any}
 use Rattle.jpa_model.proofs.Distinct.{list_any-map}
 use Rattle.jpa_model.specs.declared.unit.PersistenceUnit.{PersistenceUnit}
-use Rattle.jpa_stored.specs.Sets.{StoredSet}
-use Rattle.jpql_tree.specs.declared.Function.{Function}
-use Rattle.jpql_typed.specs.declared.typed.TypedValue.{TypedValue, fold-TypedValue}
-use Rattle.jpql_typed.specs.declared.typed.TypedValue.TheVariants as v
-use Rattle.jpql_typed.specs.declared.typed.TypedValue.TheFolds as folds
-use Rattle.jpql_eval.specs.declared.datum.Datum.{Datum}
-use Rattle.jpql_plan.specs.Paths.{Tuple}
-use Rattle.jpql_plan.specs.Meaning.{value_drops, drops_step}
+use Rattle.jpa_stored.specs.objects.Sets.{StoredSet}
+use Rattle.jpql_trees.specs.declared.tree.Function.{Function}
+use Rattle.jpql_trees.specs.declared.typed.typed.TypedValue.{TypedValue, fold-TypedValue}
+use Rattle.jpql_trees.specs.declared.typed.typed.TypedValue.TheVariants as v
+use Rattle.jpql_trees.specs.declared.typed.typed.TypedValue.TheFolds as folds
+use Rattle.jpql_meaning.specs.declared.eval.datum.Datum.{Datum}
+use Rattle.jpql_meaning.specs.plan.Paths.{Tuple}
+use Rattle.jpql_meaning.specs.plan.Meaning.{value_drops, drops_step}
 
 module _ (m : PersistenceUnit) (s : StoredSet) (ps : List Datum) where
   parts : (f : Function) (all : List TypedValue) (t : Tuple)

@@ -2,24 +2,24 @@
 use Rattle.std.proofs.Common.{rules, ◌≡◌, ◌∙◌, refl, ap, sym, ℕ, true, List, length, map}
 use Rattle.std.specs.Borrow.{Bor}
 use Rattle.jpa_open.specs.Opened.{now}
-use Rattle.jpql_tree.specs.declared.Against.{Against}
-use Rattle.jpql_tree.specs.declared.Comparison.{Comparison}
-use Rattle.jpql_typed.specs.declared.typed.TypedBlock.{TypedBlock}
-use Rattle.jpql_typed.specs.declared.typed.TypedCondition.{TypedCondition}
-use Rattle.jpql_typed.specs.declared.typed.TypedCondition.TheFolds as folds
-use Rattle.jpql_typed.specs.declared.typed.TypedCondition.TheVariants as is
-use Rattle.jpql_typed.specs.declared.typed.TypedValue.{TypedValue}
-use Rattle.jpql_eval.specs.declared.datum.Datum.{Datum}
-use Rattle.jpql_eval.specs.declared.datum.Truth.{Truth}
-use Rattle.jpql_eval.specs.declared.failure.Failure.{Failure}
-use Rattle.jpql_eval.specs.Answers.{Answer, gives, overflows, ◌>>=◌, under, both}
-use Rattle.jpql_eval.specs.Finds.{Fails}
-use Rattle.jpql_eval.specs.Judged.{judged}
-use Rattle.jpql_eval.specs.Truths.{not3, and3, or3}
-use Rattle.jpql_plan.specs.Alone.{is_alone_block}
-use Rattle.jpql_plan.specs.Meaning.{alone, on_answer}
-use Rattle.jpql_plan.specs.Paths.{Tuple}
-use Rattle.jpql_plan.proofs.AloneBlocks.{rows_alone}
+use Rattle.jpql_trees.specs.declared.tree.Against.{Against}
+use Rattle.jpql_trees.specs.declared.tree.Comparison.{Comparison}
+use Rattle.jpql_trees.specs.declared.typed.typed.TypedBlock.{TypedBlock}
+use Rattle.jpql_trees.specs.declared.typed.typed.TypedCondition.{TypedCondition}
+use Rattle.jpql_trees.specs.declared.typed.typed.TypedCondition.TheFolds as folds
+use Rattle.jpql_trees.specs.declared.typed.typed.TypedCondition.TheVariants as is
+use Rattle.jpql_trees.specs.declared.typed.typed.TypedValue.{TypedValue}
+use Rattle.jpql_meaning.specs.declared.eval.datum.Datum.{Datum}
+use Rattle.jpql_meaning.specs.declared.eval.datum.Truth.{Truth}
+use Rattle.jpql_meaning.specs.declared.eval.failure.Failure.{Failure}
+use Rattle.jpql_meaning.specs.eval.Answers.{Answer, gives, overflows, ◌>>=◌, under, both}
+use Rattle.jpql_meaning.specs.eval.Finds.{Fails}
+use Rattle.jpql_meaning.specs.eval.Judged.{judged}
+use Rattle.jpql_meaning.specs.eval.Truths.{not3, and3, or3}
+use Rattle.jpql_meaning.specs.plan.Alone.{is_alone_block}
+use Rattle.jpql_meaning.specs.plan.Meaning.{alone, on_answer}
+use Rattle.jpql_meaning.specs.plan.Paths.{Tuple}
+use Rattle.jpql_meaning.proofs.plan.AloneBlocks.{rows_alone}
 use Rattle.jpql_run.specs.Ready.{Tells, asked, ready_truth}
 use Rattle.jpql_run.specs.Runs as runs
 use Rattle.jpql_run.specs.declared.run.Run.{Run}

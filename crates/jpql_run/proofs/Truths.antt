@@ -1,21 +1,21 @@
 -- What conditions of several parts mean, by those of their parts.
 use Rattle.std.proofs.Common.{rules, ◌≡◌, ◌∙◌, refl, List, Option, map}
 use Rattle.jpa_model.specs.declared.unit.PersistenceUnit.{PersistenceUnit}
-use Rattle.jpa_stored.specs.Sets.{StoredSet}
-use Rattle.jpql_tree.specs.declared.Against.{Against}
-use Rattle.jpql_tree.specs.declared.Comparison.{Comparison}
-use Rattle.jpql_typed.specs.declared.typed.TypedBlock.{TypedBlock}
-use Rattle.jpql_typed.specs.declared.typed.TypedValue.{TypedValue}
-use Rattle.jpql_typed.specs.declared.typed.TypedCondition.{TypedCondition}
-use Rattle.jpql_typed.specs.declared.typed.TypedCondition.TheVariants as is
-use Rattle.jpql_typed.specs.declared.typed.TypedCondition.TheFolds as folds
-use Rattle.jpql_eval.specs.declared.datum.Datum.{Datum}
-use Rattle.jpql_eval.specs.Answers.{Answer, gives, overflows, both, under}
-use Rattle.jpql_eval.specs.Judged.{judged}
-use Rattle.jpql_eval.specs.Truths.{or3, and3, truth_of}
-use Rattle.jpql_eval.specs.Texts.{Text}
-use Rattle.jpql_eval.specs.Calls.{like}
-use Rattle.jpql_plan.specs.Meaning.{Case, value, truth, rows, exists, is_any, on_answer, among_all}
+use Rattle.jpa_stored.specs.objects.Sets.{StoredSet}
+use Rattle.jpql_trees.specs.declared.tree.Against.{Against}
+use Rattle.jpql_trees.specs.declared.tree.Comparison.{Comparison}
+use Rattle.jpql_trees.specs.declared.typed.typed.TypedBlock.{TypedBlock}
+use Rattle.jpql_trees.specs.declared.typed.typed.TypedValue.{TypedValue}
+use Rattle.jpql_trees.specs.declared.typed.typed.TypedCondition.{TypedCondition}
+use Rattle.jpql_trees.specs.declared.typed.typed.TypedCondition.TheVariants as is
+use Rattle.jpql_trees.specs.declared.typed.typed.TypedCondition.TheFolds as folds
+use Rattle.jpql_meaning.specs.declared.eval.datum.Datum.{Datum}
+use Rattle.jpql_meaning.specs.eval.Answers.{Answer, gives, overflows, both, under}
+use Rattle.jpql_meaning.specs.eval.Judged.{judged}
+use Rattle.jpql_meaning.specs.eval.Truths.{or3, and3, truth_of}
+use Rattle.jpql_meaning.specs.eval.Texts.{Text}
+use Rattle.jpql_meaning.specs.eval.Calls.{like}
+use Rattle.jpql_meaning.specs.plan.Meaning.{Case, value, truth, rows, exists, is_any, on_answer, among_all}
 
 under_twice : {A B C : Type 0} (f : A → B) (g : B → C) (a : Answer A) → under (λ x. g (f x)) a ≡ under g (under f a)
 under_twice f g (gives x) = refl

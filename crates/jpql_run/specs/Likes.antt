@@ -5,14 +5,14 @@ use Rattle.std.specs.Cmp.Lexicographic.{slice_cmp}
 use Rattle.std.specs.Ordering.{is_le, nat_cmp}
 use Rattle.jpa_value.specs.declared.value.Value.{Value}
 use Rattle.jpa_model.specs.declared.unit.Member.{Member}
-use Rattle.jpa_ordered.specs.Values.{lies_in_any, own_value}
-use Rattle.jpa_ordered.specs.declared.cut.Cut.{Cut}
-use Rattle.jpa_ordered.specs.declared.cut.Span.{Span}
-use Rattle.jpql_typed.specs.declared.typed.TypedValue.{TypedValue}
-use Rattle.jpql_eval.specs.Texts.{Text, escape_of, is_escape, mark_of}
-use Rattle.jpql_eval.specs.declared.datum.Datum.{Datum}
-use Rattle.jpql_eval.specs.declared.patterns.Mark.{Mark}
-use Rattle.jpql_plan.specs.Paths.{Entry}
+use Rattle.jpa_stored.specs.ordered.Values.{lies_in_any, own_value}
+use Rattle.jpa_stored.specs.declared.ordered.cut.Cut.{Cut}
+use Rattle.jpa_stored.specs.declared.ordered.cut.Span.{Span}
+use Rattle.jpql_trees.specs.declared.typed.typed.TypedValue.{TypedValue}
+use Rattle.jpql_meaning.specs.eval.Texts.{Text, escape_of, is_escape, mark_of}
+use Rattle.jpql_meaning.specs.declared.eval.datum.Datum.{Datum}
+use Rattle.jpql_meaning.specs.declared.eval.patterns.Mark.{Mark}
+use Rattle.jpql_meaning.specs.plan.Paths.{Entry}
 use Rattle.jpql_run.specs.Bounds.{AlwaysGives}
 use Rattle.jpql_run.specs.Spans.{cut_at}
 use Rattle.jpql_run.specs.declared.run.Run.{Run}

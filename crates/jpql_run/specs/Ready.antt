@@ -6,21 +6,21 @@ use Rattle.std.specs.List.{list_any}
 use Rattle.std.specs.Global.{Vec}
 use Rattle.std.specs.Ordering.{is_le}
 use Rattle.indexmap.specs.IndexMap.{get}
-use Rattle.jpql_tree.specs.declared.Against.{Against}
-use Rattle.jpql_tree.specs.declared.Comparison.{Comparison}
-use Rattle.jpql_typed.specs.declared.typed.TypedCondition.{TypedCondition}
-use Rattle.jpql_eval.specs.declared.datum.Datum.{Datum}
-use Rattle.jpql_eval.specs.declared.datum.Truth.{Truth}
-use Rattle.jpql_eval.specs.declared.failure.Failure.{Failure}
-use Rattle.jpql_eval.specs.declared.seen.Seen.{Seen}
-use Rattle.jpql_eval.specs.Answers.{Answer, gives, under, both}
-use Rattle.jpql_eval.specs.Data.{null, is_nothing, same_datum, datum_cmp, compared}
-use Rattle.jpql_eval.specs.Finds.{Fails}
-use Rattle.jpql_eval.specs.Judged.{judged}
-use Rattle.jpql_eval.specs.Seen.{seen}
-use Rattle.jpql_eval.specs.Truths.{not3, and3, or3, any3, all3}
-use Rattle.jpql_plan.specs.Meaning.{alone}
-use Rattle.jpql_plan.specs.Paths.{Tuple}
+use Rattle.jpql_trees.specs.declared.tree.Against.{Against}
+use Rattle.jpql_trees.specs.declared.tree.Comparison.{Comparison}
+use Rattle.jpql_trees.specs.declared.typed.typed.TypedCondition.{TypedCondition}
+use Rattle.jpql_meaning.specs.declared.eval.datum.Datum.{Datum}
+use Rattle.jpql_meaning.specs.declared.eval.datum.Truth.{Truth}
+use Rattle.jpql_meaning.specs.declared.eval.failure.Failure.{Failure}
+use Rattle.jpql_meaning.specs.declared.eval.seen.Seen.{Seen}
+use Rattle.jpql_meaning.specs.eval.Answers.{Answer, gives, under, both}
+use Rattle.jpql_meaning.specs.eval.Data.{null, is_nothing, same_datum, datum_cmp, compared}
+use Rattle.jpql_meaning.specs.eval.Finds.{Fails}
+use Rattle.jpql_meaning.specs.eval.Judged.{judged}
+use Rattle.jpql_meaning.specs.eval.Seen.{seen}
+use Rattle.jpql_meaning.specs.eval.Truths.{not3, and3, or3, any3, all3}
+use Rattle.jpql_meaning.specs.plan.Meaning.{alone}
+use Rattle.jpql_meaning.specs.plan.Paths.{Tuple}
 use Rattle.jpql_run.specs.ByValue.{print}
 use Rattle.jpql_run.specs.Runs.{truth, value_alone}
 use Rattle.jpql_run.specs.declared.ready.Ready.{Ready, Ready-F, fold-Ready}

@@ -2,10 +2,12 @@
 //! 4.6.16). `around` is how many there are.
 ghost use Rattle.std.specs.Prelude.{◌≡◌, option_map};
 ghost use Rattle.std.specs.List.{list_all};
-ghost use Rattle.jpql_plan.specs.Alone as alone;
+ghost use Rattle.jpql_meaning.specs.plan.Alone as alone;
 
 use jpa_value::Boxed;
-use jpql_typed::{TypedBlock, TypedCondition, TypedJoin, TypedOrigin, TypedSource, TypedValue};
+use jpql_trees::typed::{
+    TypedBlock, TypedCondition, TypedJoin, TypedOrigin, TypedSource, TypedValue,
+};
 
 /// Whether a value names none.
 #[cycle(is_alone_value)]

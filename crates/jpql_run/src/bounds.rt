@@ -11,9 +11,9 @@ use crate::paths::path;
 use crate::run::Run;
 use crate::tuple::Tuple;
 use jpa_value::Boxed;
-use jpql_eval::{Seen, is_true};
-use jpql_tree::Comparison;
-use jpql_typed::{TypedCondition, TypedPath, TypedValue};
+use jpql_meaning::eval::{Seen, is_true};
+use jpql_trees::tree::Comparison;
+use jpql_trees::typed::{TypedCondition, TypedPath, TypedValue};
 
 /// A comparison of what a path leads to with a value that is the same for all tuples.
 #[derive(Drop)]

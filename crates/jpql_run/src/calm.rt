@@ -6,8 +6,8 @@ ghost use Rattle.std.specs.List.{list_all};
 ghost use Rattle.jpql_run.specs.Calm as calm;
 
 use jpa_value::Boxed;
-use jpql_tree::{Against, Aggregate, Function};
-use jpql_typed::{TypedBlock, TypedCondition, TypedJoin, TypedSource, TypedValue};
+use jpql_trees::tree::{Against, Aggregate, Function};
+use jpql_trees::typed::{TypedBlock, TypedCondition, TypedJoin, TypedSource, TypedValue};
 
 fn is_calm_function(function: Function) -> bool
     ensures { result ≡ calm.is_calm_function function }

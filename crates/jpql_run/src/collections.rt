@@ -3,10 +3,10 @@
 ghost use Rattle.std.specs.Prelude.{◌≡◌};
 ghost use Rattle.std.specs.List.{list_any};
 ghost use Rattle.jpa_value.specs.Value.{same_identity};
-ghost use Rattle.jpql_eval.specs.Answers.{gives};
-ghost use Rattle.jpql_eval.specs.Finds.{Finds, same};
-ghost use Rattle.jpql_eval.specs.Seen.{seen};
-ghost use Rattle.jpql_plan.specs.Meaning as meaning;
+ghost use Rattle.jpql_meaning.specs.eval.Answers.{gives};
+ghost use Rattle.jpql_meaning.specs.eval.Finds.{Finds, same};
+ghost use Rattle.jpql_meaning.specs.eval.Seen.{seen};
+ghost use Rattle.jpql_meaning.specs.plan.Meaning as meaning;
 ghost use Rattle.jpql_run.specs.Objects.{identities};
 ghost use Rattle.jpql_run.specs.Runs as runs;
 
@@ -14,8 +14,8 @@ use crate::paths::collection;
 use crate::run::Run;
 use crate::tuple::Tuple;
 use jpa_value::{Identity, is_same_identity};
-use jpql_eval::{Failure, Seen, Truth, truth_of};
-use jpql_typed::TypedPath;
+use jpql_meaning::eval::{Failure, Seen, Truth, truth_of};
+use jpql_trees::typed::TypedPath;
 use std::alloc::Global;
 
 /// SIZE.

@@ -2,14 +2,14 @@
 //! (chapter 4.4.4).
 ghost use Rattle.std.specs.Prelude.{◌≡◌};
 ghost use Rattle.std.specs.List.{list_any};
-ghost use Rattle.jpql_plan.specs.Meaning as meaning;
+ghost use Rattle.jpql_meaning.specs.plan.Meaning as meaning;
 ghost use Rattle.jpql_run.specs.Runs as runs;
 
 use crate::paths::is_broken;
 use crate::run::Run;
 use crate::tuple::Tuple;
 use jpa_value::Boxed;
-use jpql_typed::{TypedCondition, TypedValue};
+use jpql_trees::typed::{TypedCondition, TypedValue};
 
 /// Whether it has one in a value.
 #[cycle(value_drops)]

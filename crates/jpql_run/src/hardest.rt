@@ -1,14 +1,14 @@
 //! Of rows those that decide a comparison with all of them, where it goes by their order: of three
 //! and more the others say nothing else (chapter 4.6.16).
 ghost use Rattle.std.specs.Prelude.{◌≡◌, true, map, option_map, IfOk};
-ghost use Rattle.jpql_eval.specs.Data as data_;
-ghost use Rattle.jpql_eval.specs.Seen.{seen};
-ghost use Rattle.jpql_eval.specs.Truths as truths;
-ghost use Rattle.jpql_eval.specs.declared.datum.Datum.{Datum};
+ghost use Rattle.jpql_meaning.specs.eval.Data as data_;
+ghost use Rattle.jpql_meaning.specs.eval.Seen.{seen};
+ghost use Rattle.jpql_meaning.specs.eval.Truths as truths;
+ghost use Rattle.jpql_meaning.specs.declared.eval.datum.Datum.{Datum};
 ghost use Rattle.jpql_run.specs.Ready as ready;
 
-use jpql_eval::{Seen, order};
-use jpql_tree::Comparison;
+use jpql_meaning::eval::{Seen, order};
+use jpql_trees::tree::Comparison;
 use std::alloc::{AllocError, Global};
 
 /// Whether a comparison goes by the order of values.

@@ -2,12 +2,12 @@
 ghost use Rattle.std.specs.Prelude.{List, Option};
 ghost use Rattle.std.specs.List.{AllByRecursion};
 ghost use Rattle.jpa_model.specs.declared.unit.PersistenceUnit.{PersistenceUnit};
-ghost use Rattle.jpa_stored.specs.Sets.{StoredSet};
-ghost use Rattle.jpql_typed.specs.declared.typed.TypedCondition.{TypedCondition};
-ghost use Rattle.jpql_typed.specs.declared.typed.TypedSource.{TypedSource};
-ghost use Rattle.jpql_eval.specs.declared.datum.Datum.{Datum};
-ghost use Rattle.jpql_typed.specs.declared.typed.TypedValue.{TypedValue};
-ghost use Rattle.jpql_plan.specs.Paths.{Entry, Tuple};
+ghost use Rattle.jpa_stored.specs.objects.Sets.{StoredSet};
+ghost use Rattle.jpql_trees.specs.declared.typed.typed.TypedCondition.{TypedCondition};
+ghost use Rattle.jpql_trees.specs.declared.typed.typed.TypedSource.{TypedSource};
+ghost use Rattle.jpql_meaning.specs.declared.eval.datum.Datum.{Datum};
+ghost use Rattle.jpql_trees.specs.declared.typed.typed.TypedValue.{TypedValue};
+ghost use Rattle.jpql_meaning.specs.plan.Paths.{Entry, Tuple};
 ghost use Rattle.jpql_run.specs.Keys.{IsAlwaysTold, IsAnyTold};
 ghost use Rattle.jpql_run.specs.Calm.{CalmLaws};
 ghost use Rattle.jpql_run.specs.ByLink.{LinkLaws};

@@ -1,7 +1,7 @@
 //! Statements run over the set that a transaction sees (Jakarta Persistence 3.1, chapter 4).
 //!
 //! Objects are borrowed from the set, and none is copied while tuples are joined. What is found is
-//! what the definitions of jpql_plan say: the same tuples in the same order, or the same Overflow.
+//! what the definitions of jpql_meaning::plan say: the same tuples in the same order, or the same Overflow.
 #![tactic(auto)]
 
 mod alone;

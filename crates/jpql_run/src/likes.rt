@@ -2,7 +2,7 @@
 //! characters that stand for themselves (chapter 4.6.10).
 ghost use Rattle.std.specs.Prelude.{◌≡◌, ◌∷◌, [], ◌++◌, true, false, IfOk, IfSome};
 ghost use Rattle.jpa_value.specs.declared.value.Value.{Value};
-ghost use Rattle.jpql_typed.specs.declared.typed.TypedCondition.TheVariants as variants;
+ghost use Rattle.jpql_trees.specs.declared.typed.typed.TypedCondition.TheVariants as variants;
 ghost use Rattle.jpql_run.specs.Likes.{CoversBegun, CoversLike, IsBehind, IsFront, IsFrontOf, IsOther, IsPlain};
 ghost use Rattle.jpql_run.specs.Spans as spans;
 ghost use Rattle.jpql_run.specs.Spans.{AsksSpans};
@@ -13,10 +13,10 @@ use crate::run::Run;
 use crate::spans::{alone, cut_at};
 use crate::tuple::Tuple;
 use jpa_model::Member;
-use jpa_ordered::{Cut, Span};
+use jpa_stored::ordered::{Cut, Span};
 use jpa_value::{Text, Value};
-use jpql_eval::Seen;
-use jpql_typed::TypedValue;
+use jpql_meaning::eval::Seen;
+use jpql_trees::typed::TypedValue;
 use std::alloc::{AllocError, Global};
 
 /// Of a longer front these bytes are asked alone: each asks a span of its own.

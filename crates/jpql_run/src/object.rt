@@ -1,11 +1,11 @@
 //! Objects where they stand in a set.
 ghost use Rattle.std.specs.Prelude.{◌≡◌, option_map};
-ghost use Rattle.jpa_stored.specs.Sets.{stored_at};
+ghost use Rattle.jpa_stored.specs.objects.Sets.{stored_at};
 ghost use Rattle.jpa_open.specs.Opened as opened;
 ghost use Rattle.jpql_run.specs.Objects.{entry};
 
 use jpa_open::OpenSet;
-use jpa_stored::Stored;
+use jpa_stored::objects::Stored;
 use jpa_value::Identity;
 
 /// An object of a set, where it stands.

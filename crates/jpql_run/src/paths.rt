@@ -2,9 +2,9 @@
 ghost use Rattle.std.specs.Prelude.{◌≡◌, slice_index_or, option_map, IfOk, IfSome};
 ghost use Rattle.std.specs.Option.{option_copied};
 ghost use Rattle.jpa_value.specs.declared.value.Value.{Value};
-ghost use Rattle.jpql_plan.specs.Paths as paths;
-ghost use Rattle.jpql_eval.specs.declared.datum.Datum.{Datum};
-ghost use Rattle.jpql_eval.specs.Seen.{seen};
+ghost use Rattle.jpql_meaning.specs.plan.Paths as paths;
+ghost use Rattle.jpql_meaning.specs.declared.eval.datum.Datum.{Datum};
+ghost use Rattle.jpql_meaning.specs.eval.Seen.{seen};
 ghost use Rattle.jpql_run.specs.Objects.{entry, entry_of, identities};
 ghost use Rattle.jpql_run.specs.Runs as runs;
 
@@ -14,8 +14,8 @@ use crate::run::Run;
 use crate::tuple::Tuple;
 use jpa_model::Member;
 use jpa_value::{Identity, Value};
-use jpql_eval::{Seen, seen_value};
-use jpql_typed::{Step, TypedPath};
+use jpql_meaning::eval::{Seen, seen_value};
+use jpql_trees::typed::{Step, TypedPath};
 use std::alloc::{AllocError, Global};
 
 #[inline(always)]

@@ -3,15 +3,15 @@
 ghost use Rattle.std.specs.Prelude.{◌≡◌, ◌++◌, ◌∷◌, ℕ, [], map, nat_eq, if◌then◌else◌, IfOk, OnOk};
 ghost use Rattle.std.specs.List.{filter, list_any};
 ghost use Rattle.indexmap.specs.IndexMap.{get};
-ghost use Rattle.jpql_eval.specs.Data as data_;
-ghost use Rattle.jpql_eval.specs.Seen.{seen};
-ghost use Rattle.jpql_eval.specs.declared.datum.Datum.{Datum};
-ghost use Rattle.jpql_plan.specs.Meaning as meaning;
+ghost use Rattle.jpql_meaning.specs.eval.Data as data_;
+ghost use Rattle.jpql_meaning.specs.eval.Seen.{seen};
+ghost use Rattle.jpql_meaning.specs.declared.eval.datum.Datum.{Datum};
+ghost use Rattle.jpql_meaning.specs.plan.Meaning as meaning;
 ghost use Rattle.jpql_run.specs.Ready.{among_rows, has_row, is_printed_as, rows_under};
 
 use crate::prints::print;
 use indexmap::IndexMap;
-use jpql_eval::{Seen, Truth, is_same};
+use jpql_meaning::eval::{Seen, Truth, is_same};
 use std::alloc::{AllocError, Global};
 
 /// Rows by what is printed of them, and whether there are any and a null among them.

@@ -1,16 +1,16 @@
 //! The rows of a nested block that are the same for all tuples, as they are asked for each.
 ghost use Rattle.std.specs.Prelude.{◌≡◌, map, IfOk};
-ghost use Rattle.jpql_tree.specs.declared.Comparison.{Comparison};
-ghost use Rattle.jpql_eval.specs.Data as data_;
-ghost use Rattle.jpql_eval.specs.Seen.{seen};
-ghost use Rattle.jpql_eval.specs.Truths as truths;
-ghost use Rattle.jpql_eval.specs.declared.datum.Datum.{Datum};
+ghost use Rattle.jpql_trees.specs.declared.tree.Comparison.{Comparison};
+ghost use Rattle.jpql_meaning.specs.eval.Data as data_;
+ghost use Rattle.jpql_meaning.specs.eval.Seen.{seen};
+ghost use Rattle.jpql_meaning.specs.eval.Truths as truths;
+ghost use Rattle.jpql_meaning.specs.declared.eval.datum.Datum.{Datum};
 ghost use Rattle.jpql_run.specs.Ready.{IsTold, asked};
 
 use crate::hardest::{hardest, is_ordered, opposite};
 use crate::row_index::RowIndex;
-use jpql_eval::{Failure, Seen, Truth, aggregated, compared, not3, with_all, with_any};
-use jpql_tree::{Against, Comparison};
+use jpql_meaning::eval::{Failure, Seen, Truth, aggregated, compared, not3, with_all, with_any};
+use jpql_trees::tree::{Against, Comparison};
 use std::alloc::{AllocError, Global};
 
 /// Rows that were computed, or what an aggregate gives of them.

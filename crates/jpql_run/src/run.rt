@@ -1,7 +1,7 @@
 //! What a statement is run over.
 use jpa_model::Metamodel;
 use jpa_open::OpenSet;
-use jpql_eval::Datum;
+use jpql_meaning::eval::Datum;
 
 /// What a statement is run over.
 #[derive(Clone, Copy)]

@@ -1,22 +1,22 @@
 //! Tests of values.
 ghost use Rattle.std.specs.Prelude.{◌≡◌, map};
-ghost use Rattle.jpql_eval.specs.Answers.{every, both, under};
-ghost use Rattle.jpql_eval.specs.Data as data_;
-ghost use Rattle.jpql_eval.specs.Calls as calls;
-ghost use Rattle.jpql_eval.specs.Truths as truths;
-ghost use Rattle.jpql_plan.specs.Meaning as meaning;
+ghost use Rattle.jpql_meaning.specs.eval.Answers.{every, both, under};
+ghost use Rattle.jpql_meaning.specs.eval.Data as data_;
+ghost use Rattle.jpql_meaning.specs.eval.Calls as calls;
+ghost use Rattle.jpql_meaning.specs.eval.Truths as truths;
+ghost use Rattle.jpql_meaning.specs.plan.Meaning as meaning;
 ghost use Rattle.jpql_run.specs.Runs as runs;
-ghost use Rattle.jpql_eval.specs.Finds.{Finds, same};
-ghost use Rattle.jpql_eval.specs.Seen.{seen};
+ghost use Rattle.jpql_meaning.specs.eval.Finds.{Finds, same};
+ghost use Rattle.jpql_meaning.specs.eval.Seen.{seen};
 
 use crate::collections::is_member;
 use crate::run::Run;
 use crate::tuple::Tuple;
 use crate::values::value;
 use jpa_value::Text;
-use jpql_eval::{Failure, Seen, Truth, between, compared, like, or3, truth_of};
-use jpql_tree::Comparison;
-use jpql_typed::{TypedPath, TypedValue};
+use jpql_meaning::eval::{Failure, Seen, Truth, between, compared, like, or3, truth_of};
+use jpql_trees::tree::Comparison;
+use jpql_trees::typed::{TypedPath, TypedValue};
 use std::alloc::Global;
 
 /// A comparison.

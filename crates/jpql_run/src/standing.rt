@@ -5,7 +5,7 @@ ghost use Rattle.jpql_run.specs.Standing.{entries};
 
 use crate::run::Run;
 use jpa_open::Shared;
-use jpa_stored::Stored;
+use jpa_stored::objects::Stored;
 use jpa_value::Identity;
 use std::alloc::{AllocError, Global};
 

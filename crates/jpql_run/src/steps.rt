@@ -2,7 +2,7 @@
 ghost use Rattle.std.specs.Prelude.{◌≡◌, true};
 
 use jpa_model::Member;
-use jpql_typed::Step;
+use jpql_trees::typed::Step;
 
 /// Whether two members are the same.
 pub(crate) fn is_same_member(one: Member, other: Member) -> bool

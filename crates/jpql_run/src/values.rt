@@ -1,18 +1,20 @@
 //! What values give for a tuple, or a group of tuples.
 ghost use Rattle.std.specs.Prelude.{◌≡◌, map, slice_index_or};
-ghost use Rattle.jpql_eval.specs.Data as data_;
-ghost use Rattle.jpql_plan.specs.Meaning as meaning;
+ghost use Rattle.jpql_meaning.specs.eval.Data as data_;
+ghost use Rattle.jpql_meaning.specs.plan.Meaning as meaning;
 ghost use Rattle.jpql_run.specs.Runs as runs;
-ghost use Rattle.jpql_eval.specs.Finds.{Finds};
-ghost use Rattle.jpql_eval.specs.Seen.{seen};
+ghost use Rattle.jpql_meaning.specs.eval.Finds.{Finds};
+ghost use Rattle.jpql_meaning.specs.eval.Seen.{seen};
 
 use crate::collections::size;
 use crate::paths::path;
 use crate::run::Run;
 use crate::tuple::Tuple;
-use jpql_eval::{Datum, Failure, Seen, aggregated, applied, arithmetic, seen_datum, signed};
-use jpql_tree::{Aggregate, Function};
-use jpql_typed::TypedValue;
+use jpql_meaning::eval::{
+    Datum, Failure, Seen, aggregated, applied, arithmetic, seen_datum, signed,
+};
+use jpql_trees::tree::{Aggregate, Function};
+use jpql_trees::typed::TypedValue;
 use std::alloc::Global;
 
 fn parameter<'a>(parameters: &'a [Datum], place: usize) -> Seen<'a>

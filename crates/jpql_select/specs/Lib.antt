@@ -1,9 +1,2 @@
-pub mod Cases
-pub mod Groups
-pub mod Selects
-pub mod Short
-pub mod Keys
-pub mod Rows
-pub mod Sortings
-pub mod Tables
-pub mod Tallies
+pub mod select
+pub mod first

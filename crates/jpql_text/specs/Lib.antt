@@ -1,2 +1,2 @@
-pub mod Answers
-pub mod Together
+pub mod text
+pub mod shapes

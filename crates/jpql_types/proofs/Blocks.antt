@@ -3,16 +3,16 @@ use Rattle.std.proofs.Common.{rules, ◌≡◌, refl, ◌∙◌, ap, Bool, List,
 use Rattle.std.specs.Prelude.{if◌then◌else◌}
 use Rattle.jpa_model.specs.WellFormed.{if_some}
 use Rattle.jpa_model.specs.declared.unit.PersistenceUnit.{PersistenceUnit}
-use Rattle.jpql_tree.specs.declared.Path.{Path}
-use Rattle.jpql_tree.specs.declared.Condition.TheViews.{out-Block}
-use Rattle.jpql_tree.specs.declared.Condition.TheFolds as condition
-use Rattle.jpql_tree.specs.declared.Block.{Block}
-use Rattle.jpql_tree.specs.Names.{Text}
-use Rattle.jpql_tree.specs.Steps.{◌>>=◌}
+use Rattle.jpql_trees.specs.declared.tree.Path.{Path}
+use Rattle.jpql_trees.specs.declared.tree.Condition.TheViews.{out-Block}
+use Rattle.jpql_trees.specs.declared.tree.Condition.TheFolds as condition
+use Rattle.jpql_trees.specs.declared.tree.Block.{Block}
+use Rattle.jpql_trees.specs.tree.Names.{Text}
+use Rattle.jpql_trees.specs.tree.Steps.{◌>>=◌}
 use Rattle.jpql_types.specs.declared.scope.Clause.{Clause}
 use Rattle.jpql_types.specs.declared.sort.Sort.{Sort}
 use Rattle.jpql_types.specs.Scope.{Scope}
-use Rattle.jpql_typed.specs.declared.typed.TypedBlock.{roll-TypedBlock}
+use Rattle.jpql_trees.specs.declared.typed.typed.TypedBlock.{roll-TypedBlock}
 use Rattle.jpql_types.specs.Typing as typing
 use Rattle.jpql_types.specs.Trees as trees
 

@@ -12,9 +12,9 @@ use Rattle.std.specs.declared.cmp.Ordering.TheVariants as o
 use Rattle.std.proofs.lemmas.Map.Text.{is_eq-slice_cmp}
 use lib.Pointwise.{pointwise}
 use Rattle.jpa_model.specs.Chains.{same_name}
-use Rattle.jpql_tree.specs.declared.Item.{Item}
-use Rattle.jpql_tree.specs.declared.Path.{Path}
-use Rattle.jpql_tree.specs.declared.Value.{Value}
+use Rattle.jpql_trees.specs.declared.tree.Item.{Item}
+use Rattle.jpql_trees.specs.declared.tree.Path.{Path}
+use Rattle.jpql_trees.specs.declared.tree.Value.{Value}
 use Rattle.jpql_types.specs.Indexes.{is_path, path_in, Words, words_of, words_cmp, same_words, has_words, words_total}
 use Rattle.jpql_types.specs.Scope.{same_path}
 use Rattle.jpql_types.specs.Statements.{is_kept_by}

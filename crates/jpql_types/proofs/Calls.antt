@@ -2,13 +2,13 @@
 use Rattle.std.proofs.Common.{rules, ◌≡◌, List, map, Option, ◌∙◌, ap}
 use Rattle.std.proofs.lemmas.Simd.{map-map}
 use Rattle.jpa_model.specs.declared.unit.PersistenceUnit.{PersistenceUnit}
-use Rattle.jpql_tree.specs.declared.Function.{Function}
-use Rattle.jpql_tree.specs.declared.Path.{Path}
-use Rattle.jpql_tree.specs.declared.Value.{Value, fold-Value}
-use Rattle.jpql_tree.specs.declared.Value.TheVariants as v
-use Rattle.jpql_tree.specs.declared.Value.TheFolds as value
-use Rattle.jpql_tree.specs.Names.{Text}
-use Rattle.jpql_tree.specs.Steps.{◌>>=◌}
+use Rattle.jpql_trees.specs.declared.tree.Function.{Function}
+use Rattle.jpql_trees.specs.declared.tree.Path.{Path}
+use Rattle.jpql_trees.specs.declared.tree.Value.{Value, fold-Value}
+use Rattle.jpql_trees.specs.declared.tree.Value.TheVariants as v
+use Rattle.jpql_trees.specs.declared.tree.Value.TheFolds as value
+use Rattle.jpql_trees.specs.tree.Names.{Text}
+use Rattle.jpql_trees.specs.tree.Steps.{◌>>=◌}
 use Rattle.jpql_types.specs.declared.scope.Clause.{Clause}
 use Rattle.jpql_types.specs.declared.sort.Sort.{Sort}
 use Rattle.jpql_types.specs.Scope.{Scope}

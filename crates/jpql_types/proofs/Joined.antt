@@ -3,15 +3,15 @@ use Rattle.std.proofs.Common.{rules, ◌≡◌, ◌++◌, Bool, List, map, Optio
 use Rattle.std.specs.List.{flat_map, list_any}
 use Rattle.std.proofs.lemmas.List.Folds.{flat_map-map}
 use Rattle.jpa_model.proofs.Distinct.{list_any-map}
-use Rattle.jpql_tree.specs.declared.Function.{Function}
-use Rattle.jpql_tree.specs.declared.Value.{Value}
-use Rattle.jpql_tree.specs.declared.Value.TheVariants as v
-use Rattle.jpql_tree.specs.declared.Value.TheFolds as value
-use Rattle.jpql_tree.specs.declared.Condition.{Condition}
-use Rattle.jpql_tree.specs.declared.Condition.TheFolds as condition
-use Rattle.jpql_tree.specs.declared.Block.{Block, out-Block}
-use Rattle.jpql_tree.specs.declared.Source.{Source, out-Source}
-use Rattle.jpql_tree.specs.Names.{Text}
+use Rattle.jpql_trees.specs.declared.tree.Function.{Function}
+use Rattle.jpql_trees.specs.declared.tree.Value.{Value}
+use Rattle.jpql_trees.specs.declared.tree.Value.TheVariants as v
+use Rattle.jpql_trees.specs.declared.tree.Value.TheFolds as value
+use Rattle.jpql_trees.specs.declared.tree.Condition.{Condition}
+use Rattle.jpql_trees.specs.declared.tree.Condition.TheFolds as condition
+use Rattle.jpql_trees.specs.declared.tree.Block.{Block, out-Block}
+use Rattle.jpql_trees.specs.declared.tree.Source.{Source, out-Source}
+use Rattle.jpql_trees.specs.tree.Names.{Text}
 use Rattle.jpql_types.specs.declared.names.Names.{Names}
 use Rattle.jpql_types.specs.Names.{joined_lists, or_nothing, of_variable, in_value, in_item, in_condition, in_filter, in_join, in_source, in_block}
 use Rattle.jpql_types.specs.Statements.{has_aggregate, names_variable}

@@ -2,7 +2,7 @@
 use Rattle.std.proofs.Common.{◌≡◌, refl, Bool, false, not, ◌&&◌, ◌||◌, Option, Some, None, Result}
 use Rattle.jpa_model.specs.WellFormed.{is_some_that}
 use Rattle.jpql_types.specs.declared.error.TypingError.{TypingError}
-use Rattle.jpql_typed.specs.declared.path.TypedPath.{TypedPath}
+use Rattle.jpql_trees.specs.declared.typed.path.TypedPath.{TypedPath}
 use Rattle.jpql_types.specs.declared.sort.Sort.{Sort}
 use Rattle.jpql_types.specs.Gives.{IsJudged}
 use Rattle.jpql_types.specs.Sorts.{is_basic}

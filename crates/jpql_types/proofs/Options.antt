@@ -4,7 +4,7 @@ use Rattle.std.specs.Prelude.{unwrap_or, if◌then◌else◌}
 use Rattle.std.specs.List.{AllByRecursion, list_all}
 use Rattle.std.proofs.lemmas.Bool.{and_parts, false≢true}
 use Rattle.jpa_model.specs.WellFormed.{is_some_that, if_some}
-use Rattle.jpql_tree.specs.Steps.{◌>>=◌}
+use Rattle.jpql_trees.specs.tree.Steps.{◌>>=◌}
 use Rattle.jpql_types.specs.Typing.{all_some, pass_both}
 use Rattle.jpql_types.specs.Scope.{when}
 use Rattle.jpql_types.specs.Resolved.{both, if_written}

@@ -7,31 +7,31 @@ use Rattle.std.proofs.lemmas.Bool.{and_parts}
 use Rattle.jpa_model.specs.Chains.{class_of}
 use Rattle.jpa_model.specs.WellFormed.{is_some_that, if_some}
 use Rattle.jpa_model.specs.declared.unit.PersistenceUnit.{PersistenceUnit}
-use Rattle.jpql_tree.specs.declared.Path.{Path}
-use Rattle.jpql_tree.specs.declared.Origin.{Origin}
-use Rattle.jpql_tree.specs.declared.Item.{Item}
-use Rattle.jpql_tree.specs.declared.Condition.{Condition, Condition-F, fold-Condition}
-use Rattle.jpql_tree.specs.declared.Condition.TheOpen as test
-use Rattle.jpql_tree.specs.declared.Condition.TheOpen.{Block-F, Join-F, Source-F}
-use Rattle.jpql_tree.specs.declared.Condition.TheFolds as folds
-use Rattle.jpql_tree.specs.declared.Condition.TheViews.{roll-Condition, roll-Block, roll-Join, roll-Source}
-use Rattle.jpql_tree.specs.declared.Block.{Block}
-use Rattle.jpql_tree.specs.declared.Join.{Join}
-use Rattle.jpql_tree.specs.declared.Source.{Source}
-use Rattle.jpql_tree.specs.declared.Value.{Value}
-use Rattle.jpql_tree.specs.Names.{Text}
-use Rattle.jpql_tree.specs.Steps.{◌>>=◌}
-use Rattle.jpql_typed.specs.declared.path.Step.{Step}
-use Rattle.jpql_typed.specs.declared.path.TypedPath.{TypedPath}
+use Rattle.jpql_trees.specs.declared.tree.Path.{Path}
+use Rattle.jpql_trees.specs.declared.tree.Origin.{Origin}
+use Rattle.jpql_trees.specs.declared.tree.Item.{Item}
+use Rattle.jpql_trees.specs.declared.tree.Condition.{Condition, Condition-F, fold-Condition}
+use Rattle.jpql_trees.specs.declared.tree.Condition.TheOpen as test
+use Rattle.jpql_trees.specs.declared.tree.Condition.TheOpen.{Block-F, Join-F, Source-F}
+use Rattle.jpql_trees.specs.declared.tree.Condition.TheFolds as folds
+use Rattle.jpql_trees.specs.declared.tree.Condition.TheViews.{roll-Condition, roll-Block, roll-Join, roll-Source}
+use Rattle.jpql_trees.specs.declared.tree.Block.{Block}
+use Rattle.jpql_trees.specs.declared.tree.Join.{Join}
+use Rattle.jpql_trees.specs.declared.tree.Source.{Source}
+use Rattle.jpql_trees.specs.declared.tree.Value.{Value}
+use Rattle.jpql_trees.specs.tree.Names.{Text}
+use Rattle.jpql_trees.specs.tree.Steps.{◌>>=◌}
+use Rattle.jpql_trees.specs.declared.typed.path.Step.{Step}
+use Rattle.jpql_trees.specs.declared.typed.path.TypedPath.{TypedPath}
 use Rattle.jpql_types.specs.declared.scope.Clause.{Clause}
 use Rattle.jpql_types.specs.declared.sort.Sort.{Sort}
-use Rattle.jpql_typed.specs.declared.typed.TypedValue.{TypedValue}
-use Rattle.jpql_typed.specs.declared.typed.TypedCondition.{TypedCondition}
-use Rattle.jpql_typed.specs.declared.typed.TypedCondition.TheVariants as is
-use Rattle.jpql_typed.specs.declared.typed.TypedOrigin.{TypedOrigin}
-use Rattle.jpql_typed.specs.declared.typed.TypedSource.{TypedSource, roll-TypedSource}
-use Rattle.jpql_typed.specs.declared.typed.TypedJoin.{TypedJoin, roll-TypedJoin}
-use Rattle.jpql_typed.specs.declared.typed.TypedBlock.{TypedBlock, roll-TypedBlock}
+use Rattle.jpql_trees.specs.declared.typed.typed.TypedValue.{TypedValue}
+use Rattle.jpql_trees.specs.declared.typed.typed.TypedCondition.{TypedCondition}
+use Rattle.jpql_trees.specs.declared.typed.typed.TypedCondition.TheVariants as is
+use Rattle.jpql_trees.specs.declared.typed.typed.TypedOrigin.{TypedOrigin}
+use Rattle.jpql_trees.specs.declared.typed.typed.TypedSource.{TypedSource, roll-TypedSource}
+use Rattle.jpql_trees.specs.declared.typed.typed.TypedJoin.{TypedJoin, roll-TypedJoin}
+use Rattle.jpql_trees.specs.declared.typed.typed.TypedBlock.{TypedBlock, roll-TypedBlock}
 use Rattle.jpql_types.specs.Scope.{Scope, when, is_new, place_of, path_of, step_from, target, resolved}
 use Rattle.jpql_types.specs.Sorts.{goes_with, text, joined, joined_basic, sort_against, are_comparable}
 use Rattle.jpql_types.specs.Typing as typing

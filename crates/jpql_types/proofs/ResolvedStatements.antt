@@ -8,29 +8,29 @@ use Rattle.jpa_value.specs.declared.refusal.Argument.{Argument}
 use Rattle.jpa_model.specs.Chains.{class_of, same_name}
 use Rattle.jpa_model.specs.WellFormed.{is_some_that, if_some}
 use Rattle.jpa_model.specs.declared.unit.PersistenceUnit.{PersistenceUnit}
-use Rattle.jpql_tree.specs.declared.Path.{Path}
-use Rattle.jpql_tree.specs.declared.Value.{Value}
-use Rattle.jpql_tree.specs.declared.Item.{Item}
-use Rattle.jpql_tree.specs.declared.Condition.{Condition}
-use Rattle.jpql_tree.specs.declared.Sorted.{Sorted}
-use Rattle.jpql_tree.specs.declared.SortKey.{SortKey}
-use Rattle.jpql_tree.specs.declared.Select.{Select}
-use Rattle.jpql_tree.specs.declared.Assignment.{Assignment}
-use Rattle.jpql_tree.specs.declared.Language.{Language}
-use Rattle.jpql_tree.specs.declared.Query.{Query}
-use Rattle.jpql_tree.specs.Names.{Text}
-use Rattle.jpql_tree.specs.Steps.{◌>>=◌}
-use Rattle.jpql_typed.specs.declared.path.Step.{Step}
-use Rattle.jpql_typed.specs.declared.path.TypedPath.{TypedPath}
+use Rattle.jpql_trees.specs.declared.tree.Path.{Path}
+use Rattle.jpql_trees.specs.declared.tree.Value.{Value}
+use Rattle.jpql_trees.specs.declared.tree.Item.{Item}
+use Rattle.jpql_trees.specs.declared.tree.Condition.{Condition}
+use Rattle.jpql_trees.specs.declared.tree.Sorted.{Sorted}
+use Rattle.jpql_trees.specs.declared.tree.SortKey.{SortKey}
+use Rattle.jpql_trees.specs.declared.tree.Select.{Select}
+use Rattle.jpql_trees.specs.declared.tree.Assignment.{Assignment}
+use Rattle.jpql_trees.specs.declared.tree.Language.{Language}
+use Rattle.jpql_trees.specs.declared.tree.Query.{Query}
+use Rattle.jpql_trees.specs.tree.Names.{Text}
+use Rattle.jpql_trees.specs.tree.Steps.{◌>>=◌}
+use Rattle.jpql_trees.specs.declared.typed.path.Step.{Step}
+use Rattle.jpql_trees.specs.declared.typed.path.TypedPath.{TypedPath}
 use Rattle.jpql_types.specs.declared.sort.Sort.{Sort}
-use Rattle.jpql_typed.specs.declared.typed.Typed.{Typed}
-use Rattle.jpql_typed.specs.declared.typed.TypedSorted.{TypedSorted}
-use Rattle.jpql_typed.specs.declared.typed.TypedKey.{TypedKey}
-use Rattle.jpql_typed.specs.declared.typed.TypedSource.{TypedSource}
-use Rattle.jpql_typed.specs.declared.typed.TypedValue.{TypedValue}
-use Rattle.jpql_typed.specs.declared.typed.TypedCondition.{TypedCondition}
-use Rattle.jpql_typed.specs.declared.typed.TypedSelect.{TypedSelect}
-use Rattle.jpql_typed.specs.declared.typed.TypedAssignment.{TypedAssignment}
+use Rattle.jpql_trees.specs.declared.typed.typed.Typed.{Typed}
+use Rattle.jpql_trees.specs.declared.typed.typed.TypedSorted.{TypedSorted}
+use Rattle.jpql_trees.specs.declared.typed.typed.TypedKey.{TypedKey}
+use Rattle.jpql_trees.specs.declared.typed.typed.TypedSource.{TypedSource}
+use Rattle.jpql_trees.specs.declared.typed.typed.TypedValue.{TypedValue}
+use Rattle.jpql_trees.specs.declared.typed.typed.TypedCondition.{TypedCondition}
+use Rattle.jpql_trees.specs.declared.typed.typed.TypedSelect.{TypedSelect}
+use Rattle.jpql_trees.specs.declared.typed.typed.TypedAssignment.{TypedAssignment}
 use Rattle.jpql_types.specs.Scope.{Scope, path_of, step_from}
 use Rattle.jpql_types.specs.Sorts.{goes_with, is_basic, step_sort}
 use Rattle.jpql_types.specs.Typing.{all_some, value_sort, is_condition_typed, in_turn, source_scope, with_variable, scope_of}

@@ -2,16 +2,16 @@
 use Rattle.std.proofs.Common.{◌≡◌, ◌∙◌, refl, ap, sym, subst, List, [], ◌∷◌, map, Option, Some, option_map}
 use Rattle.std.specs.List.{AllByRecursion}
 use Rattle.jpa_model.specs.declared.unit.PersistenceUnit.{PersistenceUnit}
-use Rattle.jpql_tree.specs.declared.Path.{Path}
-use Rattle.jpql_tree.specs.declared.Value.{Value, Value-F, fold-Value}
-use Rattle.jpql_tree.specs.declared.Value.TheViews.{roll-Value}
-use Rattle.jpql_tree.specs.declared.Value.TheOpen as part
-use Rattle.jpql_tree.specs.declared.Value.TheFolds as tree
-use Rattle.jpql_tree.specs.Names.{Text}
-use Rattle.jpql_tree.specs.Steps.{◌>>=◌}
+use Rattle.jpql_trees.specs.declared.tree.Path.{Path}
+use Rattle.jpql_trees.specs.declared.tree.Value.{Value, Value-F, fold-Value}
+use Rattle.jpql_trees.specs.declared.tree.Value.TheViews.{roll-Value}
+use Rattle.jpql_trees.specs.declared.tree.Value.TheOpen as part
+use Rattle.jpql_trees.specs.declared.tree.Value.TheFolds as tree
+use Rattle.jpql_trees.specs.tree.Names.{Text}
+use Rattle.jpql_trees.specs.tree.Steps.{◌>>=◌}
 use Rattle.jpql_types.specs.declared.sort.Sort.{Sort}
-use Rattle.jpql_typed.specs.declared.typed.TypedValue.{TypedValue}
-use Rattle.jpql_typed.specs.declared.typed.TypedValue.TheVariants as v
+use Rattle.jpql_trees.specs.declared.typed.typed.TypedValue.{TypedValue}
+use Rattle.jpql_trees.specs.declared.typed.typed.TypedValue.TheVariants as v
 use Rattle.jpql_types.specs.Scope.{Scope, path_of, resolved}
 use Rattle.jpql_types.specs.Sorts.{integer, path_sort, collection_class, arithmetic_sort, call_sort, aggregate_sort}
 use Rattle.jpql_types.specs.Typing.{all_some, allows_aggregates, sort_of_path, collection, sort_step, value_sort}

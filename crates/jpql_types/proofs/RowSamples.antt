@@ -1,8 +1,8 @@
 -- Values beside rows of subqueries: which sorts are compared, by samples.
 use Rattle.std.proofs.Common.{◌≡◌, refl, true, false, Some, None}
-use Rattle.jpql_tree.specs.declared.Aggregate.{Aggregate}
-use Rattle.jpql_tree.specs.declared.Against.{Against}
-use Rattle.jpql_tree.specs.declared.Comparison.{Comparison}
+use Rattle.jpql_trees.specs.declared.tree.Aggregate.{Aggregate}
+use Rattle.jpql_trees.specs.declared.tree.Against.{Against}
+use Rattle.jpql_trees.specs.declared.tree.Comparison.{Comparison}
 use Rattle.jpql_types.specs.declared.sort.Sort.{Sort}
 use Rattle.jpql_types.specs.Sorts.{integer, text, sort_against, are_comparable}
 use Rattle.jpql_types.specs.Typing.{pass_both}

@@ -1,7 +1,7 @@
 -- Which names a variable may have, by samples.
 use Rattle.std.proofs.Common.{◌≡◌, refl, true, false, [], ◌∷◌, Some, None}
-use Rattle.jpql_tree.specs.declared.Language.{Language}
-use Rattle.jpql_tree.specs.Names.{Text}
+use Rattle.jpql_trees.specs.declared.tree.Language.{Language}
+use Rattle.jpql_trees.specs.tree.Names.{Text}
 use Rattle.jpql_types.specs.Scope.{Scope, is_new}
 use Rattle.jpql_types.specs.Statements.{are_variables_distinct}
 use Rattle.jpql_types.specs.Typing.{when_new, with_variable}

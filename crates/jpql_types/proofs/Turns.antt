@@ -1,7 +1,7 @@
 -- Elements of FROM in turn: where typing passes each, each means something in the scope that those before it leave.
 use Rattle.std.proofs.Common.{◌≡◌, ◌∙◌, refl, ap, sym, subst, List, [], ◌∷◌, map, Option, Some, None, option_map}
 use Rattle.std.specs.List.{AllByRecursion}
-use Rattle.jpql_tree.specs.Steps.{◌>>=◌}
+use Rattle.jpql_trees.specs.tree.Steps.{◌>>=◌}
 use Rattle.jpql_types.specs.Scope.{Scope}
 use Rattle.jpql_types.specs.Typing.{in_turn}
 use Rattle.jpql_types.specs.Trees as trees

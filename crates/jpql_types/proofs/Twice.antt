@@ -4,7 +4,7 @@ use Rattle.std.specs.List.{list_any}
 use Rattle.std.specs.Str.{bytes_eq}
 use Rattle.std.proofs.lemmas.Map.Text.{is_eq-slice_cmp}
 use Rattle.jpa_model.specs.Chains.{same_name}
-use Rattle.jpql_tree.specs.Names.{Text}
+use Rattle.jpql_trees.specs.tree.Names.{Text}
 use Rattle.jpql_types.specs.Statements.{are_distinct}
 use Rattle.jpql_types.proofs.ByName.{same_either_way}
 

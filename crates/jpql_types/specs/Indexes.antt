@@ -7,9 +7,9 @@ use Rattle.std.specs.Str.{str_to_ascii_lowercase}
 use Rattle.std.specs.declared.cmp.Ordering.{Ordering}
 use Rattle.jpa_model.specs.Chains.{same_name}
 use Rattle.jpa_model.specs.WellFormed.{is_some_that}
-use Rattle.jpql_tree.specs.declared.Path.{Path}
-use Rattle.jpql_tree.specs.declared.Value.{Value}
-use Rattle.jpql_tree.specs.Names.{Text}
+use Rattle.jpql_trees.specs.declared.tree.Path.{Path}
+use Rattle.jpql_trees.specs.declared.tree.Value.{Value}
+use Rattle.jpql_trees.specs.tree.Names.{Text}
 use Rattle.jpql_types.specs.Scope.{same_path}
 
 -- ---- names

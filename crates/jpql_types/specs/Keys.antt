@@ -1,9 +1,9 @@
 -- What a key of ORDER BY is typed beside (chapter 4.10).
 use Rattle.std.specs.Prelude.{◌≡◌, List, map, Some}
 use Rattle.jpa_model.specs.declared.unit.PersistenceUnit.{PersistenceUnit}
-use Rattle.jpql_tree.specs.declared.Item.{Item}
-use Rattle.jpql_tree.specs.declared.Select.{Select}
-use Rattle.jpql_tree.specs.Names.{Text}
+use Rattle.jpql_trees.specs.declared.tree.Item.{Item}
+use Rattle.jpql_trees.specs.declared.tree.Select.{Select}
+use Rattle.jpql_trees.specs.tree.Names.{Text}
 use Rattle.jpql_types.specs.declared.sort.Sort.{Sort}
 use Rattle.jpql_types.specs.Scope.{Scope}
 use Rattle.jpql_types.specs.Statements.{item_sort}

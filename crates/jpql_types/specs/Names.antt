@@ -1,20 +1,20 @@
 -- The names that stand in a statement: its variables, those of its items, its parameters.
 use Rattle.std.specs.Prelude.{List, [], ◌∷◌, ◌++◌, Option, Some, None}
 use Rattle.std.specs.List.{flat_map}
-use Rattle.jpql_tree.specs.declared.Value.{Value, Value-F, fold-Value}
-use Rattle.jpql_tree.specs.declared.Value.TheOpen as part
-use Rattle.jpql_tree.specs.declared.Item.{Item}
-use Rattle.jpql_tree.specs.declared.Assignment.{Assignment}
-use Rattle.jpql_tree.specs.declared.Condition.{Condition, Condition-F, fold-Condition}
-use Rattle.jpql_tree.specs.declared.Condition.TheOpen as test
-use Rattle.jpql_tree.specs.declared.Condition.TheOpen.{Block-F, Join-F, Source-F}
-use Rattle.jpql_tree.specs.declared.Block.{Block, fold-Block}
-use Rattle.jpql_tree.specs.declared.Join.{Join, fold-Join}
-use Rattle.jpql_tree.specs.declared.Source.{Source, fold-Source}
-use Rattle.jpql_tree.specs.declared.Sorted.{Sorted}
-use Rattle.jpql_tree.specs.declared.SortKey.{SortKey}
-use Rattle.jpql_tree.specs.declared.Query.{Query}
-use Rattle.jpql_tree.specs.Names.{Text}
+use Rattle.jpql_trees.specs.declared.tree.Value.{Value, Value-F, fold-Value}
+use Rattle.jpql_trees.specs.declared.tree.Value.TheOpen as part
+use Rattle.jpql_trees.specs.declared.tree.Item.{Item}
+use Rattle.jpql_trees.specs.declared.tree.Assignment.{Assignment}
+use Rattle.jpql_trees.specs.declared.tree.Condition.{Condition, Condition-F, fold-Condition}
+use Rattle.jpql_trees.specs.declared.tree.Condition.TheOpen as test
+use Rattle.jpql_trees.specs.declared.tree.Condition.TheOpen.{Block-F, Join-F, Source-F}
+use Rattle.jpql_trees.specs.declared.tree.Block.{Block, fold-Block}
+use Rattle.jpql_trees.specs.declared.tree.Join.{Join, fold-Join}
+use Rattle.jpql_trees.specs.declared.tree.Source.{Source, fold-Source}
+use Rattle.jpql_trees.specs.declared.tree.Sorted.{Sorted}
+use Rattle.jpql_trees.specs.declared.tree.SortKey.{SortKey}
+use Rattle.jpql_trees.specs.declared.tree.Query.{Query}
+use Rattle.jpql_trees.specs.tree.Names.{Text}
 use Rattle.jpql_types.specs.declared.names.Names.{Names}
 
 -- the names that are there, or none

@@ -4,38 +4,38 @@ use Rattle.std.specs.Prelude.{◌≡◌, ℕ, List, [], ◌∷◌, map, is_some,
 use Rattle.std.specs.List.{position_from}
 use Rattle.jpa_model.specs.Chains.{class_of}
 use Rattle.jpa_model.specs.declared.unit.PersistenceUnit.{PersistenceUnit}
-use Rattle.jpql_tree.specs.declared.Origin.{Origin}
-use Rattle.jpql_tree.specs.declared.Value.{Value, Value-F, fold-Value}
-use Rattle.jpql_tree.specs.declared.Value.TheOpen as part
-use Rattle.jpql_tree.specs.declared.Item.{Item}
-use Rattle.jpql_tree.specs.declared.Condition.{Condition, Condition-F, fold-Condition}
-use Rattle.jpql_tree.specs.declared.Condition.TheOpen as test
-use Rattle.jpql_tree.specs.declared.Condition.TheOpen.{Block-F, Join-F, Source-F}
-use Rattle.jpql_tree.specs.declared.Block.{Block, fold-Block}
-use Rattle.jpql_tree.specs.declared.Join.{Join, fold-Join}
-use Rattle.jpql_tree.specs.declared.Source.{Source, fold-Source}
-use Rattle.jpql_tree.specs.declared.Sorted.{Sorted}
-use Rattle.jpql_tree.specs.declared.SortKey.{SortKey}
-use Rattle.jpql_tree.specs.declared.Select.{Select}
-use Rattle.jpql_tree.specs.declared.Assignment.{Assignment}
-use Rattle.jpql_tree.specs.declared.Language.{Language}
-use Rattle.jpql_tree.specs.declared.Query.{Query}
-use Rattle.jpql_tree.specs.Names.{Text}
-use Rattle.jpql_tree.specs.Steps.{◌>>=◌}
+use Rattle.jpql_trees.specs.declared.tree.Origin.{Origin}
+use Rattle.jpql_trees.specs.declared.tree.Value.{Value, Value-F, fold-Value}
+use Rattle.jpql_trees.specs.declared.tree.Value.TheOpen as part
+use Rattle.jpql_trees.specs.declared.tree.Item.{Item}
+use Rattle.jpql_trees.specs.declared.tree.Condition.{Condition, Condition-F, fold-Condition}
+use Rattle.jpql_trees.specs.declared.tree.Condition.TheOpen as test
+use Rattle.jpql_trees.specs.declared.tree.Condition.TheOpen.{Block-F, Join-F, Source-F}
+use Rattle.jpql_trees.specs.declared.tree.Block.{Block, fold-Block}
+use Rattle.jpql_trees.specs.declared.tree.Join.{Join, fold-Join}
+use Rattle.jpql_trees.specs.declared.tree.Source.{Source, fold-Source}
+use Rattle.jpql_trees.specs.declared.tree.Sorted.{Sorted}
+use Rattle.jpql_trees.specs.declared.tree.SortKey.{SortKey}
+use Rattle.jpql_trees.specs.declared.tree.Select.{Select}
+use Rattle.jpql_trees.specs.declared.tree.Assignment.{Assignment}
+use Rattle.jpql_trees.specs.declared.tree.Language.{Language}
+use Rattle.jpql_trees.specs.declared.tree.Query.{Query}
+use Rattle.jpql_trees.specs.tree.Names.{Text}
+use Rattle.jpql_trees.specs.tree.Steps.{◌>>=◌}
 use Rattle.jpql_types.specs.declared.sort.Sort.{Sort}
-use Rattle.jpql_typed.specs.declared.typed.TypedValue.{TypedValue}
-use Rattle.jpql_typed.specs.declared.typed.TypedValue.TheVariants as v
-use Rattle.jpql_typed.specs.declared.typed.TypedOrigin.{TypedOrigin}
-use Rattle.jpql_typed.specs.declared.typed.TypedCondition.{TypedCondition}
-use Rattle.jpql_typed.specs.declared.typed.TypedCondition.TheVariants as is
-use Rattle.jpql_typed.specs.declared.typed.TypedSource.{TypedSource, roll-TypedSource}
-use Rattle.jpql_typed.specs.declared.typed.TypedJoin.{TypedJoin, roll-TypedJoin}
-use Rattle.jpql_typed.specs.declared.typed.TypedBlock.{TypedBlock, roll-TypedBlock}
-use Rattle.jpql_typed.specs.declared.typed.TypedSorted.{TypedSorted}
-use Rattle.jpql_typed.specs.declared.typed.TypedKey.{TypedKey}
-use Rattle.jpql_typed.specs.declared.typed.TypedSelect.{TypedSelect}
-use Rattle.jpql_typed.specs.declared.typed.TypedAssignment.{TypedAssignment}
-use Rattle.jpql_typed.specs.declared.typed.Typed.{Typed}
+use Rattle.jpql_trees.specs.declared.typed.typed.TypedValue.{TypedValue}
+use Rattle.jpql_trees.specs.declared.typed.typed.TypedValue.TheVariants as v
+use Rattle.jpql_trees.specs.declared.typed.typed.TypedOrigin.{TypedOrigin}
+use Rattle.jpql_trees.specs.declared.typed.typed.TypedCondition.{TypedCondition}
+use Rattle.jpql_trees.specs.declared.typed.typed.TypedCondition.TheVariants as is
+use Rattle.jpql_trees.specs.declared.typed.typed.TypedSource.{TypedSource, roll-TypedSource}
+use Rattle.jpql_trees.specs.declared.typed.typed.TypedJoin.{TypedJoin, roll-TypedJoin}
+use Rattle.jpql_trees.specs.declared.typed.typed.TypedBlock.{TypedBlock, roll-TypedBlock}
+use Rattle.jpql_trees.specs.declared.typed.typed.TypedSorted.{TypedSorted}
+use Rattle.jpql_trees.specs.declared.typed.typed.TypedKey.{TypedKey}
+use Rattle.jpql_trees.specs.declared.typed.typed.TypedSelect.{TypedSelect}
+use Rattle.jpql_trees.specs.declared.typed.typed.TypedAssignment.{TypedAssignment}
+use Rattle.jpql_trees.specs.declared.typed.typed.Typed.{Typed}
 use Rattle.jpql_types.specs.Scope.{Scope, place_of, path_of, step_from, target}
 use Rattle.jpql_types.specs.Typing.{all_some, with_variable, scope_of}
 use Rattle.jpql_types.specs.Statements.{checked}

@@ -8,13 +8,13 @@ use Rattle.jpa_model.specs.Chains.{same_name, member_of, root_of, relations_of, 
 use Rattle.jpa_model.specs.declared.unit.PersistenceUnit.{PersistenceUnit}
 use Rattle.jpa_model.specs.declared.unit.Relation.{Relation}
 use Rattle.jpa_model.specs.declared.unit.Member.{Member}
-use Rattle.jpql_tree.specs.declared.Path.{Path}
-use Rattle.jpql_tree.specs.Names.{Text}
-use Rattle.jpql_tree.specs.Steps.{◌>>=◌}
+use Rattle.jpql_trees.specs.declared.tree.Path.{Path}
+use Rattle.jpql_trees.specs.tree.Names.{Text}
+use Rattle.jpql_trees.specs.tree.Steps.{◌>>=◌}
 use Rattle.jpql_types.specs.declared.scope.Variable.{Variable}
 use Rattle.jpql_types.specs.declared.scope.Clause.{Clause}
-use Rattle.jpql_typed.specs.declared.path.Step.{Step}
-use Rattle.jpql_typed.specs.declared.path.TypedPath.{TypedPath}
+use Rattle.jpql_trees.specs.declared.typed.path.Step.{Step}
+use Rattle.jpql_trees.specs.declared.typed.path.TypedPath.{TypedPath}
 
 -- a value under a condition
 abbrev pub when : {A : Type 0} → Bool → A → Option A

@@ -6,14 +6,14 @@ use Rattle.jpa_value.specs.declared.value.Kind.{Kind}
 use Rattle.jpa_model.specs.Chains.{root_of, root_class, attributes_of}
 use Rattle.jpa_model.specs.declared.unit.PersistenceUnit.{PersistenceUnit}
 use Rattle.jpa_model.specs.declared.unit.Member.{Member}
-use Rattle.jpql_tree.specs.declared.Function.{Function}
-use Rattle.jpql_tree.specs.declared.Against.{Against}
-use Rattle.jpql_tree.specs.declared.Aggregate.{Aggregate}
-use Rattle.jpql_tree.specs.declared.Comparison.{Comparison}
-use Rattle.jpql_tree.specs.Steps.{◌>>=◌}
-use Rattle.jpql_tree.specs.Calls.{takes}
-use Rattle.jpql_typed.specs.declared.path.Step.{Step}
-use Rattle.jpql_typed.specs.declared.path.TypedPath.{TypedPath}
+use Rattle.jpql_trees.specs.declared.tree.Function.{Function}
+use Rattle.jpql_trees.specs.declared.tree.Against.{Against}
+use Rattle.jpql_trees.specs.declared.tree.Aggregate.{Aggregate}
+use Rattle.jpql_trees.specs.declared.tree.Comparison.{Comparison}
+use Rattle.jpql_trees.specs.tree.Steps.{◌>>=◌}
+use Rattle.jpql_trees.specs.tree.Calls.{takes}
+use Rattle.jpql_trees.specs.declared.typed.path.Step.{Step}
+use Rattle.jpql_trees.specs.declared.typed.path.TypedPath.{TypedPath}
 use Rattle.jpql_types.specs.declared.sort.Sort.{Sort}
 use Rattle.jpql_types.specs.Scope.{when, target_of_one, target_of_many}
 

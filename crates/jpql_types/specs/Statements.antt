@@ -8,24 +8,24 @@ use Rattle.jpa_model.specs.Chains.{same_name, class_of, column_of}
 use Rattle.jpa_model.specs.WellFormed.{is_some_that, if_some}
 use Rattle.jpa_model.specs.declared.unit.PersistenceUnit.{PersistenceUnit}
 use Rattle.jpa_model.specs.declared.unit.Member.{Member}
-use Rattle.jpql_tree.specs.declared.Path.{Path}
-use Rattle.jpql_tree.specs.declared.Value.{Value, Value-F, fold-Value}
-use Rattle.jpql_tree.specs.declared.Value.TheOpen as part
-use Rattle.jpql_tree.specs.declared.Item.{Item}
-use Rattle.jpql_tree.specs.declared.Condition.{Condition}
-use Rattle.jpql_tree.specs.declared.Sorted.{Sorted}
-use Rattle.jpql_tree.specs.declared.SortKey.{SortKey}
-use Rattle.jpql_tree.specs.declared.Select.{Select}
-use Rattle.jpql_tree.specs.declared.Assignment.{Assignment}
-use Rattle.jpql_tree.specs.declared.Language.{Language}
-use Rattle.jpql_tree.specs.declared.Query.{Query}
-use Rattle.jpql_tree.specs.Names.{Text}
-use Rattle.jpql_tree.specs.Steps.{◌>>=◌}
+use Rattle.jpql_trees.specs.declared.tree.Path.{Path}
+use Rattle.jpql_trees.specs.declared.tree.Value.{Value, Value-F, fold-Value}
+use Rattle.jpql_trees.specs.declared.tree.Value.TheOpen as part
+use Rattle.jpql_trees.specs.declared.tree.Item.{Item}
+use Rattle.jpql_trees.specs.declared.tree.Condition.{Condition}
+use Rattle.jpql_trees.specs.declared.tree.Sorted.{Sorted}
+use Rattle.jpql_trees.specs.declared.tree.SortKey.{SortKey}
+use Rattle.jpql_trees.specs.declared.tree.Select.{Select}
+use Rattle.jpql_trees.specs.declared.tree.Assignment.{Assignment}
+use Rattle.jpql_trees.specs.declared.tree.Language.{Language}
+use Rattle.jpql_trees.specs.declared.tree.Query.{Query}
+use Rattle.jpql_trees.specs.tree.Names.{Text}
+use Rattle.jpql_trees.specs.tree.Steps.{◌>>=◌}
 use Rattle.jpql_types.specs.declared.names.Names.{Names}
 use Rattle.jpql_types.specs.declared.scope.Clause.{Clause}
-use Rattle.jpql_typed.specs.declared.path.Step.{Step}
+use Rattle.jpql_trees.specs.declared.typed.path.Step.{Step}
 use Rattle.jpql_types.specs.declared.sort.Sort.{Sort}
-use Rattle.jpql_typed.specs.declared.typed.Typed.{Typed}
+use Rattle.jpql_trees.specs.declared.typed.typed.Typed.{Typed}
 use Rattle.jpql_types.specs.Scope.{Scope, same_variable, step_from, relation_of, path_of, same_path}
 use Rattle.jpql_types.specs.Sorts.{goes_with, is_basic, step_sort}
 use Rattle.jpql_types.specs.Names.{names_in}

@@ -6,20 +6,20 @@ use Rattle.std.specs.List.{list_all}
 use Rattle.jpa_model.specs.Chains.{same_name, class_of, root_class}
 use Rattle.jpa_model.specs.WellFormed.{is_some_that, if_some}
 use Rattle.jpa_model.specs.declared.unit.PersistenceUnit.{PersistenceUnit}
-use Rattle.jpql_tree.specs.declared.Path.{Path}
-use Rattle.jpql_tree.specs.declared.Origin.{Origin}
-use Rattle.jpql_tree.specs.declared.Value.{Value, Value-F, fold-Value}
-use Rattle.jpql_tree.specs.declared.Value.TheOpen as part
-use Rattle.jpql_tree.specs.declared.Condition.{Condition, Condition-F, fold-Condition}
-use Rattle.jpql_tree.specs.declared.Condition.TheOpen as test
-use Rattle.jpql_tree.specs.declared.Condition.TheOpen.{Block-F, Join-F, Source-F}
-use Rattle.jpql_tree.specs.declared.Block.{Block, fold-Block}
-use Rattle.jpql_tree.specs.declared.Join.{Join, fold-Join}
-use Rattle.jpql_tree.specs.declared.Source.{Source, fold-Source}
-use Rattle.jpql_tree.specs.Names.{Text}
-use Rattle.jpql_tree.specs.Steps.{◌>>=◌}
+use Rattle.jpql_trees.specs.declared.tree.Path.{Path}
+use Rattle.jpql_trees.specs.declared.tree.Origin.{Origin}
+use Rattle.jpql_trees.specs.declared.tree.Value.{Value, Value-F, fold-Value}
+use Rattle.jpql_trees.specs.declared.tree.Value.TheOpen as part
+use Rattle.jpql_trees.specs.declared.tree.Condition.{Condition, Condition-F, fold-Condition}
+use Rattle.jpql_trees.specs.declared.tree.Condition.TheOpen as test
+use Rattle.jpql_trees.specs.declared.tree.Condition.TheOpen.{Block-F, Join-F, Source-F}
+use Rattle.jpql_trees.specs.declared.tree.Block.{Block, fold-Block}
+use Rattle.jpql_trees.specs.declared.tree.Join.{Join, fold-Join}
+use Rattle.jpql_trees.specs.declared.tree.Source.{Source, fold-Source}
+use Rattle.jpql_trees.specs.tree.Names.{Text}
+use Rattle.jpql_trees.specs.tree.Steps.{◌>>=◌}
 use Rattle.jpql_types.specs.declared.scope.Clause.{Clause}
-use Rattle.jpql_typed.specs.declared.path.TypedPath.{TypedPath}
+use Rattle.jpql_trees.specs.declared.typed.path.TypedPath.{TypedPath}
 use Rattle.jpql_types.specs.declared.sort.Sort.{Sort}
 use Rattle.jpql_types.specs.Scope.{Scope, when, is_new, step_from, target, resolved}
 use Rattle.jpql_types.specs.Sorts.{integer, text, goes_with, joined, joined_basic, call_sort, aggregate_sort}

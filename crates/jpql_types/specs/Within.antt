@@ -1,8 +1,8 @@
 -- Classes that are places of entities, which a metamodel's look-ups ask for.
 use Rattle.std.specs.Prelude.{ℕ, ◌<◌, List, length, All}
 use Rattle.jpa_model.specs.declared.unit.PersistenceUnit.{PersistenceUnit}
-use Rattle.jpql_typed.specs.declared.path.Step.{Step}
-use Rattle.jpql_typed.specs.declared.path.TypedPath.{TypedPath}
+use Rattle.jpql_trees.specs.declared.typed.path.Step.{Step}
+use Rattle.jpql_trees.specs.declared.typed.path.TypedPath.{TypedPath}
 use Rattle.jpql_types.specs.Scope.{Scope}
 
 -- a number is the place of an entity

@@ -17,8 +17,8 @@ use crate::setting::typed_assignments;
 use crate::sort::ParamType;
 use jpa_model::Metamodel;
 use jpa_value::{Argument, Boxed, Cause, Seq, Text};
-use jpql_tree::{Assignment, Condition, Language, Path, Query};
-use jpql_typed::Typed;
+use jpql_trees::tree::{Assignment, Condition, Language, Path, Query};
+use jpql_trees::typed::Typed;
 use std::alloc::{AllocError, Global};
 
 type Filter = Option<Boxed<Condition>>;

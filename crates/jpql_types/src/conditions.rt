@@ -2,7 +2,7 @@
 //! and their trees.
 ghost use Rattle.std.specs.Prelude.{◌≡◌, ◌&&◌, map, IfOk};
 ghost use Rattle.jpa_model.specs.WellFormed.{if_some};
-ghost use Rattle.jpql_tree.specs.declared.Condition.TheOpen as test;
+ghost use Rattle.jpql_trees.specs.declared.tree.Condition.TheOpen as test;
 ghost use Rattle.jpql_types.specs.Gives.{Gives, IsJudged};
 ghost use Rattle.jpql_types.specs.Typing as typing;
 ghost use Rattle.jpql_types.specs.Trees as trees;
@@ -15,8 +15,8 @@ use crate::sort::Sort;
 use crate::values::typed_value;
 use crate::{from, nodes, simple};
 use jpa_value::{Boxed, Seq};
-use jpql_tree::{Against, Block, Comparison, Condition, Join, Source, Value};
-use jpql_typed::{TypedBlock, TypedCondition, TypedJoin, TypedSource};
+use jpql_trees::tree::{Against, Block, Comparison, Condition, Join, Source, Value};
+use jpql_trees::typed::{TypedBlock, TypedCondition, TypedJoin, TypedSource};
 use std::alloc::Global;
 
 fn allows_exists(clause: Clause) -> bool

@@ -3,7 +3,7 @@ use crate::index::{NameIndex, PathIndex};
 use crate::sort::Sort;
 use jpa_model::Metamodel;
 use jpa_value::Text;
-use jpql_tree::Path;
+use jpql_trees::tree::Path;
 
 /// The parameters that are given, each with what it is of.
 pub(crate) type Parameters<'a> = NameIndex<'a, (Text, Sort)>;

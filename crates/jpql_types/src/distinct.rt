@@ -11,7 +11,7 @@ use crate::names::{Names, names_in};
 use crate::paths::is_same_variable;
 use crate::sort::Sort;
 use jpa_value::{Seq, Text};
-use jpql_tree::{Assignment, Language, Query};
+use jpql_trees::tree::{Assignment, Language, Query};
 use std::alloc::{AllocError, Global};
 use std::collections::BTreeSet;
 

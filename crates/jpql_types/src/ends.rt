@@ -8,7 +8,7 @@ use crate::paths::{target_of_many, target_of_one};
 use crate::sort::Sort;
 use jpa_model::{Member, Metamodel};
 use jpa_value::Kind;
-use jpql_typed::{Step, TypedPath};
+use jpql_trees::typed::{Step, TypedPath};
 
 /// What a step leads to, other than a collection.
 pub(crate) fn step_sort(metamodel: &Metamodel, step: Step) -> Option<Sort>

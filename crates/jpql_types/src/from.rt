@@ -12,8 +12,8 @@ use crate::error::TypingError;
 use crate::paths::{is_same_variable, step_from, target};
 use crate::scope::Variable;
 use jpa_value::{Seq, Text};
-use jpql_tree::Origin;
-use jpql_typed::{Step, TypedOrigin};
+use jpql_trees::tree::Origin;
+use jpql_trees::typed::{Step, TypedOrigin};
 use std::alloc::Global;
 
 fn named(alloc: Global, name: &Text, class: usize) -> Result<Variable, TypingError>

@@ -4,7 +4,7 @@ ghost use Rattle.std.specs.List.{list_any};
 ghost use Rattle.jpql_types.specs.Statements as spec;
 
 use crate::scope::Clause;
-use jpql_tree::{Item, Path, Select, SortKey, Sorted, Value};
+use jpql_trees::tree::{Item, Path, Select, SortKey, Sorted, Value};
 
 #[cycle(has_aggregate)]
 fn has_aggregate(value: &Value) -> bool

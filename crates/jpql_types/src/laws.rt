@@ -1,8 +1,8 @@
 //! The law that in a well-typed statement each name means something.
 ghost use Rattle.std.specs.Prelude.{List};
 ghost use Rattle.jpa_model.specs.declared.unit.PersistenceUnit.{PersistenceUnit};
-ghost use Rattle.jpql_tree.specs.declared.Query.{Query};
-ghost use Rattle.jpql_tree.specs.Names.{Text};
+ghost use Rattle.jpql_trees.specs.declared.tree.Query.{Query};
+ghost use Rattle.jpql_trees.specs.tree.Names.{Text};
 ghost use Rattle.jpql_types.specs.declared.sort.Sort.{Sort};
 ghost use Rattle.jpql_types.specs.Resolved.{IsResolved};
 

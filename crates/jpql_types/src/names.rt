@@ -4,7 +4,7 @@ ghost use Rattle.std.specs.List.{flat_map};
 ghost use Rattle.jpql_types.specs.Names as spec;
 
 use jpa_value::{Boxed, Seq, Text};
-use jpql_tree::{
+use jpql_trees::tree::{
     Assignment, Block, Condition, Item, Join, Query, Select, SortKey, Sorted, Source, Value,
 };
 use std::alloc::{AllocError, Global};

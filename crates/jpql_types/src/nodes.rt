@@ -6,8 +6,8 @@ ghost use Rattle.jpql_types.specs.Sorts as sorts;
 use crate::error::TypingError;
 use crate::sort::{Sort, aggregate_sort, arithmetic_sort, call_sort};
 use jpa_value::{Boxed, Seq};
-use jpql_tree::{Aggregate, Arithmetic, Function, Sign};
-use jpql_typed::TypedValue;
+use jpql_trees::tree::{Aggregate, Arithmetic, Function, Sign};
+use jpql_trees::typed::TypedValue;
 use std::alloc::Global;
 
 pub(crate) fn signed(

@@ -19,8 +19,8 @@ use crate::scope::{Clause, Variable};
 use crate::sort::Sort;
 use crate::values::{typed_path, typed_value};
 use jpa_value::{Seq, Text};
-use jpql_tree::{Item, Path, Select, SortKey, Sorted, Value};
-use jpql_typed::{TypedKey, TypedSorted};
+use jpql_trees::tree::{Item, Path, Select, SortKey, Sorted, Value};
+use jpql_trees::typed::{TypedKey, TypedSorted};
 use std::alloc::{AllocError, Global};
 
 /// The items of a SELECT, found by the names and by the paths that they have.

@@ -12,8 +12,8 @@ use crate::error::TypingError;
 use crate::scope::{Clause, Variable};
 use jpa_model::{Member, Metamodel, Part, Relation};
 use jpa_value::{Seq, Text};
-use jpql_tree::Path;
-use jpql_typed::{Step, TypedPath};
+use jpql_trees::tree::Path;
+use jpql_trees::typed::{Step, TypedPath};
 use std::alloc::{AllocError, Global};
 
 /// Whether two names are one.

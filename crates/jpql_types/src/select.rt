@@ -17,8 +17,8 @@ use crate::sort::Sort;
 use crate::values::{typed_path, typed_value};
 use jpa_model::Metamodel;
 use jpa_value::Seq;
-use jpql_tree::{Item, Select};
-use jpql_typed::{TypedPath, TypedSelect, TypedSource, TypedValue};
+use jpql_trees::tree::{Item, Select};
+use jpql_trees::typed::{TypedPath, TypedSelect, TypedSource, TypedValue};
 use std::alloc::Global;
 
 /// An item, and what it is of.

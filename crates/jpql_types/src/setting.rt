@@ -18,8 +18,8 @@ use crate::sort::Sort;
 use crate::values::typed_value;
 use jpa_model::{Member, Metamodel};
 use jpa_value::Seq;
-use jpql_tree::{Assignment, Value};
-use jpql_typed::{Step, TypedAssignment, TypedValue};
+use jpql_trees::tree::{Assignment, Value};
+use jpql_trees::typed::{Step, TypedAssignment, TypedValue};
 use std::alloc::Global;
 
 fn is_settable(metamodel: &Metamodel, step: Step) -> bool

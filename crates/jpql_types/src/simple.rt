@@ -2,7 +2,7 @@
 ghost use Rattle.std.specs.Prelude.{◌≡◌, true, not, length, filter, is_some, map, IfSome, IfOk};
 ghost use Rattle.std.specs.List.{list_all};
 ghost use Rattle.jpa_model.specs.WellFormed.{if_some, is_some_that};
-ghost use Rattle.jpql_tree.specs.declared.Condition.TheOpen as test;
+ghost use Rattle.jpql_trees.specs.declared.tree.Condition.TheOpen as test;
 ghost use Rattle.jpql_types.specs.Gives.{Gives, IsJudged};
 ghost use Rattle.jpql_types.specs.Scope as scopes;
 ghost use Rattle.jpql_types.specs.Sorts as sorts;
@@ -20,8 +20,8 @@ use crate::sort::{
 };
 use crate::values::{typed_collection, typed_value, typed_values, with_value};
 use jpa_value::{Boxed, Seq, Text};
-use jpql_tree::{Against, Comparison, Path, Value};
-use jpql_typed::{TypedBlock, TypedCondition, TypedPath};
+use jpql_trees::tree::{Against, Comparison, Path, Value};
+use jpql_trees::typed::{TypedBlock, TypedCondition, TypedPath};
 use std::alloc::Global;
 
 /// A comparison (chapter 4.6.7).

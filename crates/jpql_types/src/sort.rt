@@ -1,11 +1,11 @@
 //! What values of a query are of, and which go together.
 ghost use Rattle.std.specs.Prelude.{◌≡◌};
 ghost use Rattle.std.specs.List.{list_all};
-ghost use Rattle.jpql_tree.specs.Calls as calls;
+ghost use Rattle.jpql_trees.specs.tree.Calls as calls;
 ghost use Rattle.jpql_types.specs.Sorts as sorts;
 
 use jpa_value::Kind;
-use jpql_tree::{Against, Aggregate, Comparison, Function};
+use jpql_trees::tree::{Against, Aggregate, Comparison, Function};
 
 /// What a value of a query is of (chapter 4.7).
 #[derive(Clone, Copy)]

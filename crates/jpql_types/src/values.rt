@@ -1,6 +1,6 @@
 //! Which values are well typed, what they are of, and their trees.
 ghost use Rattle.std.specs.Prelude.{◌≡◌, map, Some, true, IfOk};
-ghost use Rattle.jpql_tree.specs.declared.Value.TheOpen as part;
+ghost use Rattle.jpql_trees.specs.declared.tree.Value.TheOpen as part;
 ghost use Rattle.jpql_types.specs.Gives.{Gives, IsJudged};
 ghost use Rattle.jpql_types.specs.Scope.{path_of};
 ghost use Rattle.jpql_types.specs.Sorts as sorts;
@@ -16,8 +16,8 @@ use crate::paths::resolved;
 use crate::scope::{Clause, Variable};
 use crate::sort::{INTEGER, Sort, TEXT};
 use jpa_value::{Seq, Text};
-use jpql_tree::{Aggregate, Arithmetic, Function, Path, Sign, Value};
-use jpql_typed::{TypedPath, TypedValue};
+use jpql_trees::tree::{Aggregate, Arithmetic, Function, Path, Sign, Value};
+use jpql_trees::typed::{TypedPath, TypedValue};
 use std::alloc::Global;
 
 fn parameter_sort(parameters: &Parameters<'_>, name: &Text) -> Sort

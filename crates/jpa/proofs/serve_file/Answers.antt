@@ -1,4 +1,4 @@
-use Rattle.jpa_cells_meaning.proofs.Found.{files_in_order}
+use Rattle.jpa_cells.proofs.meaning.Found.{files_in_order}
 use Rattle.jpa.proofs.serve_file.Goals as goal
 
 pub serve-requires : goal.serve-requires

@@ -2,8 +2,8 @@
 
 use crate::open::OpenSet;
 use jpa_model::{Member, Metamodel};
-use jpa_ordered::{Cut, Span, Valued, at_object};
-use jpa_stored::is_kind_of;
+use jpa_stored::objects::is_kind_of;
+use jpa_stored::ordered::{Cut, Span, Valued, at_object};
 use jpa_value::{Cause, Identity, Key, TryCopy, Value, order_values};
 use std::alloc::{AllocError, Global};
 

@@ -5,7 +5,7 @@ ghost use Rattle.jpa_value.specs.declared.refusal.Cause.{Cause};
 use crate::open::OpenSet;
 use crate::values::{columns_with, next_number, values_of};
 use jpa_model::{Member, Metamodel};
-use jpa_ordered::Column;
+use jpa_stored::ordered::Column;
 use jpa_value::Cause;
 
 /// The topmost class of the chain that has a part of the key or an attribute (chapter 2.11).

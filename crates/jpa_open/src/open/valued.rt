@@ -5,7 +5,7 @@ ghost use Rattle.std.specs.List.Sorted.{IsStrictlySortedBy};
 ghost use Rattle.jpa_value.specs.declared.value.Identity.{Identity};
 ghost use Rattle.jpa_value.specs.Value.{same_identity};
 ghost use Rattle.jpa_model.specs.Chains.{is_kind_of as is_of_kind};
-ghost use Rattle.jpa_ordered.specs.Values.{lies_in_any as lies};
+ghost use Rattle.jpa_stored.specs.ordered.Values.{lies_in_any as lies};
 ghost use Rattle.jpa_open.specs.Opened as opened;
 ghost use Rattle.jpa_open.specs.Opened.{lent, lent_ids};
 ghost use Rattle.jpa_open.specs.Valued.{is_valued, passing_under, AreAllThat, ids_passing, lent_cmp};
@@ -13,8 +13,8 @@ ghost use Rattle.jpa_open.specs.Valued.{is_valued, passing_under, AreAllThat, id
 use crate::open::OpenSet;
 use crate::shared::Shared;
 use jpa_model::{Member, Metamodel};
-use jpa_ordered::{Span, lies_in_any};
-use jpa_stored::{Stored, is_kind_of};
+use jpa_stored::objects::{Stored, is_kind_of};
+use jpa_stored::ordered::{Span, lies_in_any};
 use jpa_value::{Identity, is_same_identity, order_identities};
 use std::alloc::{AllocError, Global};
 

@@ -1,6 +1,6 @@
 //! Reads and writes that fail.
 use super::{FIRST_CALLS, FIRST_CELLS, FIRST_REPLIES, joined, run_over};
-use jpa_lines::RunFault;
+use jpa_lines::lines::RunFault;
 use std::alloc::{AllocError, Global};
 use std::io;
 use std::io::{Read, Write};

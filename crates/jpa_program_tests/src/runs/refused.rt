@@ -1,9 +1,9 @@
 //! Calls for which memory is refused.
 use super::{FIRST_CALLS, FIRST_CELLS, FIRST_REPLIES, cells_in, joined, opened};
-use jpa_lines::{read_call, write_reply};
+use jpa_lines::lines::{read_call, write_reply};
 use jpa_protocol::{Call, PersistenceProvider, Reply};
 use jpa_value::{Cause, Refusal};
-use jpql_tree::Language;
+use jpql_trees::tree::Language;
 use std::alloc::Global;
 use std::test::Fail;
 

@@ -2,15 +2,15 @@
 //! and what stands then is what stood before that commit, or after it.
 ghost use Rattle.std.specs.Prelude.{IsTrue, IfOk};
 ghost use Rattle.sqlite_disk.specs.Memory.{memory_is_usable};
-ghost use Rattle.jpa_cells_meaning.specs.Store.{IsOrderedIfFound};
+ghost use Rattle.jpa_cells.specs.meaning.Store.{IsOrderedIfFound};
 
 use super::refused::is_refused_growth;
 use super::stages::{Answered, ORDERS, PERSON, Stage};
 use super::{cells_in, joined, opened_over};
-use jpa_lines::{read_call, write_reply};
+use jpa_lines::lines::{read_call, write_reply};
 use jpa_protocol::PersistenceProvider;
 use jpa_value::Cause;
-use jpql_tree::Language;
+use jpql_trees::tree::Language;
 use sqlite::{Alter, Connection, Error, ErrorCode, Files, Options};
 use sqlite_disk::{Disk, Fuse, Memory};
 use std::alloc::{AllocError, Global};

@@ -8,7 +8,7 @@ ghost use Rattle.jpql_types.specs.Indexes.{has_name};
 
 use crate::sort::Sort;
 use jpa_value::Text;
-use jpql_tree::Item;
+use jpql_trees::tree::Item;
 use std::alloc::{AllocError, Global};
 use std::collections::BTreeMap;
 use std::marker::Model;

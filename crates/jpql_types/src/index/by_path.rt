@@ -3,12 +3,12 @@ ghost use Rattle.std.specs.Prelude.{◌≡◌, List, ℕ, Option, Some, IfOk};
 ghost use Rattle.std.specs.BTreeSet.{contains};
 ghost use Rattle.std.specs.List.{list_any};
 ghost use Rattle.std.specs.Option.{option_copied};
-ghost use Rattle.jpql_tree.specs.declared.Path.{Path};
+ghost use Rattle.jpql_trees.specs.declared.tree.Path.{Path};
 ghost use Rattle.jpql_types.specs.Indexes.{is_path, path_in, has_words, words_cmp};
 
 use crate::index::path_key::PathKey;
 use jpa_value::Text;
-use jpql_tree::{Item, Path, Value};
+use jpql_trees::tree::{Item, Path, Value};
 use std::alloc::{AllocError, Global};
 use std::collections::BTreeSet;
 use std::marker::Model;

@@ -1,5 +1,5 @@
 use Rattle.std.proofs.Common.{◌≡◌, drop}
-use Rattle.jpa_context.specs.Undo.{now}
+use Rattle.jpa_work.specs.context.Undo.{now}
 use Rattle.jpa_asked.specs.Asking.{arguments_of}
 use Rattle.jpa_asked.proofs.Bound.{before}
 use Rattle.jpa_asked.proofs.parameters.arguments_of.Given as goal

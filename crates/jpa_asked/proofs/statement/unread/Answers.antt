@@ -1,5 +1,5 @@
 use Rattle.std.proofs.Common.{subst}
-use Rattle.jpql_text.specs.Answers.{IsRefused}
+use Rattle.jpql_text.specs.text.Answers.{IsRefused}
 use Rattle.jpa_asked.proofs.Read.{read_argument, read_refused, not_argument}
 use Rattle.jpa_asked.proofs.statement.unread.Goals as goal
 

@@ -1,7 +1,7 @@
 use Rattle.std.proofs.Common.{◌≡◌, drop}
 use Rattle.std.specs.List.{find}
-use Rattle.jpa_heap.specs.Objects.{identity_of, object_at}
-use Rattle.jpa_context.specs.Work.{has_identity}
+use Rattle.jpa_work.specs.heap.Objects.{identity_of, object_at}
+use Rattle.jpa_work.specs.context.Work.{has_identity}
 use Rattle.jpa_cascade.proofs.context.first_named.Given as goal
 
 -- what was passed is another's

@@ -1,6 +1,6 @@
 use Rattle.std.proofs.Common.{rules}
-use Rattle.jpa_context.specs.Undo.{now}
-use Rattle.jpa_context.proofs.Found.{instance_near}
+use Rattle.jpa_work.specs.context.Undo.{now}
+use Rattle.jpa_work.proofs.context.Found.{instance_near}
 use Rattle.jpa_cascade.proofs.context.instance.Goals as goal
 
 -- the first of those near the key is the first of all

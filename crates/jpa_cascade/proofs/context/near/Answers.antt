@@ -1,6 +1,6 @@
 use Rattle.std.proofs.Common.{rules, ◌<◌, length}
-use Rattle.jpa_context.specs.Undo.{now}
-use Rattle.jpa_context.proofs.Found.{near_within}
+use Rattle.jpa_work.specs.context.Undo.{now}
+use Rattle.jpa_work.proofs.context.Found.{near_within}
 use Rattle.jpa_cascade.proofs.context.near.Goals as goal
 
 pub returns-clause-within : goal.returns-clause-within

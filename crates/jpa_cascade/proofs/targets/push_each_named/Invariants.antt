@@ -1,5 +1,5 @@
 use Rattle.std.proofs.Common.{◌≡◌, ◌++◌, drop}
-use Rattle.jpa_context.specs.Undo.{now}
+use Rattle.jpa_work.specs.context.Undo.{now}
 use Rattle.jpa_cascade.specs.Waves.{nodes_of}
 use Rattle.jpa_cascade.proofs.targets.push_each_named.Given as goal
 

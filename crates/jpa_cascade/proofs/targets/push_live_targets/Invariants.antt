@@ -1,8 +1,8 @@
 use Rattle.std.proofs.Common.{◌≡◌, ◌++◌, drop}
 use Rattle.std.specs.List.{flat_map, enumerate_from}
 use Rattle.jpa_model.specs.Chains.{relations_of}
-use Rattle.jpa_context.specs.Undo.{now}
-use Rattle.jpa_context.specs.Work.{object}
+use Rattle.jpa_work.specs.context.Undo.{now}
+use Rattle.jpa_work.specs.context.Work.{object}
 use Rattle.jpa_cascade.specs.Waves.{live_targets_along}
 use Rattle.jpa_cascade.proofs.targets.push_live_targets.Given as goal
 

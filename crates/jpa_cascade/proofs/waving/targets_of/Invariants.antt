@@ -1,6 +1,6 @@
 use Rattle.std.proofs.Common.{◌≡◌, ◌++◌, drop}
 use Rattle.std.specs.List.{flat_map}
-use Rattle.jpa_context.specs.Undo.{now}
+use Rattle.jpa_work.specs.context.Undo.{now}
 use Rattle.jpa_cascade.specs.Waves.{targets}
 use Rattle.jpa_cascade.proofs.waving.targets_of.Given as goal
 

@@ -1,5 +1,5 @@
 use Rattle.std.proofs.Common.{◌≡◌, [], ◌∷◌, ◌+◌, ◌-◌, ◌^◌, ◌≤◌, ℕ, take, drop, length}
-use Rattle.jpa_context.specs.Undo.{now}
+use Rattle.jpa_work.specs.context.Undo.{now}
 use Rattle.jpa_cascade.specs.declared.Node.{Node}
 use Rattle.jpa_cascade.specs.Order.{AreSeen}
 use Rattle.jpa_cascade.specs.Waves.{targets, waves_by}

@@ -2,7 +2,7 @@ use Rattle.std.proofs.Common.{◌∙◌, ap, sym}
 use Rattle.std.specs.List.{list_all}
 use Rattle.std.specs.Option.{option_map}
 use Rattle.jpa_value.specs.declared.refusal.Cause.{Cause}
-use Rattle.jpa_stored.specs.Sets.{first_fault}
+use Rattle.jpa_stored.specs.objects.Sets.{first_fault}
 use Rattle.jpa_open.specs.Opened.{now}
 use Rattle.jpa_constraints.specs.Judged.{leads, is_alone}
 use Rattle.jpa_constraints.proofs.Sound.{fault_same}

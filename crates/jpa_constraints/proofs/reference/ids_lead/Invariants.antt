@@ -1,6 +1,6 @@
 use Rattle.std.proofs.Common.{◌≡◌, true, take}
 use Rattle.std.specs.List.{list_all}
-use Rattle.jpa_stored.specs.Sets.{is_of, stored_at}
+use Rattle.jpa_stored.specs.objects.Sets.{is_of, stored_at}
 use Rattle.jpa_open.specs.Opened.{now}
 use Rattle.jpa_constraints.proofs.reference.ids_lead.Given as goal
 

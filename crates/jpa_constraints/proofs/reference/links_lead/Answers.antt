@@ -1,5 +1,5 @@
 use Rattle.std.proofs.Common.{sym, ◌∙◌, drop}
-use Rattle.jpa_stored.proofs.Zips.{all_end}
+use Rattle.jpa_stored.proofs.objects.Zips.{all_end}
 use Rattle.jpa_constraints.proofs.reference.links_lead.Goals as goal
 
 pub returns : goal.returns

@@ -2,8 +2,8 @@ use Rattle.std.proofs.Common.{◌∙◌, ap, sym, not, Bool}
 use Rattle.std.specs.List.{list_all}
 use Rattle.std.proofs.lemmas.List.Folds.{list_all-map}
 use Rattle.jpa_value.specs.declared.value.Identity.{Identity}
-use Rattle.jpa_stored.specs.declared.claims.Claim.{Claim}
-use Rattle.jpa_stored.specs.Sets.{claims_at}
+use Rattle.jpa_stored.specs.declared.objects.claims.Claim.{Claim}
+use Rattle.jpa_stored.specs.objects.Sets.{claims_at}
 use Rattle.jpa_open.specs.Leads.{has_rival}
 use Rattle.jpa_open.specs.Opened.{now}
 use Rattle.jpa_constraints.proofs.unique.link_alone.Goals as goal

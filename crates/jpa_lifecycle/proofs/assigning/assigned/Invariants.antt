@@ -1,5 +1,5 @@
 use Rattle.std.proofs.Common.{◌≡◌, drop}
-use Rattle.jpa_heap.specs.Shape.{HasShape}
+use Rattle.jpa_work.specs.heap.Shape.{HasShape}
 use Rattle.jpa_lifecycle.specs.Callbacks.{assigned}
 use Rattle.jpa_lifecycle.proofs.assigning.assigned.Given as goal
 

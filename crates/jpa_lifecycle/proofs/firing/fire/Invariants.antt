@@ -1,6 +1,6 @@
 use Rattle.std.proofs.Common.{◌≡◌, take, drop}
 use Rattle.jpa_behaviour.specs.Served.{world_of_unit}
-use Rattle.jpa_heap.specs.Shape.{HasShape}
+use Rattle.jpa_work.specs.heap.Shape.{HasShape}
 use Rattle.jpa_lifecycle.specs.Callbacks.{fired_by}
 use Rattle.jpa_lifecycle.proofs.Turns.{behind}
 use Rattle.jpa_lifecycle.proofs.firing.fire.Given as goal

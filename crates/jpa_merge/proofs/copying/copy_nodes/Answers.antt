@@ -1,8 +1,8 @@
 use Rattle.std.proofs.Common.{◌∙◌, sym}
 use Rattle.std.proofs.lemmas.List.{get_or_default}
 use Rattle.jpa_behaviour.specs.Served.{world_of_unit}
-use Rattle.jpa_context.specs.Undo.{now}
-use Rattle.jpa_fetch.proofs.Grown.{grown_on}
+use Rattle.jpa_work.specs.context.Undo.{now}
+use Rattle.jpa_operations.proofs.fetch.Grown.{grown_on}
 use Rattle.jpa_merge.specs.Merge.{copy_node}
 use Rattle.jpa_merge.proofs.Passes.{next_done}
 use Rattle.jpa_merge.proofs.copying.copy_nodes.Goals as goal

@@ -1,8 +1,8 @@
 use Rattle.std.proofs.Common.{◌≡◌, drop}
 use Rattle.jpa_behaviour.specs.Served.{world_of_unit}
-use Rattle.jpa_context.specs.Steps.{each}
-use Rattle.jpa_context.specs.Undo.{now, since}
-use Rattle.jpa_fetch.specs.Grown.{HasGrown, IsReady}
+use Rattle.jpa_work.specs.context.Steps.{each}
+use Rattle.jpa_work.specs.context.Undo.{now, since}
+use Rattle.jpa_operations.specs.fetch.Grown.{HasGrown, IsReady}
 use Rattle.jpa_merge.specs.Merge.{copy_node}
 use Rattle.jpa_merge.proofs.copying.copy_nodes.Given as goal
 

@@ -5,14 +5,14 @@ use Rattle.std.proofs.lemmas.List.{get_or_default}
 use Rattle.jpa_model.specs.declared.unit.Relation.{Relation}
 use Rattle.jpa_model.specs.Chains.{relations_of}
 use Rattle.jpa_behaviour.specs.Served.{world_of_unit}
-use Rattle.jpa_heap.specs.declared.LiveObject.{LiveObject}
-use Rattle.jpa_heap.specs.Objects.{no_object}
-use Rattle.jpa_context.specs.declared.work.UnitOfWork.{UnitOfWork}
-use Rattle.jpa_context.specs.Steps.{Done, done, each}
-use Rattle.jpa_context.specs.Undo.{now, since}
-use Rattle.jpa_context.specs.Work.{object}
-use Rattle.jpa_fetch.specs.Grown.{HasGrown, IsReady}
-use Rattle.jpa_fetch.proofs.Grown.{grown_on}
+use Rattle.jpa_work.specs.declared.heap.LiveObject.{LiveObject}
+use Rattle.jpa_work.specs.heap.Objects.{no_object}
+use Rattle.jpa_work.specs.declared.context.work.UnitOfWork.{UnitOfWork}
+use Rattle.jpa_work.specs.context.Steps.{Done, done, each}
+use Rattle.jpa_work.specs.context.Undo.{now, since}
+use Rattle.jpa_work.specs.context.Work.{object}
+use Rattle.jpa_operations.specs.fetch.Grown.{HasGrown, IsReady}
+use Rattle.jpa_operations.proofs.fetch.Grown.{grown_on}
 use Rattle.jpa_merge.specs.Merge.{copy_at, copy_relation, takes}
 use Rattle.jpa_merge.proofs.Passes.{place_done}
 use Rattle.jpa_merge.proofs.copying.copy_relations.Goals as goal

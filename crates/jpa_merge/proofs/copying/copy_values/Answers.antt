@@ -1,12 +1,12 @@
 use Rattle.std.proofs.Common.{◌≡◌, ◌∙◌, List, ap, sym, subst, get_or, rules}
 use Rattle.std.specs.Prelude.{slice_set}
 use Rattle.std.proofs.lemmas.List.{get_or_default}
-use Rattle.jpa_heap.specs.declared.LiveObject.{LiveObject}
-use Rattle.jpa_heap.specs.Objects.{no_object}
-use Rattle.jpa_context.specs.Steps.{Done}
-use Rattle.jpa_context.specs.Undo.{now}
-use Rattle.jpa_context.specs.Work.{object}
-use Rattle.jpa_fetch.specs.Grown.{HasGrown, IsReady}
+use Rattle.jpa_work.specs.declared.heap.LiveObject.{LiveObject}
+use Rattle.jpa_work.specs.heap.Objects.{no_object}
+use Rattle.jpa_work.specs.context.Steps.{Done}
+use Rattle.jpa_work.specs.context.Undo.{now}
+use Rattle.jpa_work.specs.context.Work.{object}
+use Rattle.jpa_operations.specs.fetch.Grown.{HasGrown, IsReady}
 use Rattle.jpa_merge.proofs.Kept.{values_grown, values_ready}
 use Rattle.jpa_merge.proofs.copying.copy_values.Goals as goal
 

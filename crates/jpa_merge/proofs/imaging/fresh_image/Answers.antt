@@ -1,17 +1,17 @@
 use Rattle.std.proofs.Common.{◌≡◌, ◌∙◌, true, false, List, ap, sym, subst, get_or, rules, arith}
 use Rattle.std.specs.Prelude.{is_some}
 use Rattle.std.proofs.lemmas.List.{get_or_default}
-use Rattle.jpa_heap.specs.declared.LiveObject.{LiveObject}
-use Rattle.jpa_heap.specs.Objects.{no_object}
+use Rattle.jpa_work.specs.declared.heap.LiveObject.{LiveObject}
+use Rattle.jpa_work.specs.heap.Objects.{no_object}
 use Rattle.jpa_behaviour.specs.Behaviour.{World}
-use Rattle.jpa_context.specs.Steps.{Done}
-use Rattle.jpa_context.specs.Undo.{now}
-use Rattle.jpa_context.specs.Work.{object}
-use Rattle.jpa_fetch.specs.Grown.{IsReady}
+use Rattle.jpa_work.specs.context.Steps.{Done}
+use Rattle.jpa_work.specs.context.Undo.{now}
+use Rattle.jpa_work.specs.context.Work.{object}
+use Rattle.jpa_operations.specs.fetch.Grown.{IsReady}
 use Rattle.jpa_merge.specs.Merge.{fresh_image, with_fresh}
 use Rattle.jpa_merge.proofs.Fresh.{changed, fresh_done, fresh_imaged, fresh_ready, fresh_grown}
-use Rattle.jpa_fetch.proofs.Grown.{grown_on}
-use Rattle.jpa_fetch.specs.Grown.{HasGrown}
+use Rattle.jpa_operations.proofs.fetch.Grown.{grown_on}
+use Rattle.jpa_operations.specs.fetch.Grown.{HasGrown}
 use Rattle.jpa_merge.proofs.imaging.fresh_image.Goals as goal
 
 pub become_managed-requires : goal.become_managed-requires

@@ -1,10 +1,10 @@
 use Rattle.std.proofs.Common.{◌≡◌, ◌∙◌, List, ap, sym, get_or, None, rules}
 use Rattle.std.proofs.lemmas.List.{get_or_default}
 use Rattle.jpa_behaviour.specs.Served.{world_of_unit}
-use Rattle.jpa_heap.specs.declared.LiveObject.{LiveObject}
-use Rattle.jpa_heap.specs.Objects.{identity_of, no_object}
-use Rattle.jpa_context.specs.Undo.{now}
-use Rattle.jpa_context.specs.Work.{identity_at, object}
+use Rattle.jpa_work.specs.declared.heap.LiveObject.{LiveObject}
+use Rattle.jpa_work.specs.heap.Objects.{identity_of, no_object}
+use Rattle.jpa_work.specs.context.Undo.{now}
+use Rattle.jpa_work.specs.context.Work.{identity_at, object}
 use Rattle.jpa_merge.proofs.Sought.{images_unnamed}
 use Rattle.jpa_merge.proofs.imaging.image_elsewhere.Goals as goal
 

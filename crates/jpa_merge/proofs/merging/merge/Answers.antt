@@ -1,12 +1,12 @@
 use Rattle.std.proofs.Common.{◌≡◌, ◌∙◌, ◌<◌, arith, length, ap, sym, subst, List}
 use Rattle.std.specs.Prelude.{All}
-use Rattle.jpa_context.specs.Undo.{now}
+use Rattle.jpa_work.specs.context.Undo.{now}
 use Rattle.jpa_cascade.specs.declared.Node.{Node}
 use Rattle.jpa_cascade.specs.declared.Operation.{Operation}
 use Rattle.jpa_cascade.specs.There.{IsThere}
 use Rattle.jpa_cascade.proofs.There.{waves_are_there}
-use Rattle.jpa_fetch.proofs.Grown.{grown_on}
-use Rattle.jpa_ops.proofs.Ready.{linked_within}
+use Rattle.jpa_operations.proofs.fetch.Grown.{grown_on}
+use Rattle.jpa_operations.proofs.ops.Ready.{linked_within}
 use Rattle.jpa_merge.specs.Merge.{first_image}
 use Rattle.jpa_merge.proofs.Found.{first_there}
 use Rattle.jpa_merge.proofs.Kept.{are_imaged_on}

@@ -1,7 +1,7 @@
 use Rattle.std.proofs.Common.{rules}
 use Rattle.jpa_value.specs.declared.event.LifecycleEvent.{LifecycleEvent}
 use Rattle.jpa_behaviour.specs.Served.{world_of_unit}
-use Rattle.jpa_context.specs.Undo.{now}
+use Rattle.jpa_work.specs.context.Undo.{now}
 use Rattle.jpa_merge.proofs.Kept.{told_from}
 use Rattle.jpa_merge.proofs.merging.pre_persist_fresh.Goals as goal
 

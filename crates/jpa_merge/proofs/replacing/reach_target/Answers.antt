@@ -2,7 +2,7 @@ use Rattle.std.proofs.Common.{sym, rules}
 use Rattle.jpa_value.specs.declared.refusal.Cause.{Cause}
 use Rattle.jpa_value.specs.declared.refusal.State.{State}
 use Rattle.jpa_behaviour.specs.Served.{world_of_unit}
-use Rattle.jpa_context.specs.Undo.{now}
+use Rattle.jpa_work.specs.context.Undo.{now}
 use Rattle.jpa_merge.proofs.Sought.{reaches_row}
 use Rattle.jpa_merge.proofs.replacing.reach_target.Goals as goal
 

@@ -1,10 +1,10 @@
 use Rattle.std.proofs.Common.{◌≡◌, ◌<◌, drop, length}
 use Rattle.std.specs.Prelude.{All}
 use Rattle.jpa_behaviour.specs.Served.{world_of_unit}
-use Rattle.jpa_context.specs.Undo.{now, since}
-use Rattle.jpa_fetch.specs.Grown.{HasGrown, IsReady}
-use Rattle.jpa_fetch.specs.Members.{collect}
-use Rattle.jpa_fetch.proofs.Collected.{behind}
+use Rattle.jpa_work.specs.context.Undo.{now, since}
+use Rattle.jpa_operations.specs.fetch.Grown.{HasGrown, IsReady}
+use Rattle.jpa_operations.specs.fetch.Members.{collect}
+use Rattle.jpa_operations.proofs.fetch.Collected.{behind}
 use Rattle.jpa_merge.specs.Merge.{replaced}
 use Rattle.jpa_merge.proofs.replacing.replace_all.Given as goal
 

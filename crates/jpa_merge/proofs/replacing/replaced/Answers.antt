@@ -1,5 +1,5 @@
 use Rattle.std.proofs.Common.{◌∙◌, sym}
-use Rattle.jpa_context.specs.Undo.{now}
+use Rattle.jpa_work.specs.context.Undo.{now}
 use Rattle.jpa_merge.proofs.Found.{found_there}
 use Rattle.jpa_merge.proofs.replacing.replaced.Goals as goal
 

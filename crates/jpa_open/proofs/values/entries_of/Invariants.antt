@@ -1,7 +1,7 @@
 use Rattle.std.proofs.Common.{◌≡◌, ◌<◌, ℕ, get_or}
 use Rattle.jpa_value.specs.declared.value.Identity.{Identity}
-use Rattle.jpa_stored.specs.declared.stored.Stored.{Stored}
-use Rattle.jpa_ordered.specs.Values.{HasEntries}
+use Rattle.jpa_stored.specs.declared.objects.stored.Stored.{Stored}
+use Rattle.jpa_stored.specs.ordered.Values.{HasEntries}
 use Rattle.jpa_open.proofs.values.entries_of.Given as goal
 
 -- those so far have theirs

@@ -2,7 +2,7 @@ use Rattle.std.specs.Prelude.{Ok, Err}
 use Rattle.std.proofs.Common.{rules, ◌≡◌, ◌⊎◌, ◌∙◌, ap, subst, sym, inl, inr}
 use Rattle.sqlite.specs.Held.{Held}
 use Rattle.jpa_behaviour.specs.Served.{world_of_unit}
-use Rattle.jpa_rowspace.specs.Space.{Space}
+use Rattle.jpa_cells.specs.rowspace.Space.{Space}
 use Rattle.jpa_program.specs.Opening.{OpensDatabase, KeepsOrOpens, RefusesOpening}
 use Rattle.jpa_program.proofs.Standing.{made_holds}
 use Rattle.jpa_program.proofs.opening.open.Goals as goal

@@ -1,11 +1,11 @@
 use Rattle.std.proofs.Common.{rules, ◌≡◌, ◌∙◌, ap, subst, sym, Err}
 use Rattle.sqlite.specs.Held.{Held}
 use Rattle.jpa_behaviour.specs.Served.{world_of_unit}
-use Rattle.jpa_cells_meaning.specs.Store.{IsOpen, tables_in}
-use Rattle.jpa_cells_meaning.specs.Tables.{Tables}
-use Rattle.jpa_rowspace.specs.Space.{Space}
-use Rattle.jpa_rowspace.proofs.Holding.{clean_before}
-use Rattle.jpa_store_reader.specs.Opened.{IsMigrated}
+use Rattle.jpa_cells.specs.meaning.Store.{IsOpen, tables_in}
+use Rattle.jpa_cells.specs.meaning.Tables.{Tables}
+use Rattle.jpa_cells.specs.rowspace.Space.{Space}
+use Rattle.jpa_cells.proofs.rowspace.Holding.{clean_before}
+use Rattle.jpa_opening.specs.reader.Opened.{IsMigrated}
 use Rattle.jpa_program.specs.Opening.{KeepsOrMakes, RefusesOpening}
 use Rattle.jpa_program.proofs.Opened.{opened, opened_keeps, kept_then, endures_then, opens_counting, fault_found, damage_open}
 use Rattle.jpa_program.proofs.opening.open_rows.Goals as goal

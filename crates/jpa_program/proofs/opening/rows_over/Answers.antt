@@ -1,6 +1,6 @@
 use Rattle.std.proofs.Common.{rules, subst, sym}
-use Rattle.jpa_rowspace.specs.Space.{Space}
-use Rattle.jpa_cells.specs.Calls.{EnduresMaking}
+use Rattle.jpa_cells.specs.rowspace.Space.{Space}
+use Rattle.jpa_cells.specs.cells.Calls.{EnduresMaking}
 use Rattle.jpa_program.proofs.opening.rows_over.Goals as goal
 
 pub returns-in-Ok-open-clause-made : goal.returns-in-Ok-open-clause-made

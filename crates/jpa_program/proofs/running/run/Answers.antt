@@ -1,10 +1,10 @@
 use Rattle.std.proofs.Common.{subst}
 use Rattle.jpa_behaviour.proofs.Regular.{regular_of}
-use Rattle.jpa_rows.specs.declared.schema.Schema.{Schema}
-use Rattle.jpa_object_rows.specs.Sets.{rows_of}
-use Rattle.jpa_rowspace.specs.Space.{HoldsRows}
-use Rattle.jpql_tree.specs.declared.Language.{Language}
-use Rattle.jpa_machine.specs.Step.{Step}
+use Rattle.jpa_rows.specs.declared.rows.schema.Schema.{Schema}
+use Rattle.jpa_object_rows.specs.meaning.Sets.{rows_of}
+use Rattle.jpa_cells.specs.rowspace.Space.{HoldsRows}
+use Rattle.jpql_trees.specs.declared.tree.Language.{Language}
+use Rattle.jpa_machine.specs.machine.Step.{Step}
 use Rattle.jpa_provider.specs.Provided.{Steps, world_in}
 use Rattle.jpa_program.specs.Run.{EndsAs, rows_over}
 use Rattle.jpa_program.proofs.Isolated.{isolates}

@@ -3,9 +3,9 @@ use Rattle.std.specs.Prelude.{Some, None}
 use Rattle.std.proofs.Math.Facts.{to_z-of_z}
 use Rattle.std.proofs.lemmas.List.{get_or_default}
 use Rattle.jpa_behaviour.specs.Served.{world_of_unit}
-use Rattle.jpa_heap.specs.declared.LiveObject.{LiveObject}
-use Rattle.jpa_heap.specs.Objects.{object_at, no_object, place_of}
-use Rattle.jpa_context.specs.Work.{is_managed, state_from}
+use Rattle.jpa_work.specs.declared.heap.LiveObject.{LiveObject}
+use Rattle.jpa_work.specs.heap.Objects.{object_at, no_object, place_of}
+use Rattle.jpa_work.specs.context.Work.{is_managed, state_from}
 use Rattle.jpa_protocol.specs.declared.call.Call.{Call}
 use Rattle.jpa_provider.specs.Serving.{named, Serves}
 use Rattle.jpa_provider.proofs.Asked.{contains_unknown, contains_told}

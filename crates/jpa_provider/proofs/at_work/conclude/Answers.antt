@@ -1,8 +1,8 @@
 use Rattle.std.proofs.Common.{refl, sym, subst, ◌∙◌}
 use Rattle.std.specs.Prelude.{OnErr, OnOk}
-use Rattle.jpa_context.specs.declared.work.UnitOfWork.{UnitOfWork}
-use Rattle.jpa_context.specs.Undo.{now}
-use Rattle.jpa_fetch.specs.Grown.{IsReady}
+use Rattle.jpa_work.specs.declared.context.work.UnitOfWork.{UnitOfWork}
+use Rattle.jpa_work.specs.context.Undo.{now}
+use Rattle.jpa_operations.specs.fetch.Grown.{IsReady}
 use Rattle.jpa_provider.specs.Serving.{IsAtRest, IsWorking}
 use Rattle.jpa_provider.proofs.Marked.{ready_silent, still_marked}
 use Rattle.jpa_provider.proofs.Worked.{still_away, still_working}

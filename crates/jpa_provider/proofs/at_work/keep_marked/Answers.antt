@@ -1,11 +1,11 @@
 use Rattle.std.proofs.Common.{ap, sym, subst, ◌∙◌}
-use Rattle.jpa_context.specs.declared.work.UnitOfWork.{UnitOfWork}
-use Rattle.jpa_context.specs.Undo.{now}
-use Rattle.jpa_context.specs.Work.{Work}
-use Rattle.jpa_flush.specs.Marked.{AreMarked, before}
-use Rattle.jpa_marking.specs.Shared.{seen_by}
-use Rattle.jpa_machine.specs.Invariant.{context_of}
-use Rattle.jpa_machine.specs.Machine.{kept}
+use Rattle.jpa_work.specs.declared.context.work.UnitOfWork.{UnitOfWork}
+use Rattle.jpa_work.specs.context.Undo.{now}
+use Rattle.jpa_work.specs.context.Work.{Work}
+use Rattle.jpa_flush.specs.flush.Marked.{AreMarked, before}
+use Rattle.jpa_flush.specs.marking.Shared.{seen_by}
+use Rattle.jpa_machine.specs.machine.Invariant.{context_of}
+use Rattle.jpa_machine.specs.machine.Machine.{kept}
 use Rattle.jpa_provider.specs.Serving.{marks_in}
 use Rattle.jpa_provider.proofs.Marked.{remarked_away}
 use Rattle.jpa_provider.proofs.at_work.keep_marked.Goals as goal

@@ -1,5 +1,5 @@
 use Rattle.std.proofs.Common.{◌≡◌, ◌<◌, ℕ, length}
-use Rattle.jpa_context.specs.Marks.{all_marked}
+use Rattle.jpa_work.specs.context.Marks.{all_marked}
 use Rattle.jpa_provider.specs.Serving.{machine_of, marks_in, IsSettled}
 use Rattle.jpa_provider.proofs.at_work.mark_all.Given as goal
 

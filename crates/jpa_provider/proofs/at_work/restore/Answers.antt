@@ -2,8 +2,8 @@ use Rattle.std.proofs.Common.{◌≡◌, List, refl, ap, sym, ◌∙◌}
 use Rattle.std.specs.Prelude.{slice_set, length}
 use Rattle.std.proofs.lemmas.List.{length-set}
 use Rattle.jpa_open.specs.Opened.{Opened}
-use Rattle.jpa_context.specs.Marks.{Entries}
-use Rattle.jpa_context.specs.Work.{Work}
+use Rattle.jpa_work.specs.context.Marks.{Entries}
+use Rattle.jpa_work.specs.context.Work.{Work}
 use Rattle.jpa_provider.specs.declared.session.EntityManager.{EntityManager}
 use Rattle.jpa_provider.specs.declared.session.Session.{Session}
 use Rattle.jpa_provider.specs.Serving.{is_begun_status, manager_in}

@@ -1,7 +1,7 @@
 use Rattle.std.proofs.Common.{◌≡◌, ℕ, List, Result, Ok, Err, ap, sym, subst, rules}
 use Rattle.std.specs.Prelude.{OnOk, OnErr}
 use Rattle.jpa_open.specs.Opened.{Opened, IsUndone, with_room}
-use Rattle.jpa_stored.specs.Sets.{StoredSet}
+use Rattle.jpa_stored.specs.objects.Sets.{StoredSet}
 use Rattle.jpa_provider.specs.declared.session.EntityManager.{EntityManager}
 use Rattle.jpa_provider.specs.Beside.{AreHeld, HasRoom}
 use Rattle.jpa_provider.proofs.Held.{held_beside}

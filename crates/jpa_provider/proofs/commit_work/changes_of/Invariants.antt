@@ -1,6 +1,6 @@
 use Rattle.std.proofs.Common.{◌≡◌, take, map}
 use Rattle.jpa_value.specs.declared.value.Identity.{Identity}
-use Rattle.jpa_flush.specs.Changes.{place_of}
+use Rattle.jpa_flush.specs.flush.Changes.{place_of}
 use Rattle.jpa_constraints.specs.Changed.{class_at}
 use Rattle.jpa_provider.proofs.commit_work.changes_of.Given as goal
 

@@ -2,16 +2,16 @@ use Rattle.std.proofs.Common.{◌≡◌, true, ap, sym, subst, rules}
 use Rattle.std.proofs.lemmas.Result.{err_from_is_err_and}
 use Rattle.jpa_value.specs.declared.refusal.Cause.{Cause}
 use Rattle.jpa_behaviour.specs.Served.{world_of_unit}
-use Rattle.jpa_stored.specs.Sets.{IsSound}
+use Rattle.jpa_stored.specs.objects.Sets.{IsSound}
 use Rattle.jpa_provider.specs.Beside.{Rises}
-use Rattle.jpa_context.specs.Steps.{Outcome, Done, Refused, IsRefusedAs}
-use Rattle.jpa_context.specs.declared.Entry.{Entry}
-use Rattle.jpa_context.specs.declared.work.UnitOfWork.{UnitOfWork}
-use Rattle.jpa_context.specs.Undo.{now, undone, Since}
-use Rattle.jpa_flush.specs.Flush.{flush}
-use Rattle.jpa_flush.specs.Marked.{AreLooked, AreMarked, IsUntouched, is_calm}
-use Rattle.jpa_flush.proofs.Rounds.{refused_after}
-use Rattle.jpa_machine.specs.Transactions.{commit_work}
+use Rattle.jpa_work.specs.context.Steps.{Outcome, Done, Refused, IsRefusedAs}
+use Rattle.jpa_work.specs.declared.context.Entry.{Entry}
+use Rattle.jpa_work.specs.declared.context.work.UnitOfWork.{UnitOfWork}
+use Rattle.jpa_work.specs.context.Undo.{now, undone, Since}
+use Rattle.jpa_flush.specs.flush.Flush.{flush}
+use Rattle.jpa_flush.specs.flush.Marked.{AreLooked, AreMarked, IsUntouched, is_calm}
+use Rattle.jpa_flush.proofs.flush.Rounds.{refused_after}
+use Rattle.jpa_machine.specs.machine.Transactions.{commit_work}
 use Rattle.jpa_provider.proofs.Current.{deciding, joined, not_current}
 use Rattle.jpa_provider.proofs.Walks.{looked_as, untouched_seen}
 use Rattle.jpa_provider.proofs.commit_work.commit_work.Goals as goal

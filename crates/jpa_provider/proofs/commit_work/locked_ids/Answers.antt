@@ -1,9 +1,9 @@
 use Rattle.std.proofs.Common.{◌≡◌, ◌∙◌, ◌++◌, List, ap, sym, length, get_or, drop, arith}
 use Rattle.std.specs.List.{flat_map}
-use Rattle.jpa_context.specs.declared.Entry.{Entry}
-use Rattle.jpa_context.specs.Undo.{now}
-use Rattle.jpa_flush.specs.Marked.{from}
-use Rattle.jpa_machine.specs.Transactions.{read_along}
+use Rattle.jpa_work.specs.declared.context.Entry.{Entry}
+use Rattle.jpa_work.specs.context.Undo.{now}
+use Rattle.jpa_flush.specs.flush.Marked.{from}
+use Rattle.jpa_machine.specs.machine.Transactions.{read_along}
 use Rattle.jpa_provider.proofs.Walks.{locked_end, locked_next}
 use Rattle.jpa_provider.proofs.commit_work.locked_ids.Goals as goal
 

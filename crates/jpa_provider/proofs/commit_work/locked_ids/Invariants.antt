@@ -1,8 +1,8 @@
 use Rattle.std.proofs.Common.{◌≡◌, ◌++◌, drop}
 use Rattle.std.specs.List.{flat_map}
-use Rattle.jpa_context.specs.Undo.{now}
-use Rattle.jpa_flush.specs.Marked.{from}
-use Rattle.jpa_machine.specs.Transactions.{read_along}
+use Rattle.jpa_work.specs.context.Undo.{now}
+use Rattle.jpa_flush.specs.flush.Marked.{from}
+use Rattle.jpa_machine.specs.machine.Transactions.{read_along}
 use Rattle.jpa_provider.proofs.commit_work.locked_ids.Given as goal
 
 abbrev pub invariant-loop-place : goal.invariant-loop-place

@@ -3,13 +3,13 @@ use Rattle.std.specs.Prelude.{OnOk, Result, Ok, Err}
 use Rattle.std.specs.FinMap.Entries.{is_sorted}
 use Rattle.jpa_value.specs.declared.refusal.Cause.{Cause}
 use Rattle.jpa_value.specs.Value.{identity_cmp}
-use Rattle.jpa_stored.specs.Sets.{StoredSet, fault_of}
+use Rattle.jpa_stored.specs.objects.Sets.{StoredSet, fault_of}
 use Rattle.jpa_open.proofs.MergedSets.{merged_rises}
 use Rattle.jpa_open.specs.Opened.{Opened, SameElsewhere}
-use Rattle.jpa_flush.specs.Changes.{place_of}
-use Rattle.jpa_context.specs.Steps.{Meets, after, change}
-use Rattle.jpa_context.specs.Undo.{now}
-use Rattle.jpa_flush.specs.Flush.{sound_or}
+use Rattle.jpa_flush.specs.flush.Changes.{place_of}
+use Rattle.jpa_work.specs.context.Steps.{Meets, after, change}
+use Rattle.jpa_work.specs.context.Undo.{now}
+use Rattle.jpa_flush.specs.flush.Flush.{sound_or}
 use Rattle.jpa_updates.specs.Updates.{with_view}
 use Rattle.jpa_provider.proofs.Current.{changed_from, place_at, same_elsewhere, seen_then}
 use Rattle.jpa_provider.proofs.commit_work.merge.Goals as goal

@@ -1,8 +1,8 @@
 use Rattle.std.proofs.Common.{◌≡◌, true, sym, subst}
-use Rattle.jpa_context.specs.declared.Entry.{Entry}
-use Rattle.jpa_context.specs.Undo.{now}
-use Rattle.jpa_context.specs.Work.{is_managed, state_of}
-use Rattle.jpa_flush.specs.Marked.{AreLooked}
+use Rattle.jpa_work.specs.declared.context.Entry.{Entry}
+use Rattle.jpa_work.specs.context.Undo.{now}
+use Rattle.jpa_work.specs.context.Work.{is_managed, state_of}
+use Rattle.jpa_flush.specs.flush.Marked.{AreLooked}
 use Rattle.jpa_provider.proofs.committing.at_hand.Goals as goal
 
 pub removed_of-requires-clause-looked : goal.removed_of-requires-clause-looked

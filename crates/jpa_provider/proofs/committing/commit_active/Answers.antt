@@ -1,12 +1,12 @@
 use Rattle.std.proofs.Common.{◌≡◌, ℕ, List, ap, sym, subst, ◌∙◌, rules}
 use Rattle.std.specs.Prelude.{true, nat_le}
 use Rattle.jpa_behaviour.specs.Served.{world_of_unit}
-use Rattle.jpa_stored.specs.Sets.{StoredSet, IsSound, each_fits}
-use Rattle.jpa_rows.specs.Cells.{CanBeHeld}
-use Rattle.jpa_object_rows.specs.Sets.{rows_of}
-use Rattle.jpa_context.specs.Work.{Work}
-use Rattle.jpa_context.specs.Steps.{IsRefusedAs}
-use Rattle.jpa_context.specs.Undo.{now, since}
+use Rattle.jpa_stored.specs.objects.Sets.{StoredSet, IsSound, each_fits}
+use Rattle.jpa_rows.specs.rows.Cells.{CanBeHeld}
+use Rattle.jpa_object_rows.specs.meaning.Sets.{rows_of}
+use Rattle.jpa_work.specs.context.Work.{Work}
+use Rattle.jpa_work.specs.context.Steps.{IsRefusedAs}
+use Rattle.jpa_work.specs.context.Undo.{now, since}
 use Rattle.jpa_queries.specs.Premises.{StaysReady}
 use Rattle.jpa_protocol.specs.declared.call.Call.{Call}
 use Rattle.jpa_provider.specs.Serving.{machine_of, is_begun_status}

@@ -2,8 +2,8 @@ use Rattle.std.proofs.Common.{◌≡◌, true, refl, ap, sym, subst, ◌∙◌}
 use Rattle.std.specs.Prelude.{IsErr, Some}
 use Rattle.std.proofs.Math.Facts.{to_z-of_z}
 use Rattle.jpa_behaviour.specs.Served.{world_of_unit}
-use Rattle.jpa_machine.specs.Faults.{tells_fault}
-use Rattle.jpa_machine.specs.Machine.{IsStoredAs}
+use Rattle.jpa_machine.specs.machine.Faults.{tells_fault}
+use Rattle.jpa_machine.specs.machine.Machine.{IsStoredAs}
 use Rattle.jpa_protocol.specs.declared.call.Call.{Call}
 use Rattle.jpa_protocol.specs.declared.reply.Reply.{Reply}
 use Rattle.jpa_provider.specs.Serving.{machine_of, manager_in, named, is_begun_status}

@@ -2,15 +2,15 @@ use Rattle.std.proofs.Common.{◌≡◌, ◌<◌, List, true, length, refl, ap, 
 use Rattle.std.specs.Prelude.{slice_set, All}
 use Rattle.std.specs.List.{filter}
 use Rattle.jpa_open.specs.Opened.{Opened, no_layers, unwritten, with_kept}
-use Rattle.jpa_context.specs.declared.Entry.{Entry}
-use Rattle.jpa_context.specs.declared.Lock.{Lock}
-use Rattle.jpa_context.specs.declared.work.UnitOfWork.{UnitOfWork}
-use Rattle.jpa_context.specs.Marks.{Entries}
-use Rattle.jpa_context.specs.Undo.{now}
-use Rattle.jpa_context.specs.Work.{Work}
-use Rattle.jpa_flush.specs.Marked.{AreLooked, AreMarked}
-use Rattle.jpa_marking.specs.Shared as marking
-use Rattle.jpa_machine.specs.Machine.{is_gone}
+use Rattle.jpa_work.specs.declared.context.Entry.{Entry}
+use Rattle.jpa_work.specs.declared.context.Lock.{Lock}
+use Rattle.jpa_work.specs.declared.context.work.UnitOfWork.{UnitOfWork}
+use Rattle.jpa_work.specs.context.Marks.{Entries}
+use Rattle.jpa_work.specs.context.Undo.{now}
+use Rattle.jpa_work.specs.context.Work.{Work}
+use Rattle.jpa_flush.specs.flush.Marked.{AreLooked, AreMarked}
+use Rattle.jpa_flush.specs.marking.Shared as marking
+use Rattle.jpa_machine.specs.machine.Machine.{is_gone}
 use Rattle.jpa_provider.specs.declared.session.EntityManager.{EntityManager}
 use Rattle.jpa_provider.specs.declared.session.Session.{Session}
 use Rattle.jpa_provider.specs.declared.session.Status.{Status}

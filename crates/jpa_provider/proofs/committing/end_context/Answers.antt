@@ -2,11 +2,11 @@ use Rattle.std.proofs.Common.{◌≡◌, ◌∙◌, List, [], ap, sym}
 use Rattle.std.specs.Prelude.{map}
 use Rattle.std.proofs.lemmas.Bool.{eqb-true}
 use Rattle.std.proofs.lemmas.List.{nil_from_length}
-use Rattle.jpa_heap.specs.declared.LiveObject.{LiveObject}
-use Rattle.jpa_context.specs.Places.{without_removed}
-use Rattle.jpa_context.specs.Undo.{now}
-use Rattle.jpa_context.specs.Work.{is_removed, state_from, unlocked}
-use Rattle.jpa_heap.specs.Objects.{object_at}
+use Rattle.jpa_work.specs.declared.heap.LiveObject.{LiveObject}
+use Rattle.jpa_work.specs.context.Places.{without_removed}
+use Rattle.jpa_work.specs.context.Undo.{now}
+use Rattle.jpa_work.specs.context.Work.{is_removed, state_from, unlocked}
+use Rattle.jpa_work.specs.heap.Objects.{object_at}
 use Rattle.jpa_provider.proofs.Walks.{leave_unlocked, none_leaves}
 use Rattle.jpa_provider.proofs.committing.end_context.Goals as goal
 

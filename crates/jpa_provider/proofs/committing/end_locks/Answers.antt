@@ -1,8 +1,8 @@
 use Rattle.std.proofs.Common.{◌≡◌, ◌∙◌, ◌<◌, List, ap, sym, subst, length, get_or, arith}
-use Rattle.jpa_context.specs.declared.Entry.{Entry}
-use Rattle.jpa_context.specs.Work.{unlocked}
-use Rattle.jpa_flush.specs.Marked.{from}
-use Rattle.jpa_flush.proofs.Settled.{partly, partly_length}
+use Rattle.jpa_work.specs.declared.context.Entry.{Entry}
+use Rattle.jpa_work.specs.context.Work.{unlocked}
+use Rattle.jpa_flush.specs.flush.Marked.{from}
+use Rattle.jpa_flush.proofs.flush.Settled.{partly, partly_length}
 use Rattle.jpa_provider.proofs.Walks.{unlock_end, unlock_next}
 use Rattle.jpa_provider.proofs.committing.end_locks.Goals as goal
 

@@ -1,7 +1,7 @@
 use Rattle.std.proofs.Common.{◌≡◌}
-use Rattle.jpa_context.specs.Work.{unlocked}
-use Rattle.jpa_flush.specs.Marked.{from}
-use Rattle.jpa_flush.proofs.Settled.{partly}
+use Rattle.jpa_work.specs.context.Work.{unlocked}
+use Rattle.jpa_flush.specs.flush.Marked.{from}
+use Rattle.jpa_flush.proofs.flush.Settled.{partly}
 use Rattle.jpa_provider.proofs.committing.end_locks.Given as goal
 
 abbrev pub invariant-loop-place : goal.invariant-loop-place

@@ -1,10 +1,10 @@
 use Rattle.std.proofs.Common.{◌<◌, List, length, inl, inr, refl, ap, sym, subst, ◌∙◌}
 use Rattle.std.specs.Prelude.{All, Err}
-use Rattle.jpa_heap.specs.declared.LiveObject.{LiveObject}
-use Rattle.jpa_context.specs.declared.Entry.{Entry}
+use Rattle.jpa_work.specs.declared.heap.LiveObject.{LiveObject}
+use Rattle.jpa_work.specs.declared.context.Entry.{Entry}
 use Rattle.jpa_value.specs.declared.refusal.Refusal.{Refusal}
-use Rattle.jpa_machine.specs.Machine.{Machine, rolled_back}
-use Rattle.jpa_machine.specs.Invariant.{IsMachine}
+use Rattle.jpa_machine.specs.machine.Machine.{Machine, rolled_back}
+use Rattle.jpa_machine.specs.machine.Invariant.{IsMachine}
 use Rattle.jpa_provider.proofs.Committed.{begun_still}
 use Rattle.jpa_provider.proofs.Marked.{still_marked}
 use Rattle.jpa_provider.proofs.Worked.{still_working}

@@ -1,7 +1,7 @@
 use Rattle.std.proofs.Common.{◌≡◌, ◌∙◌, ◌+◌, ◌++◌, List, ap, sym, length, get_or, drop, arith}
-use Rattle.jpa_context.specs.declared.Entry.{Entry}
-use Rattle.jpa_context.specs.Undo.{now}
-use Rattle.jpa_flush.specs.Marked.{from}
+use Rattle.jpa_work.specs.declared.context.Entry.{Entry}
+use Rattle.jpa_work.specs.context.Undo.{now}
+use Rattle.jpa_flush.specs.flush.Marked.{from}
 use Rattle.jpa_provider.proofs.Walks.{gone_end, gone_in, gone_next, stays_next}
 use Rattle.jpa_provider.proofs.committing.removed_of.Goals as goal
 use Rattle.jpa_provider.proofs.committing.removed_of.Goals.{then-leaves+in_ok-push, else-leaves}

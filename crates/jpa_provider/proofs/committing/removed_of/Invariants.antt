@@ -1,6 +1,6 @@
 use Rattle.std.proofs.Common.{◌≡◌, ◌++◌, drop}
-use Rattle.jpa_context.specs.Undo.{now}
-use Rattle.jpa_flush.specs.Marked.{from}
+use Rattle.jpa_work.specs.context.Undo.{now}
+use Rattle.jpa_flush.specs.flush.Marked.{from}
 use Rattle.jpa_provider.proofs.Walks.{gone_in}
 use Rattle.jpa_provider.proofs.committing.removed_of.Given as goal
 

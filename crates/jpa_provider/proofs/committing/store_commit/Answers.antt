@@ -1,20 +1,20 @@
 use Rattle.std.proofs.Common.{◌≡◌, ◌⊎◌, inl, inr, refl, ap, sym, subst, ◌∙◌, rules}
 use Rattle.std.specs.Prelude.{Ok}
 use Rattle.jpa_behaviour.specs.Served.{world_of_unit}
-use Rattle.jpa_object_rows.specs.Sets.{rows_of}
+use Rattle.jpa_object_rows.specs.meaning.Sets.{rows_of}
 use Rattle.jpa_protocol.specs.declared.reply.Answer.{Answer}
 use Rattle.jpa_protocol.specs.declared.reply.Reply.{Reply}
-use Rattle.jpa_stored.specs.Sets.{StoredSet}
+use Rattle.jpa_stored.specs.objects.Sets.{StoredSet}
 use Rattle.jpa_value.specs.declared.refusal.Cause.{Cause}
-use Rattle.jpa_context.specs.Undo.{now}
-use Rattle.jpa_machine.specs.Machine.{Machine, committed_after}
-use Rattle.jpa_machine.specs.Step.{gives_up}
+use Rattle.jpa_work.specs.context.Undo.{now}
+use Rattle.jpa_machine.specs.machine.Machine.{Machine, committed_after}
+use Rattle.jpa_machine.specs.machine.Step.{gives_up}
 use Rattle.jpa_provider.specs.declared.session.Session.{Session}
 use Rattle.jpa_provider.specs.Provided.{rows_kept}
 use Rattle.jpa_provider.proofs.Committed.{still_committing}
 use Rattle.jpa_provider.proofs.Ended.{away_beside}
 use Rattle.jpa_provider.proofs.Walks.{looked_as, ready_seen, untouched_managed, untouched_seen}
-use Rattle.jpa_rows.proofs.Commits.{none_tried}
+use Rattle.jpa_rows.proofs.rows.Commits.{none_tried}
 use Rattle.jpa_provider.proofs.committing.store_commit.Goals as goal
 
 pub returns-in-Err-clause-commits : goal.returns-in-Err-clause-commits

@@ -1,7 +1,7 @@
-use Rattle.jpa_context.specs.Marks.{none_marked, Entries}
+use Rattle.jpa_work.specs.context.Marks.{none_marked, Entries}
 use Rattle.std.proofs.Common.{◌≡◌, [], refl, ap, sym, ◌∙◌}
 use Rattle.std.specs.Prelude.{slice_set}
-use Rattle.jpa_ops.specs.States.{detach_each}
+use Rattle.jpa_operations.specs.ops.States.{detach_each}
 use Rattle.jpa_provider.specs.declared.session.Session.{Session}
 use Rattle.jpa_provider.specs.Serving.{manager_in}
 use Rattle.jpa_provider.proofs.Asked.{cleared_there}

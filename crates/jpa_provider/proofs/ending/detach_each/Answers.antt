@@ -1,8 +1,8 @@
 use Rattle.std.proofs.Common.{◌+◌, drop, length, ap, ◌∙◌}
 use Rattle.std.proofs.lemmas.List.{length-set}
-use Rattle.jpa_heap.specs.declared.Life.{Life}
-use Rattle.jpa_heap.specs.Objects.{object_at, with_life}
-use Rattle.jpa_ops.specs.States.{detach_each}
+use Rattle.jpa_work.specs.declared.heap.Life.{Life}
+use Rattle.jpa_work.specs.heap.Objects.{object_at, with_life}
+use Rattle.jpa_operations.specs.ops.States.{detach_each}
 use Rattle.jpa_provider.proofs.Opened.{detached_one}
 use Rattle.jpa_provider.proofs.ending.detach_each.Goals as goal
 

@@ -1,5 +1,5 @@
 use Rattle.std.proofs.Common.{◌≡◌, drop, length}
-use Rattle.jpa_ops.specs.States.{detach_each}
+use Rattle.jpa_operations.specs.ops.States.{detach_each}
 use Rattle.jpa_provider.proofs.ending.detach_each.Given as goal
 
 -- what is left of the entries leads from the objects as they are to the whole

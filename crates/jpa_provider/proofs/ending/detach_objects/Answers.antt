@@ -1,7 +1,7 @@
 use Rattle.std.proofs.Common.{◌+◌, drop, get_or, length, ap, ◌∙◌}
 use Rattle.std.proofs.lemmas.List.{length-set, get_or_default}
-use Rattle.jpa_heap.specs.declared.Life.{Life}
-use Rattle.jpa_heap.specs.Objects.{object_at, with_life}
+use Rattle.jpa_work.specs.declared.heap.Life.{Life}
+use Rattle.jpa_work.specs.heap.Objects.{object_at, with_life}
 use Rattle.jpa_provider.specs.Serving.{detached_all}
 use Rattle.jpa_provider.proofs.Opened.{detached_next}
 use Rattle.jpa_provider.proofs.ending.detach_objects.Goals as goal

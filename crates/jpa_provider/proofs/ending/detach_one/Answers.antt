@@ -1,7 +1,7 @@
 use Rattle.std.proofs.Common.{ap, ◌∙◌}
 use Rattle.std.specs.Prelude.{slice_set}
-use Rattle.jpa_heap.specs.declared.LiveObject.{LiveObject}
-use Rattle.jpa_heap.specs.declared.Life.{Life}
+use Rattle.jpa_work.specs.declared.heap.LiveObject.{LiveObject}
+use Rattle.jpa_work.specs.declared.heap.Life.{Life}
 use Rattle.jpa_provider.proofs.Opened.{detached_twice}
 use Rattle.jpa_provider.proofs.ending.detach_one.Goals as goal
 

@@ -1,4 +1,4 @@
-use Rattle.jpa_context.specs.Marks.{none_marked}
+use Rattle.jpa_work.specs.context.Marks.{none_marked}
 use Rattle.std.proofs.Common.{◌≡◌, ◌<◌, List, [], length, refl, ap, sym, subst, ◌∙◌}
 use Rattle.std.specs.Prelude.{◌==◌, filter, not, slice_set}
 use Rattle.std.proofs.lemmas.List.{length-set}

@@ -1,8 +1,8 @@
 use Rattle.std.proofs.Common.{ℕ, List, rules, subst}
 use Rattle.jpa_behaviour.specs.Served.{world_of_unit}
 use Rattle.jpa_protocol.specs.declared.call.Given.{Given}
-use Rattle.jpa_context.specs.Carries.{Carries}
-use Rattle.jpa_machine.specs.Routes.{find_call}
+use Rattle.jpa_work.specs.context.Carries.{Carries}
+use Rattle.jpa_machine.specs.machine.Routes.{find_call}
 use Rattle.jpa_provider.proofs.finding.find_by_key.Goals as goal
 
 pub returns : goal.returns

@@ -2,13 +2,13 @@ use Rattle.std.proofs.Common.{◌≡◌, ap, sym, subst, ◌∙◌}
 use Rattle.std.specs.Prelude.{Some}
 use Rattle.std.proofs.Math.Facts.{to_z-of_z}
 use Rattle.jpa_behaviour.specs.Served.{world_of_unit}
-use Rattle.jpa_context.specs.Work.{Work}
-use Rattle.jpa_context.specs.Steps.{Meets}
-use Rattle.jpa_context.specs.Undo.{now}
-use Rattle.jpa_fetch.specs.Grown.{IsReady}
+use Rattle.jpa_work.specs.context.Work.{Work}
+use Rattle.jpa_work.specs.context.Steps.{Meets}
+use Rattle.jpa_work.specs.context.Undo.{now}
+use Rattle.jpa_operations.specs.fetch.Grown.{IsReady}
 use Rattle.jpa_provider.specs.declared.replies.Rule.{Rule}
-use Rattle.jpa_machine.specs.Machine.{work_of}
-use Rattle.jpa_machine.proofs.AtWork.{work_ready}
+use Rattle.jpa_machine.specs.machine.Machine.{work_of}
+use Rattle.jpa_machine.proofs.machine.AtWork.{work_ready}
 use Rattle.jpa_provider.specs.Operations.{by_key}
 use Rattle.jpa_provider.specs.Serving.{machine_of, named}
 use Rattle.jpa_provider.proofs.Routed.{worked_so}

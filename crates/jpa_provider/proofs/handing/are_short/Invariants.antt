@@ -1,6 +1,6 @@
 use Rattle.std.proofs.Common.{◌≡◌, drop}
 use Rattle.std.specs.List.{list_all}
-use Rattle.jpa_machine.specs.Calls.{is_short_given}
+use Rattle.jpa_machine.specs.machine.Calls.{is_short_given}
 use Rattle.jpa_provider.proofs.handing.are_short.Given as goal
 
 abbrev pub invariant-loop-part : goal.invariant-loop-part

@@ -2,7 +2,7 @@ use Rattle.std.proofs.Common.{◌≡◌, ◌≢◌, suc, List, [], ◌∷◌, le
 use Rattle.jpa_value.specs.declared.value.Value.{Value}
 use Rattle.jpa_model.specs.declared.unit.Part.{Part}
 use Rattle.jpa_protocol.specs.declared.call.Given.{Given}
-use Rattle.jpa_machine.specs.Calls.{onto, part_given, whole_key}
+use Rattle.jpa_machine.specs.machine.Calls.{onto, part_given, whole_key}
 use Rattle.jpa_provider.proofs.handing.whole_key.Goals as goal
 
 onto_none : (x : Option Value) → onto x None ≡ None

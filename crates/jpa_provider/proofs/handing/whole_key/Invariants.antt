@@ -1,6 +1,6 @@
 use Rattle.std.proofs.Common.{◌≡◌, ◌++◌, drop, length}
 use Rattle.std.specs.Option.{option_map}
-use Rattle.jpa_machine.specs.Calls.{whole_key}
+use Rattle.jpa_machine.specs.machine.Calls.{whole_key}
 use Rattle.jpa_provider.proofs.handing.whole_key.Given as goal
 
 -- the parts so far, before what the rest makes, are the whole key

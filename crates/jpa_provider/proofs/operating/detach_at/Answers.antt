@@ -1,14 +1,14 @@
 use Rattle.std.proofs.Common.{rules, List, ap, sym, subst, ◌∙◌}
 use Rattle.jpa_behaviour.specs.Served.{world_of_unit}
-use Rattle.jpa_context.specs.Steps.{after, give, Done, IsRefusedAs}
-use Rattle.jpa_context.specs.declared.work.UnitOfWork.{UnitOfWork}
-use Rattle.jpa_context.specs.Undo.{now, since}
-use Rattle.jpa_flush.specs.Marked.{before}
-use Rattle.jpa_heap.specs.declared.LiveObject.{LiveObject}
-use Rattle.jpa_marking.specs.Shared.{LetsGo, is_held_by}
+use Rattle.jpa_work.specs.context.Steps.{after, give, Done, IsRefusedAs}
+use Rattle.jpa_work.specs.declared.context.work.UnitOfWork.{UnitOfWork}
+use Rattle.jpa_work.specs.context.Undo.{now, since}
+use Rattle.jpa_flush.specs.flush.Marked.{before}
+use Rattle.jpa_work.specs.declared.heap.LiveObject.{LiveObject}
+use Rattle.jpa_flush.specs.marking.Shared.{LetsGo, is_held_by}
 use Rattle.jpa_protocol.specs.declared.reply.Answer.{Answer}
-use Rattle.jpa_ops.specs.States.{detach}
-use Rattle.jpa_machine.specs.Calls.{nothing, told_as}
+use Rattle.jpa_operations.specs.ops.States.{detach}
+use Rattle.jpa_machine.specs.machine.Calls.{nothing, told_as}
 use Rattle.jpa_provider.proofs.Called.{refused_on}
 use Rattle.jpa_provider.proofs.LetGo.{detach_lets_go}
 use Rattle.jpa_provider.proofs.Marked.{whole_marked}

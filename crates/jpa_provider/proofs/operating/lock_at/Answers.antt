@@ -2,14 +2,14 @@ use Rattle.std.proofs.Common.{◌≡◌, rules, ap, subst}
 use Rattle.std.proofs.lemmas.Result.{err_from_is_err_and}
 use Rattle.jpa_behaviour.specs.Behaviour.{World}
 use Rattle.jpa_behaviour.specs.Served.{world_of_unit}
-use Rattle.jpa_context.specs.declared.Lock.{Lock}
-use Rattle.jpa_context.specs.Steps.{Done, IsRefusedAs, after, give}
-use Rattle.jpa_context.specs.Undo.{now}
-use Rattle.jpa_context.specs.Work.{Work}
-use Rattle.jpa_ops.specs.States.{lock}
-use Rattle.jpa_ops.proofs.Refused.{refused_after}
-use Rattle.jpa_machine.specs.Calls.{nothing}
-use Rattle.jpa_machine.specs.Routes.{lock_of}
+use Rattle.jpa_work.specs.declared.context.Lock.{Lock}
+use Rattle.jpa_work.specs.context.Steps.{Done, IsRefusedAs, after, give}
+use Rattle.jpa_work.specs.context.Undo.{now}
+use Rattle.jpa_work.specs.context.Work.{Work}
+use Rattle.jpa_operations.specs.ops.States.{lock}
+use Rattle.jpa_operations.proofs.ops.Refused.{refused_after}
+use Rattle.jpa_machine.specs.machine.Calls.{nothing}
+use Rattle.jpa_machine.specs.machine.Routes.{lock_of}
 use Rattle.jpa_provider.proofs.operating.lock_at.Goals as goal
 
 pub returns : goal.returns

@@ -2,12 +2,12 @@ use Rattle.std.proofs.Common.{◌≡◌, ◌⊎◌, List, ap, sym, subst, ◌∙
 use Rattle.std.specs.Prelude.{Err}
 use Rattle.jpa_value.specs.declared.refusal.Cause.{Cause}
 use Rattle.jpa_behaviour.specs.Served.{world_of_unit}
-use Rattle.jpa_heap.specs.declared.LiveObject.{LiveObject}
-use Rattle.jpa_heap.specs.Assign.{set_in}
-use Rattle.jpa_heap.specs.Shape.{IsInHeap}
-use Rattle.jpa_context.specs.Steps.{IsRefusedAs}
-use Rattle.jpa_context.specs.Undo.{now}
-use Rattle.jpa_machine.specs.Routes.{set_call}
+use Rattle.jpa_work.specs.declared.heap.LiveObject.{LiveObject}
+use Rattle.jpa_work.specs.heap.Assign.{set_in}
+use Rattle.jpa_work.specs.heap.Shape.{IsInHeap}
+use Rattle.jpa_work.specs.context.Steps.{IsRefusedAs}
+use Rattle.jpa_work.specs.context.Undo.{now}
+use Rattle.jpa_machine.specs.machine.Routes.{set_call}
 use Rattle.jpa_provider.proofs.Called.{set_refused, set_assigned}
 use Rattle.jpa_provider.proofs.operating.set_at.Goals as goal
 

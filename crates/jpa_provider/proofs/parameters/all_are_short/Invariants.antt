@@ -1,5 +1,5 @@
 use Rattle.std.proofs.Common.{◌≡◌, drop}
-use Rattle.jpa_machine.specs.Querying.{are_short}
+use Rattle.jpa_machine.specs.machine.Querying.{are_short}
 use Rattle.jpa_provider.proofs.parameters.all_are_short.Given as goal
 
 abbrev pub invariant-loop-parameter : goal.invariant-loop-parameter

@@ -1,7 +1,7 @@
 use Rattle.std.proofs.Common.{◌≡◌, ◌∷◌, ◌+◌, drop, length, rules, ap, sym, ◌∙◌}
 use Rattle.std.specs.Prelude.{Some, None}
 use Rattle.std.proofs.lemmas.List.{drop_more}
-use Rattle.jpa_machine.specs.Querying.{bindings_in, values_by_name, values_of}
+use Rattle.jpa_machine.specs.machine.Querying.{bindings_in, values_by_name, values_of}
 use Rattle.jpa_provider.proofs.Bound.{behind, bound_next, bound_none}
 use Rattle.jpa_provider.proofs.parameters.bindings_in.Goals as goal
 

@@ -1,5 +1,5 @@
 use Rattle.std.proofs.Common.{◌≡◌, drop, length}
-use Rattle.jpa_machine.specs.Querying.{bindings_in, values_of}
+use Rattle.jpa_machine.specs.machine.Querying.{bindings_in, values_of}
 use Rattle.jpa_provider.proofs.Bound.{behind}
 use Rattle.jpa_provider.proofs.parameters.bindings_in.Given as goal
 

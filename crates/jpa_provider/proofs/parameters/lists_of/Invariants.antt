@@ -1,5 +1,5 @@
 use Rattle.std.proofs.Common.{◌≡◌, ◌++◌, drop}
-use Rattle.jpa_machine.specs.Querying.{lists_of}
+use Rattle.jpa_machine.specs.machine.Querying.{lists_of}
 use Rattle.jpa_provider.proofs.parameters.lists_of.Given as goal
 
 abbrev pub invariant-loop-parameter : goal.invariant-loop-parameter

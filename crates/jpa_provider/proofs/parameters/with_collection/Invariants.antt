@@ -1,6 +1,6 @@
 use Rattle.std.proofs.Common.{◌≡◌, ◌++◌, suc, drop, length}
 use Rattle.std.specs.Option.{option_map}
-use Rattle.jpa_machine.specs.Querying.{bindings_in, values_from}
+use Rattle.jpa_machine.specs.machine.Querying.{bindings_in, values_from}
 use Rattle.jpa_provider.proofs.parameters.with_collection.Given as goal
 
 -- those so far, before what the rest makes, are all

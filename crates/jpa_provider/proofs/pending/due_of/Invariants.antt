@@ -1,6 +1,6 @@
 use Rattle.std.proofs.Common.{◌≡◌, ◌++◌, drop, map}
 use Rattle.std.specs.List.{filter}
-use Rattle.jpa_machine.specs.Pending.{due, is_due}
+use Rattle.jpa_machine.specs.machine.Pending.{due, is_due}
 use Rattle.jpa_provider.proofs.pending.due_of.Given as goal
 
 -- what is told so far, and what is left

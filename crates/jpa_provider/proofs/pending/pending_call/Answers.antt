@@ -3,11 +3,11 @@ use Rattle.std.specs.Prelude.{Some}
 use Rattle.std.specs.List.{filter}
 use Rattle.std.proofs.Math.Facts.{to_z-of_z}
 use Rattle.jpa_behaviour.specs.Served.{world_of_unit}
-use Rattle.jpa_context.specs.Work.{Work}
-use Rattle.jpa_flush.specs.Flush.{flush}
+use Rattle.jpa_work.specs.context.Work.{Work}
+use Rattle.jpa_flush.specs.flush.Flush.{flush}
 use Rattle.jpa_protocol.specs.declared.call.Call.{Call}
 use Rattle.jpa_protocol.specs.declared.reply.Reply.{Reply}
-use Rattle.jpa_machine.specs.Pending.{due, due_in, events_of, is_due}
+use Rattle.jpa_machine.specs.machine.Pending.{due, due_in, events_of, is_due}
 use Rattle.jpa_provider.specs.Serving.{machine_of, manager_in, is_begun_status, named, Serves}
 use Rattle.jpa_provider.proofs.Active.{can_flush}
 use Rattle.jpa_provider.proofs.Marked.{still_marked}

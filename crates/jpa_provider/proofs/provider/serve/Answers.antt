@@ -2,13 +2,13 @@ use Rattle.std.proofs.Common.{ap, sym, subst, inl, ◌∙◌}
 use Rattle.std.specs.Prelude.{not}
 use Rattle.std.proofs.lemmas.Bool.{true≢false}
 use Rattle.jpa_behaviour.specs.Served.{world_of_unit}
-use Rattle.jpa_machine.specs.Routes.{is_commit}
-use Rattle.jpa_machine.specs.Updating.{is_bulk}
-use Rattle.jpa_machine.proofs.Isolated.{step_moves}
-use Rattle.jpa_machine.proofs.Left.{step_left, step_undone, step_rises}
-use Rattle.jpa_machine.proofs.Outcome.{plain_made}
-use Rattle.jpa_machine.proofs.Still.{step_still}
-use Rattle.jpa_machine.proofs.Updated.{ok_from}
+use Rattle.jpa_machine.specs.machine.Routes.{is_commit}
+use Rattle.jpa_machine.specs.machine.Updating.{is_bulk}
+use Rattle.jpa_machine.proofs.machine.Isolated.{step_moves}
+use Rattle.jpa_machine.proofs.machine.Left.{step_left, step_undone, step_rises}
+use Rattle.jpa_machine.proofs.machine.Outcome.{plain_made}
+use Rattle.jpa_machine.proofs.machine.Still.{step_still}
+use Rattle.jpa_machine.proofs.machine.Updated.{ok_from}
 use Rattle.jpa_provider.specs.Provided.{StoresCall}
 use Rattle.jpa_provider.specs.Serving.{machine_of}
 use Rattle.jpa_provider.proofs.Serving.{serves_on}

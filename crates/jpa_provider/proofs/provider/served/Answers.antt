@@ -1,6 +1,6 @@
 use Rattle.std.proofs.Common.{◌≡◌, rules, w64, to_z, of_z, ap, sym, subst, ◌∙◌}
 use Rattle.jpa_behaviour.specs.Served.{world_of_unit}
-use Rattle.jpa_machine.specs.Routes.{InTransaction, OfManager, OfObject, ToQuery, stands_numbered}
+use Rattle.jpa_machine.specs.machine.Routes.{InTransaction, OfManager, OfObject, ToQuery, stands_numbered}
 use Rattle.jpa_protocol.specs.declared.call.Call.{Call}
 use Rattle.jpa_provider.specs.Operations.{at_object, by_key, by_query, on_numbered}
 use Rattle.jpa_provider.specs.Provided.{StoresCall}

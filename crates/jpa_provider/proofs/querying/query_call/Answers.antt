@@ -2,12 +2,12 @@ use Rattle.std.proofs.Common.{◌≡◌, ap, sym, subst, ◌∙◌}
 use Rattle.std.specs.Prelude.{Some}
 use Rattle.std.proofs.Math.Facts.{to_z-of_z}
 use Rattle.jpa_behaviour.specs.Served.{world_of_unit}
-use Rattle.jpa_context.specs.Work.{Work}
-use Rattle.jpa_context.specs.Steps.{Meets}
-use Rattle.jpa_context.specs.Undo.{now}
+use Rattle.jpa_work.specs.context.Work.{Work}
+use Rattle.jpa_work.specs.context.Steps.{Meets}
+use Rattle.jpa_work.specs.context.Undo.{now}
 use Rattle.jpa_queries.specs.Premises.{StaysReady}
 use Rattle.jpa_provider.specs.declared.replies.Rule.{Rule}
-use Rattle.jpa_machine.specs.Machine.{flushes_in, flushes_first, work_of}
+use Rattle.jpa_machine.specs.machine.Machine.{flushes_in, flushes_first, work_of}
 use Rattle.jpa_provider.specs.Operations.{by_query}
 use Rattle.jpa_provider.specs.Serving.{machine_of, is_begun_status, named}
 use Rattle.jpa_provider.proofs.Active.{can_flush, query_ready}

@@ -3,23 +3,23 @@ use Rattle.std.specs.Prelude.{OnOk, Some}
 use Rattle.std.proofs.Math.Facts.{to_z-of_z}
 use Rattle.std.proofs.lemmas.Bool.{false≢true}
 use Rattle.jpa_behaviour.specs.Served.{world_of_unit}
-use Rattle.jpa_context.specs.Work.{Work}
-use Rattle.jpa_context.specs.Steps.{Done, Meets}
-use Rattle.jpa_context.specs.Undo.{now}
+use Rattle.jpa_work.specs.context.Work.{Work}
+use Rattle.jpa_work.specs.context.Steps.{Done, Meets}
+use Rattle.jpa_work.specs.context.Undo.{now}
 use Rattle.jpa_protocol.specs.declared.call.FlushMode.{FlushMode}
-use Rattle.jpa_flush.specs.Flush.{flush_if}
+use Rattle.jpa_flush.specs.flush.Flush.{flush_if}
 use Rattle.jpa_updates.specs.Updates.{StaysSound}
-use Rattle.jpa_rows.specs.Cells.{all_representable}
-use Rattle.jpa_machine.specs.Going.{HoldsAfter}
+use Rattle.jpa_rows.specs.rows.Cells.{all_representable}
+use Rattle.jpa_machine.specs.machine.Going.{HoldsAfter}
 use Rattle.jpa_protocol.specs.declared.reply.Answer.{Answer}
 use Rattle.jpa_provider.specs.declared.replies.Rule.{Rule}
-use Rattle.jpa_machine.specs.Machine.{flushes_in, flushes_first, has_transaction, manager_at, work_of}
-use Rattle.jpa_machine.specs.Updating.{update_outcome}
-use Rattle.jpa_machine.specs.Querying.{update_call}
+use Rattle.jpa_machine.specs.machine.Machine.{flushes_in, flushes_first, has_transaction, manager_at, work_of}
+use Rattle.jpa_machine.specs.machine.Updating.{update_outcome}
+use Rattle.jpa_machine.specs.machine.Querying.{update_call}
 use Rattle.jpa_provider.specs.Serving.{machine_of, is_begun_status, named}
 use Rattle.jpa_provider.proofs.Active.{can_flush, update_sound, update_representable}
 use Rattle.jpa_provider.proofs.Routed.{update_so}
-use Rattle.jpa_machine.proofs.Updated.{made_so, ok_weaker}
+use Rattle.jpa_machine.proofs.machine.Updated.{made_so, ok_weaker}
 use Rattle.jpa_provider.proofs.Sessions.{begun_there, manager_there}
 use Rattle.jpa_provider.proofs.Marked.{ready_if, still_marked}
 use Rattle.jpa_provider.proofs.Operates.{updates}

@@ -1,5 +1,5 @@
 use Rattle.std.proofs.Common.{◌≡◌, ◌++◌, drop, map}
-use Rattle.jpa_machine.specs.Showing.{reached}
+use Rattle.jpa_machine.specs.machine.Showing.{reached}
 use Rattle.jpa_provider.proofs.showing.all_reached.Given as goal
 
 -- what was told so far, and what is left

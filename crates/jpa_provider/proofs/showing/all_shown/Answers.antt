@@ -1,7 +1,7 @@
 use Rattle.std.proofs.Common.{rules, ◌≡◌, ap, ◌∙◌, ◌++◌, ◌∷◌, [], ◌+◌, drop, get_or, pos, arith}
 use Rattle.std.proofs.lemmas.List.{get_or_default}
-use Rattle.jpa_heap.specs.Objects.{no_object, object_at}
-use Rattle.jpa_machine.specs.Showing.{all_shown, shown}
+use Rattle.jpa_work.specs.heap.Objects.{no_object, object_at}
+use Rattle.jpa_machine.specs.machine.Showing.{all_shown, shown}
 use Rattle.jpa_provider.proofs.Own.{fronted, shown_next}
 use Rattle.jpa_provider.proofs.showing.all_shown.Goals as goal
 

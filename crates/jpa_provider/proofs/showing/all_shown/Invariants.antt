@@ -1,5 +1,5 @@
 use Rattle.std.proofs.Common.{◌≡◌, drop}
-use Rattle.jpa_machine.specs.Showing.{all_shown}
+use Rattle.jpa_machine.specs.machine.Showing.{all_shown}
 use Rattle.jpa_provider.proofs.Own.{fronted}
 use Rattle.jpa_provider.proofs.showing.all_shown.Given as goal
 

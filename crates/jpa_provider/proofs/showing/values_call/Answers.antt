@@ -1,6 +1,6 @@
 use Rattle.std.proofs.Common.{sym, subst, List}
 use Rattle.std.specs.Prelude.{All, length}
-use Rattle.jpa_heap.specs.declared.LiveObject.{LiveObject}
+use Rattle.jpa_work.specs.declared.heap.LiveObject.{LiveObject}
 use Rattle.jpa_provider.specs.Serving.{machine_of}
 use Rattle.jpa_provider.specs.Stages.{CanBeShown}
 use Rattle.jpa_provider.proofs.Own.{all_can}

@@ -1,14 +1,14 @@
 use Rattle.std.proofs.Common.{◌<◌, length, ap, sym, subst}
 use Rattle.jpa_open.specs.Opened.{Opened}
 use Rattle.jpa_behaviour.specs.Served.{world_of_unit}
-use Rattle.jpa_context.specs.Work.{Work}
-use Rattle.jpa_context.specs.Steps.{Meets}
-use Rattle.jpa_context.specs.Undo.{now}
-use Rattle.jpa_fetch.specs.Grown.{IsReady}
-use Rattle.jpa_machine.specs.Machine.{work_of}
+use Rattle.jpa_work.specs.context.Work.{Work}
+use Rattle.jpa_work.specs.context.Steps.{Meets}
+use Rattle.jpa_work.specs.context.Undo.{now}
+use Rattle.jpa_operations.specs.fetch.Grown.{IsReady}
+use Rattle.jpa_machine.specs.machine.Machine.{work_of}
 use Rattle.jpa_provider.specs.Operations.{at_object}
 use Rattle.jpa_provider.specs.Serving.{machine_of}
-use Rattle.jpa_machine.proofs.AtWork.{work_ready}
+use Rattle.jpa_machine.proofs.machine.AtWork.{work_ready}
 use Rattle.jpa_provider.proofs.Marked.{keeps_away, ready_after}
 use Rattle.jpa_provider.proofs.Operates.{operates}
 use Rattle.jpa_provider.proofs.Told.{no_fault}

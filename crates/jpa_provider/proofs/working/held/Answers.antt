@@ -3,8 +3,8 @@ use Rattle.std.specs.Prelude.{Some, None}
 use Rattle.std.proofs.Math.Facts.{to_z-of_z}
 use Rattle.std.proofs.lemmas.List.{get_or_default}
 use Rattle.jpa_behaviour.specs.Served.{world_of_unit}
-use Rattle.jpa_heap.specs.declared.LiveObject.{LiveObject}
-use Rattle.jpa_heap.specs.Objects.{object_at, no_object, place_of}
+use Rattle.jpa_work.specs.declared.heap.LiveObject.{LiveObject}
+use Rattle.jpa_work.specs.heap.Objects.{object_at, no_object, place_of}
 use Rattle.jpa_provider.specs.Operations.{at_object, manager_holding}
 use Rattle.jpa_provider.specs.Serving.{machine_of}
 use Rattle.jpa_provider.proofs.Sessions.{managers_count}

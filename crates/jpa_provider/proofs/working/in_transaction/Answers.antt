@@ -2,12 +2,12 @@ use Rattle.std.proofs.Common.{◌≡◌, ap, sym, subst, ◌∙◌}
 use Rattle.std.specs.Prelude.{Some, None, true, false}
 use Rattle.std.proofs.Math.Facts.{to_z-of_z}
 use Rattle.jpa_behaviour.specs.Served.{world_of_unit}
-use Rattle.jpa_heap.specs.Objects.{place_of}
+use Rattle.jpa_work.specs.heap.Objects.{place_of}
 use Rattle.jpa_provider.specs.Serving.{machine_of, manager_in, is_begun_status, named, Serves}
 use Rattle.jpa_provider.specs.declared.replies.Rule.{Rule}
-use Rattle.jpa_machine.specs.Machine.{work_of}
+use Rattle.jpa_machine.specs.machine.Machine.{work_of}
 use Rattle.jpa_provider.specs.Operations.{at_object, on_numbered, EndsSo}
-use Rattle.jpa_machine.specs.Routes.{required_of, stands_numbered}
+use Rattle.jpa_machine.specs.machine.Routes.{required_of, stands_numbered}
 use Rattle.jpa_provider.proofs.Opened.{refusal}
 use Rattle.jpa_provider.proofs.Routed.{begun_alone, begun_so, object_idle}
 use Rattle.jpa_provider.proofs.working.in_transaction.Goals as goal

@@ -3,10 +3,10 @@ use Rattle.std.specs.Prelude.{Some, None}
 use Rattle.std.proofs.Math.Facts.{to_z-of_z}
 use Rattle.jpa_value.specs.declared.refusal.Cause.{Cause}
 use Rattle.jpa_behaviour.specs.Served.{world_of_unit}
-use Rattle.jpa_heap.specs.Objects.{place_of}
-use Rattle.jpa_context.specs.Steps.{Outcome}
+use Rattle.jpa_work.specs.heap.Objects.{place_of}
+use Rattle.jpa_work.specs.context.Steps.{Outcome}
 use Rattle.jpa_protocol.specs.declared.reply.Answer.{Answer}
-use Rattle.jpa_machine.specs.Machine.{work_of}
+use Rattle.jpa_machine.specs.machine.Machine.{work_of}
 use Rattle.jpa_provider.specs.declared.replies.Rule.{Rule}
 use Rattle.jpa_provider.specs.Operations.{at_object, EndsSo}
 use Rattle.jpa_provider.specs.Serving.{machine_of}

@@ -2,20 +2,20 @@ use Rattle.std.proofs.Common.{◌≡◌, false, refl, ap, sym, subst, ◌∙◌,
 use Rattle.std.specs.Prelude.{length, Ok, Err, OnErr}
 use Rattle.jpa_value.specs.declared.refusal.Refusal.{Refusal}
 use Rattle.jpa_open.specs.Opened.{Opened, with_seen, after_keeping, after_undoing}
-use Rattle.jpa_context.specs.Undo as undoing
+use Rattle.jpa_work.specs.context.Undo as undoing
 use Rattle.jpa_behaviour.specs.Served.{world_of_unit}
-use Rattle.jpa_context.specs.Work.{Work}
-use Rattle.jpa_context.specs.Steps.{Meets}
-use Rattle.jpa_context.specs.Undo.{now, Since}
-use Rattle.jpa_fetch.specs.Grown.{IsReady}
+use Rattle.jpa_work.specs.context.Work.{Work}
+use Rattle.jpa_work.specs.context.Steps.{Meets}
+use Rattle.jpa_work.specs.context.Undo.{now, Since}
+use Rattle.jpa_operations.specs.fetch.Grown.{IsReady}
 use Rattle.jpa_provider.specs.declared.replies.Rule.{Rule}
 use Rattle.jpa_provider.specs.declared.session.EntityManager.{EntityManager}
 use Rattle.jpa_provider.specs.declared.session.Session.{Session}
-use Rattle.jpa_context.specs.declared.work.UnitOfWork.{UnitOfWork}
-use Rattle.jpa_machine.specs.Machine.{work_of}
+use Rattle.jpa_work.specs.declared.context.work.UnitOfWork.{UnitOfWork}
+use Rattle.jpa_machine.specs.machine.Machine.{work_of}
 use Rattle.jpa_provider.specs.Operations.{at_object, is_marked_by, told_of}
 use Rattle.jpa_provider.specs.Serving.{machine_of}
-use Rattle.jpa_machine.proofs.AtWork.{work_ready}
+use Rattle.jpa_machine.proofs.machine.AtWork.{work_ready}
 use Rattle.jpa_provider.proofs.Counted.{counted_here}
 use Rattle.jpa_provider.proofs.Marked.{keeps_away, marked_away, nobody_in, nobody_marked, same_marked}
 use Rattle.jpa_provider.proofs.Unheld.{still_resting, nobody_works, nobody_keeps, nobody_restores}

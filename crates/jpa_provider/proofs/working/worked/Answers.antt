@@ -2,7 +2,7 @@ use Rattle.std.proofs.Common.{◌≡◌, ap, sym, subst, ◌∙◌}
 use Rattle.std.specs.Prelude.{Some}
 use Rattle.std.proofs.Math.Facts.{to_z-of_z}
 use Rattle.jpa_behaviour.specs.Served.{world_of_unit}
-use Rattle.jpa_machine.specs.Machine.{work_of}
+use Rattle.jpa_machine.specs.machine.Machine.{work_of}
 use Rattle.jpa_provider.specs.declared.replies.Rule.{Rule}
 use Rattle.jpa_provider.specs.Operations.{at_object, on_numbered, EndsSo}
 use Rattle.jpa_provider.specs.Serving.{machine_of, named}

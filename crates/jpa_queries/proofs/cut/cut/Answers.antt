@@ -1,8 +1,8 @@
 use Rattle.std.proofs.Common.{◌≡◌, ◌∙◌, IfOk, List, map, ap, subst}
 use Rattle.std.specs.Global.{Vec}
-use Rattle.jpql_eval.specs.declared.datum.Datum.{Datum}
-use Rattle.jpql_eval.specs.declared.seen.Seen.{Seen}
-use Rattle.jpql_eval.specs.Seen.{seen}
+use Rattle.jpql_meaning.specs.declared.eval.datum.Datum.{Datum}
+use Rattle.jpql_meaning.specs.declared.eval.seen.Seen.{Seen}
+use Rattle.jpql_meaning.specs.eval.Seen.{seen}
 use Rattle.jpa_queries.specs.Queries.{limited}
 use Rattle.jpa_queries.proofs.Viewed.{cut_as}
 use Rattle.jpa_queries.proofs.cut.cut.Goals as goal

@@ -1,4 +1,4 @@
-use Rattle.jpql_eval.specs.declared.datum.Datum.{Datum}
+use Rattle.jpql_meaning.specs.declared.eval.datum.Datum.{Datum}
 use Rattle.jpa_queries.proofs.Enough.{enough}
 use Rattle.jpa_queries.proofs.cut.wanted.Goals as goal
 

@@ -1,7 +1,7 @@
 use Rattle.std.proofs.Common.{◌≡◌, true, Err, rules, subst}
 use Rattle.std.specs.Prelude.{◌&&◌}
-use Rattle.jpa_context.specs.Steps.{Done, IsRefusedAs}
-use Rattle.jpa_context.specs.Undo.{now}
+use Rattle.jpa_work.specs.context.Steps.{Done, IsRefusedAs}
+use Rattle.jpa_work.specs.context.Undo.{now}
 use Rattle.jpa_asked.specs.Asking.{read_of, statement_of}
 use Rattle.jpa_queries.specs.Queries.{is_count}
 use Rattle.jpa_queries.proofs.Judging.{judged_refused, judged_so}

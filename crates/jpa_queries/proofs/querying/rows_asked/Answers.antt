@@ -1,8 +1,8 @@
 use Rattle.std.proofs.Common.{List, sym, subst}
 use Rattle.jpa_behaviour.specs.Served.{world_of_unit}
-use Rattle.jpa_context.specs.Steps.{Meets}
-use Rattle.jpa_context.specs.Undo.{now}
-use Rattle.jpql_eval.specs.declared.datum.Datum.{Datum}
+use Rattle.jpa_work.specs.context.Steps.{Meets}
+use Rattle.jpa_work.specs.context.Undo.{now}
+use Rattle.jpql_meaning.specs.declared.eval.datum.Datum.{Datum}
 use Rattle.jpa_queries.specs.Queries.{rows_found}
 use Rattle.jpa_queries.proofs.Rows.{rows_so, on_any}
 use Rattle.jpa_queries.proofs.querying.rows_asked.Goals as goal

@@ -1,10 +1,10 @@
 use Rattle.std.proofs.Common.{◌≡◌, drop, length}
 use Rattle.jpa_behaviour.specs.Served.{world_of_unit}
-use Rattle.jpa_context.specs.Undo.{now, since}
-use Rattle.jpa_fetch.specs.Grown.{IsReady}
-use Rattle.jpa_fetch.specs.Members.{collect}
+use Rattle.jpa_work.specs.context.Undo.{now, since}
+use Rattle.jpa_operations.specs.fetch.Grown.{IsReady}
+use Rattle.jpa_operations.specs.fetch.Members.{collect}
 use Rattle.jpa_queries.specs.Queries.{item_of}
-use Rattle.jpa_fetch.proofs.Collected.{behind}
+use Rattle.jpa_operations.proofs.fetch.Collected.{behind}
 use Rattle.jpa_queries.proofs.results.row_of.Given as goal
 
 -- the items so far before those of the rest

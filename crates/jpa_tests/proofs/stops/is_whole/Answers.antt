@@ -1,4 +1,4 @@
-use Rattle.jpa_cells_meaning.proofs.Found.{files_in_order}
+use Rattle.jpa_cells.proofs.meaning.Found.{files_in_order}
 use Rattle.jpa_tests.proofs.stops.is_whole.Goals as goal
 
 pub is_whole_over-requires : goal.is_whole_over-requires

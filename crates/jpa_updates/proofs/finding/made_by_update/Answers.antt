@@ -1,12 +1,12 @@
 use Rattle.std.proofs.Common.{◌≡◌, ◌∙◌, ap, sym, List, map}
 use Rattle.jpa_behaviour.specs.Served.{world_of_unit}
 use Rattle.jpa_open.specs.Opened as opened
-use Rattle.jpql_bulk.specs.Throwing as registered
-use Rattle.jpql_bulk.specs.Changes.{change_in, found_by_update}
-use Rattle.jpql_bulk.specs.declared.update.Change.{Change}
-use Rattle.jpql_kept.specs.Fits.{throws_in}
-use Rattle.jpql_plan.specs.Bulk.{Throws, each_assigned}
-use Rattle.jpql_plan.specs.Paths.{Entry}
+use Rattle.jpql_bulk.specs.bulk.Throwing as registered
+use Rattle.jpql_bulk.specs.bulk.Changes.{change_in, found_by_update}
+use Rattle.jpql_bulk.specs.declared.bulk.update.Change.{Change}
+use Rattle.jpql_bulk.specs.kept.Fits.{throws_in}
+use Rattle.jpql_meaning.specs.plan.Bulk.{Throws, each_assigned}
+use Rattle.jpql_meaning.specs.plan.Paths.{Entry}
 use Rattle.jpa_updates.proofs.Found.{throws_same, assign_refused}
 use Rattle.jpa_updates.proofs.finding.made_by_update.Goals as goal
 

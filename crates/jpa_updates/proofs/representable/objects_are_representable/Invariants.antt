@@ -1,5 +1,5 @@
 use Rattle.std.proofs.Common.{◌≡◌, true, take}
-use Rattle.jpa_rows.specs.Cells.{all_representable}
+use Rattle.jpa_rows.specs.rows.Cells.{all_representable}
 use Rattle.jpa_updates.proofs.representable.objects_are_representable.Given as goal
 
 abbrev pub invariant-loop-object : goal.invariant-loop-object

@@ -2,9 +2,9 @@ use Rattle.std.proofs.Common.{◌≡◌, ◌∙◌, ap, sym, subst, T, length}
 use Rattle.std.specs.FinMap.Entries.{is_sorted}
 use Rattle.std.proofs.lemmas.Result.{err_from_is_err_and}
 use Rattle.jpa_value.specs.Value.{identity_cmp}
-use Rattle.jpa_stored.specs.Sets as sets
-use Rattle.jpa_context.specs.Undo.{now}
-use Rattle.jpa_context.specs.Work.{Work}
+use Rattle.jpa_stored.specs.objects.Sets as sets
+use Rattle.jpa_work.specs.context.Undo.{now}
+use Rattle.jpa_work.specs.context.Work.{Work}
 use Rattle.jpa_constraints.specs.Changed.{IsChanged}
 use Rattle.jpa_updates.specs.Changing.{ArePlaces}
 use Rattle.jpa_updates.specs.Updates.{with_view}

@@ -1,7 +1,7 @@
 use Rattle.std.proofs.Common.{◌≡◌, sym, subst, true, length}
-use Rattle.jpa_stored.specs.Sets as sets
-use Rattle.jpa_rows.specs.Cells.{all_representable}
-use Rattle.jpa_context.specs.Undo.{now}
+use Rattle.jpa_stored.specs.objects.Sets as sets
+use Rattle.jpa_rows.specs.rows.Cells.{all_representable}
+use Rattle.jpa_work.specs.context.Undo.{now}
 use Rattle.jpa_updates.specs.Updates.{settle}
 use Rattle.jpa_updates.proofs.Settled.{seen_then}
 use Rattle.jpa_updates.proofs.Updated.{taken_representable, if_done}

@@ -1,4 +1,4 @@
-use Rattle.jpa_context.specs.Undo.{now}
+use Rattle.jpa_work.specs.context.Undo.{now}
 use Rattle.jpa_updates.proofs.updating.execute_update.Goals as goal
 
 pub run-requires : goal.run-requires

@@ -1,10 +1,10 @@
 use Rattle.std.proofs.Common.{◌≡◌, ◌∙◌, ap, sym, subst, List}
 use Rattle.jpa_behaviour.specs.Served.{world_of_unit}
-use Rattle.jpa_context.specs.Steps.{Meets}
-use Rattle.jpa_context.specs.Undo.{now}
-use Rattle.jpql_eval.specs.declared.datum.Datum.{Datum}
-use Rattle.jpql_typed.specs.declared.typed.Typed.{Typed}
-use Rattle.jpql_typed.specs.declared.typed.TypedAssignment.{TypedAssignment}
+use Rattle.jpa_work.specs.context.Steps.{Meets}
+use Rattle.jpa_work.specs.context.Undo.{now}
+use Rattle.jpql_meaning.specs.declared.eval.datum.Datum.{Datum}
+use Rattle.jpql_trees.specs.declared.typed.typed.Typed.{Typed}
+use Rattle.jpql_trees.specs.declared.typed.typed.TypedAssignment.{TypedAssignment}
 use Rattle.jpa_updates.specs.Updates.{settled, changed_by}
 use Rattle.jpa_updates.proofs.updating.run.Goals as goal
 

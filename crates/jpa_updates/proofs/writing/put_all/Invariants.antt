@@ -1,6 +1,6 @@
 use Rattle.std.proofs.Common.{◌≡◌, drop}
-use Rattle.jpa_context.specs.Undo.{now, since}
-use Rattle.jpa_stored.specs.Sets as sets
+use Rattle.jpa_work.specs.context.Undo.{now, since}
+use Rattle.jpa_stored.specs.objects.Sets as sets
 use Rattle.jpa_updates.proofs.writing.put_all.Given as goal
 
 abbrev pub invariant-loop-object : goal.invariant-loop-object

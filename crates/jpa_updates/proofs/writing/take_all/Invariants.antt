@@ -1,5 +1,5 @@
 use Rattle.std.proofs.Common.{◌≡◌, drop}
-use Rattle.jpa_context.specs.Undo.{now, since}
+use Rattle.jpa_work.specs.context.Undo.{now, since}
 use Rattle.jpa_updates.specs.Changing.{take_each}
 use Rattle.jpa_updates.proofs.writing.take_all.Given as goal
 

@@ -1,8 +1,8 @@
 use Rattle.std.proofs.Common.{◌≡◌, ◌∙◌, ap, sym, true, false, nat_le}
 use Rattle.std.specs.Prelude.{◌&&◌}
 use Rattle.std.specs.List.{list_all}
-use Rattle.jpql_typed.specs.declared.typed.TypedCondition.TheViews.{out-TypedBlock, out-TypedSource}
-use Rattle.jpql_plan.specs.Alone.{is_alone_join, is_alone_origin, is_alone_source, is_alone_value}
+use Rattle.jpql_trees.specs.declared.typed.typed.TypedCondition.TheViews.{out-TypedBlock, out-TypedSource}
+use Rattle.jpql_meaning.specs.plan.Alone.{is_alone_join, is_alone_origin, is_alone_source, is_alone_value}
 use Rattle.jpql_run.proofs.AloneParts.{alone_if, alone_of_block, alone_of_source}
 use Rattle.jpql_run.proofs.alone.+is_alone.Goals as goal
 

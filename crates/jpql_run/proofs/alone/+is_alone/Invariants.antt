@@ -1,6 +1,6 @@
 use Rattle.std.proofs.Common.{◌≡◌, drop}
 use Rattle.std.specs.List.{list_all}
-use Rattle.jpql_plan.specs.Alone.{is_alone_join, is_alone_source}
+use Rattle.jpql_meaning.specs.plan.Alone.{is_alone_join, is_alone_source}
 use Rattle.jpql_run.proofs.alone.+is_alone.Given as goal
 
 abbrev pub invariant-are_alone_joins-loop-join : goal.invariant-are_alone_joins-loop-join

@@ -1,7 +1,7 @@
 use Rattle.std.proofs.Common.{◌≡◌, ◌∙◌, ap, sym, subst}
 use Rattle.std.specs.List.{list_all}
-use Rattle.jpql_typed.specs.declared.typed.TypedValue.{TypedValue}
-use Rattle.jpql_plan.specs.Alone.{is_alone_value}
+use Rattle.jpql_trees.specs.declared.typed.typed.TypedValue.{TypedValue}
+use Rattle.jpql_meaning.specs.plan.Alone.{is_alone_value}
 use Rattle.jpql_run.proofs.AloneParts.{alone_of_call}
 use Rattle.jpql_run.proofs.alone.+is_alone_value.Goals as goal
 

@@ -1,4 +1,4 @@
-use Rattle.jpql_eval.specs.Seen.{seen}
+use Rattle.jpql_meaning.specs.eval.Seen.{seen}
 use Rattle.jpql_run.proofs.Narrowed.{compared_always}
 use Rattle.jpql_run.proofs.bounds.bound_of.Goals as goal
 

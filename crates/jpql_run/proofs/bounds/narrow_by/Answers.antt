@@ -1,4 +1,4 @@
-use Rattle.jpql_typed.specs.declared.typed.TypedCondition.TheVariants as is
+use Rattle.jpql_trees.specs.declared.typed.typed.TypedCondition.TheVariants as is
 use Rattle.jpql_run.proofs.Narrowed.{by_any, by_bound}
 use Rattle.jpql_run.proofs.bounds.narrow_by.Goals as goal
 

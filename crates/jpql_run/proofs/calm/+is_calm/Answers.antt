@@ -1,7 +1,7 @@
 use Rattle.std.proofs.Common.{◌≡◌, ◌∙◌, ap, sym, subst, true, false, ◌<◌, ◌≤◌, length, get_or}
 use Rattle.std.specs.Prelude.{◌&&◌}
 use Rattle.std.specs.List.{list_all}
-use Rattle.jpql_typed.specs.declared.typed.TypedCondition.TheViews.{out-TypedBlock, out-TypedSource}
+use Rattle.jpql_trees.specs.declared.typed.typed.TypedCondition.TheViews.{out-TypedBlock, out-TypedSource}
 use Rattle.jpql_run.specs.Calm.{is_calm_source, is_calm_value}
 use Rattle.jpql_run.proofs.CalmParts.{calm_if, calm_of_block, calm_of_source, calm_on, none_left, one_fails}
 use Rattle.jpql_run.proofs.calm.+is_calm.Goals as goal

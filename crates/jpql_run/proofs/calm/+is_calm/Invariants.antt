@@ -1,6 +1,6 @@
 use Rattle.std.proofs.Common.{◌≡◌, drop}
 use Rattle.std.specs.List.{list_all}
-use Rattle.jpql_typed.specs.declared.typed.TypedCondition.TheViews.{out-TypedSource}
+use Rattle.jpql_trees.specs.declared.typed.typed.TypedCondition.TheViews.{out-TypedSource}
 use Rattle.jpql_run.specs.Calm.{is_calm_source}
 use Rattle.jpql_run.proofs.CalmParts.{calm_on}
 use Rattle.jpql_run.proofs.calm.+is_calm.Given as goal

@@ -1,7 +1,7 @@
 use Rattle.std.proofs.Common.{◌≡◌, ◌∙◌, ap, sym, subst}
 use Rattle.std.specs.Prelude.{◌&&◌}
 use Rattle.std.specs.List.{list_all}
-use Rattle.jpql_typed.specs.declared.typed.TypedValue.{TypedValue}
+use Rattle.jpql_trees.specs.declared.typed.typed.TypedValue.{TypedValue}
 use Rattle.jpql_run.specs.Calm.{is_calm_value}
 use Rattle.jpql_run.proofs.CalmParts.{calm_of_call}
 use Rattle.jpql_run.proofs.calm.+is_calm_value.Goals as goal

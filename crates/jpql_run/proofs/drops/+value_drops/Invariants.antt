@@ -1,8 +1,8 @@
 use Rattle.std.proofs.Common.{◌≡◌, drop}
 use Rattle.std.specs.List.{list_any}
 use Rattle.jpa_open.specs.Opened.{now}
-use Rattle.jpql_typed.specs.declared.typed.TypedValue.{TypedValue}
-use Rattle.jpql_plan.specs.Meaning.{value_drops}
+use Rattle.jpql_trees.specs.declared.typed.typed.TypedValue.{TypedValue}
+use Rattle.jpql_meaning.specs.plan.Meaning.{value_drops}
 use Rattle.jpql_run.proofs.drops.+value_drops.Given as goal
 
 abbrev pub invariant-any_drops-loop-one : goal.invariant-any_drops-loop-one

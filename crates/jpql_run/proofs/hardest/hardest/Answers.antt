@@ -3,11 +3,11 @@ use Rattle.std.proofs.lemmas.Iterator.Adapters.{YieldsList-from_vec}
 use Rattle.std.proofs.lemmas.Iterator.Consumers.{YieldsList-turn, YieldsList-end}
 use Rattle.std.specs.Global.{Vec}
 use Rattle.std.specs.Prelude.{Result, Ok, Err, IfOk}
-use Rattle.jpql_eval.specs.declared.datum.Datum.{Datum}
-use Rattle.jpql_eval.specs.declared.seen.Seen.{Seen}
-use Rattle.jpql_eval.specs.Data.{is_nothing, compared}
-use Rattle.jpql_eval.specs.Seen.{seen}
-use Rattle.jpql_eval.specs.Truths.{all3}
+use Rattle.jpql_meaning.specs.declared.eval.datum.Datum.{Datum}
+use Rattle.jpql_meaning.specs.declared.eval.seen.Seen.{Seen}
+use Rattle.jpql_meaning.specs.eval.Data.{is_nothing, compared}
+use Rattle.jpql_meaning.specs.eval.Seen.{seen}
+use Rattle.jpql_meaning.specs.eval.Truths.{all3}
 use Rattle.jpql_run.specs.Ready.{few}
 use Rattle.jpql_run.proofs.Decided.{SayAll, harder_there, no_more, one_null, one_row}
 use Rattle.jpql_run.proofs.Yielded.{next_of, none_after}

@@ -1,8 +1,8 @@
 use Rattle.std.proofs.Common.{◌≡◌, false, drop, length, map, option_map}
 use Rattle.std.specs.Prelude.{IfSome}
-use Rattle.jpql_eval.specs.declared.datum.Datum.{Datum}
-use Rattle.jpql_eval.specs.Data.{is_nothing}
-use Rattle.jpql_eval.specs.Seen.{seen}
+use Rattle.jpql_meaning.specs.declared.eval.datum.Datum.{Datum}
+use Rattle.jpql_meaning.specs.eval.Data.{is_nothing}
+use Rattle.jpql_meaning.specs.eval.Seen.{seen}
 use Rattle.jpql_run.proofs.Decided.{SayAll}
 use Rattle.jpql_run.proofs.hardest.hardest.Given as goal
 

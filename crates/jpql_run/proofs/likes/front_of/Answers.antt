@@ -1,8 +1,8 @@
 use Rattle.std.proofs.Common.{subst, ℕ, List}
 use Rattle.jpa_value.specs.declared.value.Value.{Value}
-use Rattle.jpql_eval.specs.Seen.{seen}
-use Rattle.jpql_eval.specs.declared.datum.Datum.{Datum}
-use Rattle.jpql_eval.specs.declared.seen.Seen.{Seen}
+use Rattle.jpql_meaning.specs.eval.Seen.{seen}
+use Rattle.jpql_meaning.specs.declared.eval.datum.Datum.{Datum}
+use Rattle.jpql_meaning.specs.declared.eval.seen.Seen.{Seen}
 use Rattle.jpql_run.specs.Bounds.{AlwaysGives}
 use Rattle.jpql_run.specs.Likes.{IsFront}
 use Rattle.jpql_run.proofs.likes.front_of.Goals as goal

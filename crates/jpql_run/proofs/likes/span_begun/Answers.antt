@@ -1,4 +1,4 @@
-use Rattle.jpa_ordered.specs.declared.cut.Span.{Span}
+use Rattle.jpa_stored.specs.declared.ordered.cut.Span.{Span}
 use Rattle.jpql_run.proofs.Alike.{span_covers}
 use Rattle.jpql_run.proofs.likes.span_begun.Goals as goal
 

@@ -1,5 +1,5 @@
 use Rattle.std.proofs.Common.{◌+◌, arith, sym, subst, List, [], ◌∷◌}
-use Rattle.jpa_ordered.specs.declared.cut.Span.{Span}
+use Rattle.jpa_stored.specs.declared.ordered.cut.Span.{Span}
 use Rattle.jpql_run.specs.Likes.{CoversBegun, CoversOthers}
 use Rattle.jpql_run.proofs.Alike.{begun_with, covers_more}
 use Rattle.jpql_run.proofs.likes.spans_of_front.Goals as goal

@@ -1,9 +1,9 @@
 use Rattle.std.proofs.Common.{rules, arith, ap, sym, subst, ◌∙◌, ◌≡◌}
 use Rattle.std.proofs.lemmas.Grind.{common_steps}
-use Rattle.jpql_eval.specs.declared.datum.Truth.{Truth}
-use Rattle.jpql_eval.specs.Answers.{Answer, gives, under}
-use Rattle.jpql_eval.specs.Finds.{Fails, Finds, same}
-use Rattle.jpql_eval.specs.Seen.{seen}
+use Rattle.jpql_meaning.specs.declared.eval.datum.Truth.{Truth}
+use Rattle.jpql_meaning.specs.eval.Answers.{Answer, gives, under}
+use Rattle.jpql_meaning.specs.eval.Finds.{Fails, Finds, same}
+use Rattle.jpql_meaning.specs.eval.Seen.{seen}
 use Rattle.jpql_run.specs.Ready.{asked, ready_truth}
 use Rattle.jpql_run.specs.Runs as runs
 use Rattle.jpql_run.proofs.Readied.{says_or, says_and, says_not, or_left_breaks, or_right_breaks, and_left_breaks, and_right_breaks, not_breaks, ready_beside, ready_plain, beside_breaks}

@@ -1,10 +1,10 @@
 use Rattle.std.proofs.Common.{rules, arith, ap, sym, subst, ◌∙◌, ◌≡◌, length}
 use Rattle.std.proofs.lemmas.Grind.{common_steps}
-use Rattle.jpql_typed.specs.declared.typed.TypedBlock.{TypedBlock}
-use Rattle.jpql_typed.specs.declared.typed.TypedCondition.{TypedCondition}
-use Rattle.jpql_typed.specs.declared.typed.TypedCondition.TheVariants as is
-use Rattle.jpql_eval.specs.Finds.{Fails}
-use Rattle.jpql_plan.specs.Meaning.{alone}
+use Rattle.jpql_trees.specs.declared.typed.typed.TypedBlock.{TypedBlock}
+use Rattle.jpql_trees.specs.declared.typed.typed.TypedCondition.{TypedCondition}
+use Rattle.jpql_trees.specs.declared.typed.typed.TypedCondition.TheVariants as is
+use Rattle.jpql_meaning.specs.eval.Finds.{Fails}
+use Rattle.jpql_meaning.specs.plan.Meaning.{alone}
 use Rattle.jpql_run.specs.Ready.{IsReadied}
 use Rattle.jpql_run.specs.Runs as runs
 use Rattle.jpql_run.proofs.Readied.{made_or, made_and, made_not, tells_plain, or_left_fails, or_right_fails, and_left_fails, and_right_fails, not_fails}

@@ -1,5 +1,5 @@
 use Rattle.std.proofs.Common.{rules, arith, subst, ◌≡◌, length}
-use Rattle.jpql_eval.specs.Finds.{Finds, same}
+use Rattle.jpql_meaning.specs.eval.Finds.{Finds, same}
 use Rattle.jpql_run.proofs.ready.holds_for.Goals as goal
 
 pub returns : goal.returns

@@ -3,13 +3,13 @@ use Rattle.std.specs.Prelude.{slice_get, option_copied}
 use Rattle.std.proofs.lemmas.Grind.{common_steps}
 use Rattle.std.proofs.lemmas.Iterator.Adapters.{YieldsList-from_vec}
 use Rattle.std.proofs.lemmas.Iterator.Consumers.{YieldsList-turn, YieldsList-end}
-use Rattle.jpql_eval.specs.Answers.{Answer, gives, overflows, both, under}
-use Rattle.jpql_eval.specs.declared.datum.Truth.{Truth}
-use Rattle.jpql_eval.specs.Finds.{Fails}
-use Rattle.jpql_eval.specs.Truths.{is_yes}
-use Rattle.jpql_plan.specs.Meaning as meaning
-use Rattle.jpql_plan.specs.Meaning.{alone}
-use Rattle.jpql_plan.specs.Paths.{Tuple}
+use Rattle.jpql_meaning.specs.eval.Answers.{Answer, gives, overflows, both, under}
+use Rattle.jpql_meaning.specs.declared.eval.datum.Truth.{Truth}
+use Rattle.jpql_meaning.specs.eval.Finds.{Fails}
+use Rattle.jpql_meaning.specs.eval.Truths.{is_yes}
+use Rattle.jpql_meaning.specs.plan.Meaning as meaning
+use Rattle.jpql_meaning.specs.plan.Meaning.{alone}
+use Rattle.jpql_meaning.specs.plan.Paths.{Tuple}
 use Rattle.jpql_run.specs.Ready.{Tells}
 use Rattle.jpql_run.specs.Runs as runs
 use Rattle.jpql_run.proofs.Turns.{fails_on}

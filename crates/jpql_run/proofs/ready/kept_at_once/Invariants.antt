@@ -1,7 +1,7 @@
 use Rattle.std.proofs.Common.{◌≡◌, ◌++◌, Some, drop, length}
-use Rattle.jpql_eval.specs.Answers.{under}
-use Rattle.jpql_plan.specs.Paths.{Tuple}
-use Rattle.jpql_plan.specs.Meaning as meaning
+use Rattle.jpql_meaning.specs.eval.Answers.{under}
+use Rattle.jpql_meaning.specs.plan.Paths.{Tuple}
+use Rattle.jpql_meaning.specs.plan.Meaning as meaning
 use Rattle.jpql_run.specs.Ready.{Tells}
 use Rattle.jpql_run.specs.Runs as runs
 use Rattle.jpql_run.proofs.ready.kept_at_once.Given as goal

@@ -1,11 +1,11 @@
 use Rattle.std.proofs.Common.{rules, arith, map}
 use Rattle.std.proofs.lemmas.Grind.{common_steps}
-use Rattle.jpql_typed.specs.declared.typed.TypedCondition.TheVariants as is
-use Rattle.jpql_eval.specs.declared.datum.Datum.{Datum}
-use Rattle.jpql_eval.specs.Finds.{Fails}
-use Rattle.jpql_eval.specs.Judged.{judged}
-use Rattle.jpql_eval.specs.Seen.{seen}
-use Rattle.jpql_plan.specs.Meaning.{alone}
+use Rattle.jpql_trees.specs.declared.typed.typed.TypedCondition.TheVariants as is
+use Rattle.jpql_meaning.specs.declared.eval.datum.Datum.{Datum}
+use Rattle.jpql_meaning.specs.eval.Finds.{Fails}
+use Rattle.jpql_meaning.specs.eval.Judged.{judged}
+use Rattle.jpql_meaning.specs.eval.Seen.{seen}
+use Rattle.jpql_meaning.specs.plan.Meaning.{alone}
 use Rattle.jpql_run.specs.Runs as runs
 use Rattle.jpql_run.proofs.Readied.{rows_fail, told_fails, tells_rows}
 use Rattle.jpql_run.proofs.ready.ready_rows.Goals as goal

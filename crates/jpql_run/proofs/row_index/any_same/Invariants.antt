@@ -1,7 +1,7 @@
 use Rattle.std.proofs.Common.{◌≡◌, drop, map}
 use Rattle.std.specs.List.{list_any}
-use Rattle.jpql_eval.specs.Data.{same_datum}
-use Rattle.jpql_eval.specs.Seen.{seen}
+use Rattle.jpql_meaning.specs.eval.Data.{same_datum}
+use Rattle.jpql_meaning.specs.eval.Seen.{seen}
 use Rattle.jpql_run.proofs.row_index.any_same.Given as goal
 
 -- none of those before

@@ -2,7 +2,7 @@ use Rattle.std.proofs.Common.{◌≡◌, ◌++◌, ℕ, drop, length, map}
 use Rattle.std.specs.Prelude.{nat_eq}
 use Rattle.std.specs.List.{filter}
 use Rattle.indexmap.specs.IndexMap.{get}
-use Rattle.jpql_eval.specs.Seen.{seen}
+use Rattle.jpql_meaning.specs.eval.Seen.{seen}
 use Rattle.jpql_run.specs.Ready.{is_printed_as, rows_under}
 use Rattle.jpql_run.proofs.row_index.by_print.Given as goal
 

@@ -1,7 +1,7 @@
 use Rattle.std.proofs.Common.{◌≡◌, map, subst}
-use Rattle.jpql_eval.specs.Data.{compared}
-use Rattle.jpql_eval.specs.Seen.{seen}
-use Rattle.jpql_eval.specs.Truths.{all3}
+use Rattle.jpql_meaning.specs.eval.Data.{compared}
+use Rattle.jpql_meaning.specs.eval.Seen.{seen}
+use Rattle.jpql_meaning.specs.eval.Truths.{all3}
 use Rattle.jpql_run.proofs.Decided.{any_opposite}
 use Rattle.jpql_run.proofs.rows_told.told_of_any.Goals as goal
 

@@ -1,8 +1,8 @@
 use Rattle.std.proofs.Common.{◌∙◌, ap, map, sym}
-use Rattle.jpql_tree.specs.declared.Comparison.{Comparison}
-use Rattle.jpql_eval.specs.Data.{compared}
-use Rattle.jpql_eval.specs.Seen.{seen}
-use Rattle.jpql_eval.specs.Truths.{not3}
+use Rattle.jpql_trees.specs.declared.tree.Comparison.{Comparison}
+use Rattle.jpql_meaning.specs.eval.Data.{compared}
+use Rattle.jpql_meaning.specs.eval.Seen.{seen}
+use Rattle.jpql_meaning.specs.eval.Truths.{not3}
 use Rattle.jpql_run.proofs.Decided.{all_by_any, compared_opposite}
 use Rattle.jpql_run.proofs.rows_told.told_outside.Goals as goal
 

@@ -1,12 +1,12 @@
 use Rattle.std.proofs.Common.{◌≡◌, drop, map}
 use Rattle.jpa_open.specs.Opened.{now}
-use Rattle.jpql_tree.specs.declared.Comparison.{Comparison}
-use Rattle.jpql_typed.specs.declared.typed.TypedValue.{TypedValue}
-use Rattle.jpql_eval.specs.Answers.{every, under}
-use Rattle.jpql_eval.specs.Truths.{or3, any3}
-use Rattle.jpql_eval.specs.Data.{compared}
-use Rattle.jpql_plan.specs.Meaning as meaning
-use Rattle.jpql_eval.specs.Seen.{seen}
+use Rattle.jpql_trees.specs.declared.tree.Comparison.{Comparison}
+use Rattle.jpql_trees.specs.declared.typed.typed.TypedValue.{TypedValue}
+use Rattle.jpql_meaning.specs.eval.Answers.{every, under}
+use Rattle.jpql_meaning.specs.eval.Truths.{or3, any3}
+use Rattle.jpql_meaning.specs.eval.Data.{compared}
+use Rattle.jpql_meaning.specs.plan.Meaning as meaning
+use Rattle.jpql_meaning.specs.eval.Seen.{seen}
 use Rattle.jpql_run.proofs.simple.among_these.Given as goal
 
 -- what those before give, and what is left

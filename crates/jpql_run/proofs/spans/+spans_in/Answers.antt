@@ -1,9 +1,9 @@
 use Rattle.std.proofs.Common.{sym, subst, ℕ, List, [], ◌∷◌}
 use Rattle.std.specs.Prelude.{All, Option, IfOk, IfSome}
 use Rattle.std.specs.Global.{Vec}
-use Rattle.jpa_ordered.specs.declared.cut.Span.{Span}
-use Rattle.jpql_typed.specs.declared.typed.TypedCondition.{TypedCondition}
-use Rattle.jpql_typed.specs.declared.typed.TypedValue.{TypedValue}
+use Rattle.jpa_stored.specs.declared.ordered.cut.Span.{Span}
+use Rattle.jpql_trees.specs.declared.typed.typed.TypedCondition.{TypedCondition}
+use Rattle.jpql_trees.specs.declared.typed.typed.TypedValue.{TypedValue}
 use Rattle.jpql_run.specs.Ends.{IsOwn}
 use Rattle.jpql_run.specs.Spans.{AsksSpans, CoversAny}
 use Rattle.jpql_run.proofs.Keyed.{each_found}

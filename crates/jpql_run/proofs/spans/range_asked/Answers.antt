@@ -1,5 +1,5 @@
 use Rattle.std.specs.Global.{Vec}
-use Rattle.jpa_ordered.specs.declared.cut.Span.{Span}
+use Rattle.jpa_stored.specs.declared.ordered.cut.Span.{Span}
 use Rattle.jpql_run.specs.Equations.{conditions}
 use Rattle.jpql_run.specs.Spans.{AreBetween, AsksSpans}
 use Rattle.jpql_run.proofs.Keyed.{each_found}

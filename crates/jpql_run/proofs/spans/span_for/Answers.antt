@@ -1,6 +1,6 @@
 use Rattle.std.proofs.Common.{subst, ℕ, [], ◌∷◌}
-use Rattle.jpa_ordered.specs.declared.cut.Span.{Span}
-use Rattle.jpql_eval.specs.Seen.{seen}
+use Rattle.jpa_stored.specs.declared.ordered.cut.Span.{Span}
+use Rattle.jpql_meaning.specs.eval.Seen.{seen}
 use Rattle.jpql_run.specs.Equations.{IsKnownAt}
 use Rattle.jpql_run.specs.Spans.{CoversAny, CoversEqual}
 use Rattle.jpql_run.proofs.Keyed.{each_found}

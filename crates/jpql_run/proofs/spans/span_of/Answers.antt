@@ -1,5 +1,5 @@
 use Rattle.std.proofs.Common.{◌∙◌, ap, true, Some}
-use Rattle.jpa_ordered.specs.declared.cut.Span.{Span}
+use Rattle.jpa_stored.specs.declared.ordered.cut.Span.{Span}
 use Rattle.jpql_run.specs.Spans.{cut_at}
 use Rattle.jpql_run.proofs.Outside.{covers_value}
 use Rattle.jpql_run.proofs.spans.span_of.Goals as goal

@@ -1,7 +1,7 @@
 use Rattle.std.proofs.Common.{◌∙◌, sym, subst}
 use Rattle.std.specs.Prelude.{Option, IfSome}
 use Rattle.jpa_value.specs.declared.value.Value.{Value}
-use Rattle.jpql_eval.specs.Seen.{seen}
+use Rattle.jpql_meaning.specs.eval.Seen.{seen}
 use Rattle.jpql_run.specs.Keys.{IsPart}
 use Rattle.jpql_run.proofs.Outside.{covers_equal, covers_null}
 use Rattle.jpql_run.proofs.spans.span_of_equal.Goals as goal

@@ -1,6 +1,6 @@
 use Rattle.std.proofs.Common.{◌+◌, sym, subst, List, Option, [], ◌∷◌}
 use Rattle.std.specs.Prelude.{IfSome}
-use Rattle.jpa_ordered.specs.declared.cut.Span.{Span}
+use Rattle.jpa_stored.specs.declared.ordered.cut.Span.{Span}
 use Rattle.jpql_run.specs.Spans.{CoversAny}
 use Rattle.jpql_run.proofs.Outside.{CoverBefore, all_before, none_before, one_more}
 use Rattle.jpql_run.proofs.spans.spans_among.Goals as goal

@@ -1,5 +1,5 @@
-use Rattle.jpa_ordered.specs.Values.{own_value}
-use Rattle.jpa_ordered.specs.declared.cut.Span.{Span}
+use Rattle.jpa_stored.specs.ordered.Values.{own_value}
+use Rattle.jpa_stored.specs.declared.ordered.cut.Span.{Span}
 use Rattle.jpql_run.proofs.Outside.{between}
 use Rattle.jpql_run.proofs.spans.spans_between.Goals as goal
 

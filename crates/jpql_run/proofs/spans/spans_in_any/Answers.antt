@@ -1,7 +1,7 @@
 use Rattle.std.proofs.Common.{subst, [], ◌∷◌}
 use Rattle.std.specs.Prelude.{Option, IfSome}
 use Rattle.std.specs.Global.{Vec}
-use Rattle.jpa_ordered.specs.declared.cut.Span.{Span}
+use Rattle.jpa_stored.specs.declared.ordered.cut.Span.{Span}
 use Rattle.jpql_run.specs.Spans.{AsksSpans}
 use Rattle.jpql_run.proofs.Outside.{asked_among}
 use Rattle.jpql_run.proofs.spans.spans_in_any.Goals as goal

@@ -2,7 +2,7 @@ use Rattle.std.proofs.Common.{◌≡◌, ◌∙◌, ◌<◌, arith, ap, sym, sub
 use Rattle.std.specs.Prelude.{IfOk, IfSome}
 use Rattle.std.specs.Global.{Vec}
 use Rattle.std.proofs.lemmas.Bool.Decides.{nat_tests}
-use Rattle.jpql_typed.specs.declared.typed.TypedSource.{TypedSource}
+use Rattle.jpql_trees.specs.declared.typed.typed.TypedSource.{TypedSource}
 use Rattle.jpql_run.specs.ValueFronts.{IsFrontBy}
 use Rattle.jpql_run.specs.Grown.{are_calm}
 use Rattle.jpql_run.specs.Objects.{entry}

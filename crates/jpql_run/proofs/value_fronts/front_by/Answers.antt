@@ -1,6 +1,6 @@
 use Rattle.std.proofs.Common.{◌≡◌, ◌∙◌, ap, subst, map, List}
 use Rattle.std.specs.Global.{Vec}
-use Rattle.jpql_typed.specs.declared.typed.TypedCondition.{TypedCondition}
+use Rattle.jpql_trees.specs.declared.typed.typed.TypedCondition.{TypedCondition}
 use Rattle.jpql_run.specs.Equations.{conditions}
 use Rattle.jpql_run.specs.Objects.{entry}
 use Rattle.jpql_run.specs.Refused.{asked}

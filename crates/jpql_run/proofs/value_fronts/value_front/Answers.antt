@@ -4,10 +4,10 @@ use Rattle.std.specs.Borrow.{Bor}
 use Rattle.std.specs.Global.{Vec}
 use Rattle.std.specs.List.{filter}
 use Rattle.jpa_model.specs.Chains.{is_kind_of}
-use Rattle.jpa_ordered.specs.Values.{lies_in_any}
-use Rattle.jpa_ordered.specs.declared.cut.Span.{Span}
+use Rattle.jpa_stored.specs.ordered.Values.{lies_in_any}
+use Rattle.jpa_stored.specs.declared.ordered.cut.Span.{Span}
 use Rattle.jpa_open.specs.Opened.{lent, now}
-use Rattle.jpql_plan.specs.Paths.{Entry, Tuple}
+use Rattle.jpql_meaning.specs.plan.Paths.{Entry, Tuple}
 use Rattle.jpql_run.specs.Ends.{EndsAt}
 use Rattle.jpql_run.specs.Equations.{conditions}
 use Rattle.jpql_run.specs.declared.ends.Edge.{Edge}

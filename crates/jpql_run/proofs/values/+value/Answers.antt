@@ -1,9 +1,9 @@
 use Rattle.std.proofs.Common.{subst, ap, sym, ◌∙◌, map}
 use Rattle.jpa_open.specs.Opened.{now}
-use Rattle.jpql_typed.specs.declared.typed.TypedValue.TheVariants as v
-use Rattle.jpql_plan.specs.Meaning.{Case, value, call}
-use Rattle.jpql_eval.specs.Finds.{Finds}
-use Rattle.jpql_eval.specs.Seen.{seen}
+use Rattle.jpql_trees.specs.declared.typed.typed.TypedValue.TheVariants as v
+use Rattle.jpql_meaning.specs.plan.Meaning.{Case, value, call}
+use Rattle.jpql_meaning.specs.eval.Finds.{Finds}
+use Rattle.jpql_meaning.specs.eval.Seen.{seen}
 use Rattle.jpql_run.proofs.Calls.{value_of_call, value_of_aggregate}
 use Rattle.jpql_run.proofs.values.+value.Goals as goal
 

@@ -1,10 +1,10 @@
 use Rattle.std.proofs.Common.{◌≡◌, ◌++◌, drop, map}
 use Rattle.jpa_open.specs.Opened.{now}
-use Rattle.jpql_eval.specs.Answers.{every, under}
-use Rattle.jpql_typed.specs.declared.typed.TypedValue.{TypedValue}
-use Rattle.jpql_plan.specs.Paths.{Tuple}
-use Rattle.jpql_plan.specs.Meaning as meaning
-use Rattle.jpql_eval.specs.Seen.{seen}
+use Rattle.jpql_meaning.specs.eval.Answers.{every, under}
+use Rattle.jpql_trees.specs.declared.typed.typed.TypedValue.{TypedValue}
+use Rattle.jpql_meaning.specs.plan.Paths.{Tuple}
+use Rattle.jpql_meaning.specs.plan.Meaning as meaning
+use Rattle.jpql_meaning.specs.eval.Seen.{seen}
 use Rattle.jpql_run.proofs.values.+value.Given as goal
 
 -- what was found, and what is left

@@ -1,6 +1,6 @@
 use Rattle.std.proofs.Common.{rules, arith, ◌≡◌, map, Some}
 use Rattle.std.proofs.lemmas.Grind.{common_steps}
-use Rattle.jpql_tree.specs.declared.Condition.TheViews.{out-Block}
+use Rattle.jpql_trees.specs.declared.tree.Condition.TheViews.{out-Block}
 use Rattle.jpql_types.specs.Typing as typing
 use Rattle.jpql_types.proofs.Blocks.{block_sort_in, block_tree}
 use Rattle.jpql_types.proofs.conditions.+typed_condition.Goals as goal

@@ -6,7 +6,7 @@ use Rattle.std.specs.Str.{bytes_eq}
 use Rattle.std.specs.String.{string_cmp}
 use Rattle.std.proofs.lemmas.Map.Text.{btree_set_updates_text}
 use Rattle.jpa_model.specs.Chains.{same_name}
-use Rattle.jpql_tree.specs.Names.{Text}
+use Rattle.jpql_trees.specs.tree.Names.{Text}
 use Rattle.jpql_types.proofs.Twice.{again, first, one_more}
 use Rattle.jpql_types.proofs.distinct.are_distinct_names.Goals as goal
 

@@ -1,5 +1,5 @@
 use Rattle.std.proofs.Common.{◌≡◌, ◌++◌, map, drop}
-use Rattle.jpql_tree.specs.declared.Assignment.{Assignment}
+use Rattle.jpql_trees.specs.declared.tree.Assignment.{Assignment}
 use Rattle.jpql_types.proofs.distinct.names_of.Given as goal
 
 abbrev pub invariant-loop-assignment : goal.invariant-loop-assignment

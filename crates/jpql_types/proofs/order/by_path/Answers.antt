@@ -1,9 +1,9 @@
 use Rattle.std.proofs.Common.{◌≡◌, ℕ, true, false, not, ◌&&◌, ◌||◌, List, Some, sym, ◌∙◌, subst, length}
 use Rattle.std.specs.List.{list_any}
-use Rattle.jpql_tree.specs.declared.Item.{Item}
-use Rattle.jpql_tree.specs.declared.Path.{Path}
+use Rattle.jpql_trees.specs.declared.tree.Item.{Item}
+use Rattle.jpql_trees.specs.declared.tree.Path.{Path}
 use Rattle.jpql_types.specs.declared.scope.Clause.{Clause}
-use Rattle.jpql_typed.specs.declared.path.TypedPath.{TypedPath}
+use Rattle.jpql_trees.specs.declared.typed.path.TypedPath.{TypedPath}
 use Rattle.jpql_types.specs.Sorts.{is_basic}
 use Rattle.jpql_types.specs.Typing.{sort_of_path}
 use Rattle.jpql_types.specs.Statements.{select_clause, is_kept_by}

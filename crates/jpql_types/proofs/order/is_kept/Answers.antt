@@ -1,7 +1,7 @@
 use Rattle.std.proofs.Common.{◌≡◌, ap, ◌∙◌, List}
 use Rattle.std.specs.List.{list_any}
-use Rattle.jpql_tree.specs.declared.Item.{Item}
-use Rattle.jpql_tree.specs.Names.{Text}
+use Rattle.jpql_trees.specs.declared.tree.Item.{Item}
+use Rattle.jpql_trees.specs.tree.Names.{Text}
 use Rattle.jpql_types.specs.Indexes.{is_path, path_in}
 use Rattle.jpql_types.proofs.ByPath.{kept_item, kept_by_step, kept_by_none}
 use Rattle.jpql_types.proofs.order.is_kept.Goals as goal

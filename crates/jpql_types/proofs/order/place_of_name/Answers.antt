@@ -1,5 +1,5 @@
 use Rattle.std.proofs.Common.{◌∙◌}
-use Rattle.jpql_tree.specs.declared.Item.{Item}
+use Rattle.jpql_trees.specs.declared.tree.Item.{Item}
 use Rattle.jpql_types.proofs.ByName.{place_either_way}
 use Rattle.jpql_types.proofs.order.place_of_name.Goals as goal
 

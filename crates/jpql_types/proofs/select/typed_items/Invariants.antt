@@ -1,6 +1,6 @@
 use Rattle.std.proofs.Common.{◌≡◌, ◌++◌, drop, map, is_some, option_map}
 use Rattle.std.specs.List.{list_all}
-use Rattle.jpql_tree.specs.declared.Item.{Item}
+use Rattle.jpql_trees.specs.declared.tree.Item.{Item}
 use Rattle.jpql_types.specs.Typing.{all_some}
 use Rattle.jpql_types.specs.Statements.{item_sort}
 use Rattle.jpql_types.specs.Trees.{typed_value}

@@ -1,6 +1,6 @@
 use Rattle.std.proofs.Common.{◌≡◌, ◌∙◌, List, [], map, Some, subst}
-use Rattle.jpql_tree.specs.declared.Path.{Path}
-use Rattle.jpql_tree.specs.declared.Source.{Source}
+use Rattle.jpql_trees.specs.declared.tree.Path.{Path}
+use Rattle.jpql_trees.specs.declared.tree.Source.{Source}
 use Rattle.jpql_types.specs.Scope.{Scope}
 use Rattle.jpql_types.specs.Typing.{in_turn, source_scope}
 use Rattle.jpql_types.specs.Statements.{is_select_typed_in}

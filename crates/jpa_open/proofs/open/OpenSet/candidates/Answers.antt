@@ -6,9 +6,9 @@ use Rattle.jpa_value.specs.declared.value.Identity.{Identity}
 use Rattle.jpa_value.specs.Value.{same_identity}
 use Rattle.jpa_model.specs.declared.unit.Entity.{Entity}
 use Rattle.jpa_model.specs.declared.unit.Member.{Member}
-use Rattle.jpa_stored.specs.declared.stored.Stored.{Stored}
-use Rattle.jpa_stored.specs.Sets.{StoredSet}
-use Rattle.jpa_ordered.specs.Values.{HasEntries, has_column, lies_in_any}
+use Rattle.jpa_stored.specs.declared.objects.stored.Stored.{Stored}
+use Rattle.jpa_stored.specs.objects.Sets.{StoredSet}
+use Rattle.jpa_stored.specs.ordered.Values.{HasEntries, has_column, lies_in_any}
 use Rattle.jpa_open.specs.Opened.{Opened, now, lent_ids}
 use Rattle.jpa_open.specs.Valued.{is_valued, AreAllThat, ids_passing}
 use Rattle.jpa_open.proofs.Holding.{have_committed}

@@ -1,7 +1,7 @@
 use Rattle.std.proofs.Common.{◌∙◌, ap, length, arith, Result, Ok, Err}
 use Rattle.std.specs.Prelude.{IfOk}
 use Rattle.jpa_model.specs.declared.unit.PersistenceUnit.{PersistenceUnit}
-use Rattle.jpa_stored.specs.Sets.{stored_at}
+use Rattle.jpa_stored.specs.objects.Sets.{stored_at}
 use Rattle.jpa_open.specs.Opened.{now, lent_ids}
 use Rattle.jpa_open.specs.References.{leads_as_kind}
 use Rattle.jpa_open.proofs.Led.{all_that, or_true}

@@ -1,6 +1,6 @@
 use Rattle.std.proofs.Common.{◌≡◌, true}
 use Rattle.jpa_value.specs.declared.value.Identity.{Identity}
-use Rattle.jpa_stored.specs.Sets.{stored_at}
+use Rattle.jpa_stored.specs.objects.Sets.{stored_at}
 use Rattle.jpa_open.specs.Opened.{now}
 use Rattle.jpa_open.specs.References.{test_at}
 use Rattle.jpa_open.proofs.Led.{among}

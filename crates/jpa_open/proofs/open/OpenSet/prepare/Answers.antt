@@ -1,7 +1,7 @@
 use Rattle.std.proofs.Common.{◌∙◌, T, sym, subst, arith}
 use Rattle.std.specs.FinMap.Entries.{is_sorted}
 use Rattle.jpa_value.specs.Value.{identity_cmp}
-use Rattle.jpa_stored.specs.Sets.{StoredSet}
+use Rattle.jpa_stored.specs.objects.Sets.{StoredSet}
 use Rattle.jpa_open.specs.Holding.{HaveEntries}
 use Rattle.jpa_open.specs.References.{HaveAll}
 use Rattle.jpa_open.proofs.Entered.{have_later}

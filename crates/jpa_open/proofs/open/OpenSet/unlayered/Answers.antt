@@ -1,7 +1,7 @@
 use Rattle.std.proofs.Common.{◌≡◌, ◌∙◌, ap, sym, subst, List}
 use Rattle.jpa_value.specs.declared.value.Identity.{Identity}
-use Rattle.jpa_stored.specs.declared.stored.Stored.{Stored}
-use Rattle.jpa_stored.specs.Sets.{StoredSet}
+use Rattle.jpa_stored.specs.declared.objects.stored.Stored.{Stored}
+use Rattle.jpa_stored.specs.objects.Sets.{StoredSet}
 use Rattle.jpa_open.specs.Layers.{over}
 use Rattle.jpa_open.specs.Opened.{Opened, layer}
 use Rattle.jpa_open.proofs.open.OpenSet.unlayered.Goals as goal

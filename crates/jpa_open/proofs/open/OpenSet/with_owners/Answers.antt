@@ -2,7 +2,7 @@ use Rattle.std.proofs.Common.{◌∙◌, ◌||◌, ◌++◌, ◌+◌, ap, sym, s
 use Rattle.std.specs.Prelude.{IfOk}
 use Rattle.std.specs.List.{list_any}
 use Rattle.jpa_value.specs.Value.{same_identity}
-use Rattle.jpa_stored.specs.Sets.{stored_at}
+use Rattle.jpa_stored.specs.objects.Sets.{stored_at}
 use Rattle.jpa_open.specs.Opened.{Opened, now, lent_ids}
 use Rattle.jpa_open.specs.Prints.{print_of, holder_of}
 use Rattle.jpa_open.specs.References.{HaveAll, owns_as_class, test_at, first_under, knows_owner}

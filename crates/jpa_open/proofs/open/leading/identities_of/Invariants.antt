@@ -1,6 +1,6 @@
 use Rattle.std.proofs.Common.{◌≡◌, ◌++◌, drop, map}
 use Rattle.jpa_value.specs.declared.value.Identity.{Identity}
-use Rattle.jpa_stored.specs.declared.stored.Stored.{Stored}
+use Rattle.jpa_stored.specs.declared.objects.stored.Stored.{Stored}
 use Rattle.jpa_open.specs.Opened.{lent}
 use Rattle.jpa_open.proofs.open.leading.identities_of.Given as goal
 

@@ -1,5 +1,5 @@
 use Rattle.std.proofs.Common.{◌≡◌, ◌++◌, drop}
-use Rattle.jpa_ordered.specs.Values.{lies_in_any}
+use Rattle.jpa_stored.specs.ordered.Values.{lies_in_any}
 use Rattle.jpa_open.specs.Opened.{lent_ids}
 use Rattle.jpa_open.specs.Valued.{ids_passing}
 use Rattle.jpa_open.proofs.open.valued.with_lying.Given as goal

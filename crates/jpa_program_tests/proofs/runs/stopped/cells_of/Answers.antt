@@ -1,4 +1,4 @@
-use Rattle.jpa_cells_meaning.proofs.Found.{files_in_order}
+use Rattle.jpa_cells.proofs.meaning.Found.{files_in_order}
 use Rattle.jpa_program_tests.proofs.runs.stopped.cells_of.Goals as goal
 
 pub cells_in-requires : goal.cells_in-requires

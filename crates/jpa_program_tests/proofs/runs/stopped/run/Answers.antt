@@ -1,4 +1,4 @@
-use Rattle.jpa_cells_meaning.proofs.Found.{files_in_order}
+use Rattle.jpa_cells.proofs.meaning.Found.{files_in_order}
 use Rattle.jpa_program_tests.proofs.runs.stopped.run.Goals as goal
 
 pub served-steps-requires : goal.served-steps-requires

@@ -1,11 +1,11 @@
 use Rattle.std.proofs.Common.{◌≡◌, sym, subst, ◌∙◌, rules}
 use Rattle.jpa_behaviour.specs.Served.{world_of_unit}
 use Rattle.jpa_open.specs.Opened.{unwritten}
-use Rattle.jpa_object_rows.specs.Sets.{rows_of}
-use Rattle.jpa_machine.specs.Machine.{Machine, opened}
+use Rattle.jpa_object_rows.specs.meaning.Sets.{rows_of}
+use Rattle.jpa_machine.specs.machine.Machine.{Machine, opened}
 use Rattle.jpa_provider.specs.Serving.{machine_of}
-use Rattle.jpa_machine.proofs.Units.{described_orderly}
-use Rattle.jpql_kept.proofs.Inherited.{described_inherited}
+use Rattle.jpa_machine.proofs.machine.Units.{described_orderly}
+use Rattle.jpql_bulk.proofs.kept.Inherited.{described_inherited}
 use Rattle.jpa_provider.proofs.Serving.{opened_serving}
 use Rattle.jpa_provider.proofs.provider.Provider.new.Goals as goal
 

@@ -1,5 +1,5 @@
 use Rattle.std.proofs.Common.{rules, subst}
-use Rattle.jpa_machine.specs.Isolated.{IsSomeMove}
+use Rattle.jpa_machine.specs.machine.Isolated.{IsSomeMove}
 use Rattle.jpa_provider.specs.Provided.{Provided, world_in, StoresCall}
 use Rattle.jpa_provider.specs.Serving.{machine_of}
 use Rattle.jpa_provider.proofs.provider.ProviderPersistenceProvider.call.Goals as goal

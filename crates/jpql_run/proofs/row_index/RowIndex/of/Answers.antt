@@ -2,12 +2,12 @@ use Rattle.std.proofs.Common.{◌≡◌, ◌∙◌, ap, map, cond, List}
 use Rattle.std.specs.Prelude.{nat_eq}
 use Rattle.std.specs.List.{filter, list_any}
 use Rattle.indexmap.specs.IndexMap.{get}
-use Rattle.jpql_eval.specs.Data.{is_nothing, same_datum}
-use Rattle.jpql_eval.specs.Seen.{seen}
-use Rattle.jpql_eval.specs.declared.datum.Datum.{Datum}
-use Rattle.jpql_eval.specs.declared.datum.Truth.{Truth}
-use Rattle.jpql_eval.specs.declared.seen.Seen.{Seen}
-use Rattle.jpql_plan.specs.Meaning.{is_any}
+use Rattle.jpql_meaning.specs.eval.Data.{is_nothing, same_datum}
+use Rattle.jpql_meaning.specs.eval.Seen.{seen}
+use Rattle.jpql_meaning.specs.declared.eval.datum.Datum.{Datum}
+use Rattle.jpql_meaning.specs.declared.eval.datum.Truth.{Truth}
+use Rattle.jpql_meaning.specs.declared.eval.seen.Seen.{Seen}
+use Rattle.jpql_meaning.specs.plan.Meaning.{is_any}
 use Rattle.jpql_run.specs.ByValue.{print}
 use Rattle.jpql_run.specs.Ready.{is_printed_as, rows_under}
 use Rattle.jpql_run.proofs.AmongRows.{among_told}

@@ -2,7 +2,7 @@ use Rattle.std.proofs.Common.{arith, ◌≡◌, ◌∙◌, ◌<◌, ap, subst, l
 use Rattle.std.specs.Borrow.{Bor}
 use Rattle.std.proofs.lemmas.Grind.{common_steps}
 use Rattle.std.proofs.lemmas.Option.{gets}
-use Rattle.jpql_plan.specs.Paths.{Entry}
+use Rattle.jpql_meaning.specs.plan.Paths.{Entry}
 use Rattle.jpql_run.specs.Standing.{entries}
 use Rattle.jpql_run.specs.declared.standing.Standing.{Standing}
 use Rattle.jpql_run.proofs.standing.Standing.at.Goals as goal

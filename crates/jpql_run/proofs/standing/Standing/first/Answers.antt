@@ -2,7 +2,7 @@ use Rattle.std.proofs.Common.{◌≡◌, ◌∙◌, ap, sym, take}
 use Rattle.std.specs.Borrow.{Bor}
 use Rattle.std.proofs.lemmas.List.{take-map}
 use Rattle.jpa_open.specs.Opened.{lent}
-use Rattle.jpql_plan.specs.Paths.{Entry}
+use Rattle.jpql_meaning.specs.plan.Paths.{Entry}
 use Rattle.jpql_run.specs.Standing.{entries}
 use Rattle.jpql_run.specs.declared.standing.Standing.{Standing}
 use Rattle.jpql_run.proofs.standing.Standing.first.Goals as goal

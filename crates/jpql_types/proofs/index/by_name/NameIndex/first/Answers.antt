@@ -2,7 +2,7 @@ use Rattle.std.proofs.Common.{rules, ◌≡◌, ap, sym, ◌∙◌, slice_get, a
 use Rattle.std.specs.Option.{option_copied}
 use Rattle.std.proofs.lemmas.Grind.{common_steps}
 use Rattle.std.proofs.lemmas.Option.{gets}
-use Rattle.jpql_tree.specs.Steps.{◌>>=◌}
+use Rattle.jpql_trees.specs.tree.Steps.{◌>>=◌}
 use Rattle.jpql_types.specs.Indexes.{has_name}
 use Rattle.jpql_types.proofs.ByName.{first_by_place}
 use Rattle.jpql_types.proofs.index.by_name.NameIndex.first.Goals as goal

@@ -1,7 +1,7 @@
 use Rattle.std.proofs.Common.{ap, ◌∙◌}
 use Rattle.std.specs.BTreeSet.{contains}
 use Rattle.std.specs.List.{list_any}
-use Rattle.jpql_tree.specs.declared.Path.{Path}
+use Rattle.jpql_trees.specs.declared.tree.Path.{Path}
 use Rattle.jpql_types.specs.Indexes.{is_path, words_of, words_cmp}
 use Rattle.jpql_types.proofs.ByPath.{any_by_words}
 use Rattle.jpql_types.proofs.index.by_path.PathIndex.has.Goals as goal

@@ -1,6 +1,0 @@
-use Rattle.std.proofs.Common.{rules}
-use Rattle.std.proofs.lemmas.Fn.{filter_same}
-use Rattle.jpa_context.proofs.leaving.retain_placed.Goals as goal
-
-pub returns-clause-now : goal.returns-clause-now
-returns-clause-now c = filter_same _ _ _ (λ x b f' k. search rules) _ _ c.retain.ensures.now

@@ -1,7 +1,0 @@
-use Rattle.std.proofs.Common.{◌≡◌, ◌++◌, map, drop}
-use Rattle.jpa_model.specs.Described.{relation_of}
-use Rattle.jpa_description.proofs.describe.relations_of.Given as goal
-
-abbrev pub invariant-loop-relation : goal.invariant-loop-relation
-invariant-loop-relation l =
-    l.found ++ map (relation_of l.draft) (drop l.relation-index l.relations) ≡ map (relation_of l.draft) l.relations

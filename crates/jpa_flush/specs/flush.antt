@@ -1,0 +1,9 @@
+pub mod Changes
+pub mod Entered
+pub mod Flush
+pub mod Marked
+pub mod Names
+pub mod Plan
+pub mod Touched
+pub mod Passes
+pub mod Calm

@@ -1,8 +1,0 @@
-use Rattle.std.proofs.Common.{◌≡◌, ◌++◌, drop}
-use Rattle.std.specs.List.{flat_map}
-use Rattle.jpa_history.specs.Condition.{moved_from}
-use Rattle.jpa_history.proofs.apart.push_moved.Given as goal
-
-abbrev pub invariant-loop-change : goal.invariant-loop-change
-invariant-loop-change l =
-    l.columns.items ++ flat_map moved_from (drop l.change-index l.changes) ≡ l.fn.columns.items ++ flat_map moved_from l.changes

@@ -1,6 +1,0 @@
-use Rattle.std.proofs.Common.{◌≡◌, ◌++◌, map, drop}
-use Rattle.jpa_history.specs.Condition.{change_of}
-use Rattle.jpa_history.proofs.described.changes_of.Given as goal
-
-abbrev pub invariant-loop-change : goal.invariant-loop-change
-invariant-loop-change l = l.made ++ map change_of (drop l.change-index l.changes) ≡ map change_of l.changes

@@ -1,0 +1,4 @@
+pub mod Outcome
+pub mod Members
+pub mod JsonOf
+pub mod Values

@@ -1,6 +1,0 @@
-use Rattle.std.proofs.Common.{◌≡◌, false, drop}
-use Rattle.jpa_key.specs.Reading.{joined, unescaped}
-use Rattle.jpa_key.proofs.read.read_escaped.Given as goal
-
-abbrev pub invariant-loop-i : goal.invariant-loop-i
-invariant-loop-i l = unescaped false l.bytes ≡ joined l.out.items l.i (unescaped l.after_zero (drop l.i l.bytes))

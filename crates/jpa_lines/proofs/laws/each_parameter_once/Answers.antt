@@ -1,5 +1,0 @@
-use Rattle.jpa_lines.proofs.InOrder.{names_rise}
-use Rattle.jpa_lines.proofs.laws.each_parameter_once.Goals as goal
-
-pub returns : goal.returns
-returns c = names_rise

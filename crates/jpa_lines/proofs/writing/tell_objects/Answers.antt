@@ -1,7 +1,0 @@
-use Rattle.std.proofs.Common.{[], arith}
-use Rattle.jpa_lines.specs.ReplyText.{object_data}
-use Rattle.jpa_lines.proofs.Told.{whole_list}
-use Rattle.jpa_lines.proofs.writing.tell_objects.Goals as goal
-
-pub returns : goal.returns
-returns c = whole_list _ object_data c.args.out.now c.loop-number.out c.end_array.new.self [] c.args.numbers.now c.loop-number.number-index (omega arith) c.loop-number.invariant c.in_ok-end_array.ensures

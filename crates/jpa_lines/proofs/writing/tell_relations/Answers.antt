@@ -1,7 +1,0 @@
-use Rattle.std.proofs.Common.{[], arith}
-use Rattle.jpa_lines.specs.ReplyText.{reached_data}
-use Rattle.jpa_lines.proofs.Told.{whole_list}
-use Rattle.jpa_lines.proofs.writing.tell_relations.Goals as goal
-
-pub returns : goal.returns
-returns c = whole_list _ reached_data c.args.out.now c.loop-reached.out c.end_array.new.self [] c.args.relations.now c.loop-reached.reached-index (omega arith) c.loop-reached.invariant c.in_ok-end_array.ensures

@@ -1,8 +1,0 @@
-use Rattle.std.proofs.Common.{map, take}
-use Rattle.jpa_lines.specs.Outcome.{Adds}
-use Rattle.jpa_lines.specs.ReplyText.{reached_data}
-use Rattle.jpa_lines.proofs.Told.{begun}
-use Rattle.jpa_lines.proofs.writing.tell_relations.Given as goal
-
-abbrev pub invariant-loop-reached : goal.invariant-loop-reached
-invariant-loop-reached l = Adds l.fn.out l.out (begun (map reached_data (take l.reached-index l.relations)))

@@ -1,0 +1,16 @@
+pub mod Consistent
+pub mod Going
+pub mod Machine
+pub mod Calls
+pub mod Transactions
+pub mod Querying
+pub mod Updating
+pub mod Showing
+pub mod Pending
+pub mod Indexing
+pub mod Routes
+pub mod Step
+pub mod Invariant
+pub mod Left
+pub mod Faults
+pub mod Isolated

@@ -1,6 +1,0 @@
-use Rattle.std.proofs.Common.{take}
-use Rattle.jpa_mapper.specs.Own.{OwnAreOnes}
-use Rattle.jpa_mapper.proofs.own_pairs.judge_own_pairs.Given as goal
-
-abbrev pub invariant-loop-row : goal.invariant-loop-row
-invariant-loop-row l = OwnAreOnes l.metamodel l.class l.owner (take l.row-index l.rows)

@@ -1,6 +1,0 @@
-use Rattle.std.proofs.Common.{◌≡◌, ◌++◌, drop}
-use Rattle.jpa_mapper.proofs.Walk.{leading}
-use Rattle.jpa_mapper.proofs.targets.targets.Given as goal
-
-abbrev pub invariant-loop-row : goal.invariant-loop-row
-invariant-loop-row l = l.found ++ leading l.join l.table l.key (drop l.row-index l.row-items) ≡ leading l.join l.table l.key l.row-items

@@ -1,6 +1,0 @@
-use Rattle.jpa_marking.proofs.LetGo.{own_stay, theirs_stay}
-use Rattle.jpa_marking.proofs.Theirs.{others_go_on}
-use Rattle.jpa_marking.proofs.others.other_laws.Goals as goal
-
-pub returns : goal.returns
-returns c = record { stay = others_go_on; own = own_stay; let_go = theirs_stay }

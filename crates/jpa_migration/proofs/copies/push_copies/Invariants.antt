@@ -1,5 +1,0 @@
-use Rattle.std.proofs.Common.{◌≡◌, ◌++◌, take}
-use Rattle.jpa_migration.proofs.copies.push_copies.Given as goal
-
-abbrev pub invariant-loop-cell : goal.invariant-loop-cell
-invariant-loop-cell l = l.cells.items ≡ l.fn.cells.items ++ take l.cell-index l.more

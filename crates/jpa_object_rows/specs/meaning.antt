@@ -1,0 +1,9 @@
+pub mod Raw
+pub mod Objects
+pub mod Sets
+pub mod Rows
+pub mod Identities
+pub mod Written
+pub mod View
+pub mod Unambiguous
+pub mod Flat

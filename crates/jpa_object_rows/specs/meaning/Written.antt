@@ -1,0 +1,146 @@
+-- The rows of a set of stored objects and of the next numbers.
+use Rattle.std.specs.Prelude.{ℕ, ℤ, pos, List, [], ◌∷◌, ◌++◌, map, Option, Some, None}
+use Rattle.std.specs.List.{flat_map, zip}
+use Rattle.std.specs.FinMap.{put}
+use Rattle.std.specs.Ordering.{int_cmp}
+use Rattle.jpa_value.specs.declared.value.Value.{Value}
+use Rattle.jpa_value.specs.declared.value.Identity.{Identity}
+use Rattle.jpa_model.specs.declared.unit.Attribute.{Attribute}
+use Rattle.jpa_model.specs.declared.unit.Relation.{Relation}
+use Rattle.jpa_model.specs.declared.unit.Entity.{Entity}
+use Rattle.jpa_model.specs.declared.unit.Side.{Side}
+use Rattle.jpa_model.specs.declared.unit.VersionColumn.{VersionColumn}
+use Rattle.jpa_model.specs.Chains.{attributes_of, relations_of, root_of, entity_at}
+use Rattle.jpa_behaviour.specs.Behaviour.{World}
+use Rattle.jpa_rows.specs.keys.Keys.{key_bytes, int_bytes}
+use Rattle.jpa_stored.specs.declared.objects.stored.Stored.{Stored}
+use Rattle.jpa_stored.specs.objects.Sets.{StoredSet}
+use Rattle.jpa_rows.specs.rows.Cells.{value_bytes, column_value}
+use Rattle.jpa_rows.specs.laws.Changes.{dropped}
+use Rattle.jpa_rows.specs.laws.Slots.{filled}
+use Rattle.jpa_object_rows.specs.meaning.Rows.{row_cmp, Columns, Rows, row_of}
+use Rattle.jpa_object_rows.specs.meaning.Raw.{raw}
+use Rattle.jpa_rows.specs.rows.NextNumbers.{number_rows}
+use Rattle.jpa_object_rows.specs.meaning.Identities.{pair_row}
+
+-- ---- the main row of an object
+
+-- a column of the class, with its bytes if it has a cell
+abbrev pub Slots : Type 0
+Slots = List (ℤ × Option (List ℕ))
+
+-- the bytes of a version, where there is one
+abbrev pub version_bytes : Option ℤ → Option (List ℕ)
+version_bytes None = None
+version_bytes (Some n) = value_bytes (Value.Int n)
+
+-- the column of a version, where the hierarchy has one
+abbrev pub version_slots : Option VersionColumn → Option ℤ → Slots
+version_slots None version = []
+version_slots (Some c) version = (pos c.column, version_bytes version) ∷ []
+
+-- the columns of attributes, with their values through the converters
+abbrev pub attribute_slots : World → List (Attribute × Value) → Slots
+attribute_slots world = map (λ p. (pos (p.0).column, value_bytes (column_value world (p.0).converter p.1)))
+
+-- the bytes of a link: the tag 4, then those of the key
+abbrev pub link_bytes : List Identity → Option (List ℕ)
+link_bytes [] = None
+link_bytes (id ∷ ids) = Some (4 ∷ key_bytes id.key)
+
+-- the column of an owning side to one object
+abbrev pub side_slots : Side → List Identity → Slots
+side_slots (Side.ManyToOne c) ids = (pos c.column, link_bytes ids) ∷ []
+side_slots (Side.OneToOne c) ids = (pos c.column, link_bytes ids) ∷ []
+side_slots (Side.OneToOneInverse owner) ids = []
+side_slots (Side.OneToMany owner) ids = []
+side_slots (Side.ManyToMany join) ids = []
+side_slots (Side.ManyToManyInverse owner) ids = []
+
+-- the columns of relations
+abbrev pub relation_slots : List (Relation × List Identity) → Slots
+relation_slots = flat_map (λ p. side_slots (p.0).side p.1)
+
+-- the bytes of an entity's discriminator
+abbrev pub class_bytes : Entity → List ℕ
+class_bytes e = 2 ∷ e.discriminator
+
+-- all columns of an object's row (chapter 2.12)
+abbrev pub slots_of : World → Stored → Slots
+slots_of world x =
+    let m = world.model in
+    (pos 0, Some (class_bytes (entity_at m x.class)))
+    ∷ version_slots (root_of m x.class).version x.version
+    ++ attribute_slots world (zip (attributes_of m x.class) x.values)
+    ++ relation_slots (zip (relations_of m x.class) x.owned)
+
+-- the cells of an object's row, by column
+abbrev pub columns_of : World → Stored → Columns
+columns_of world x = filled int_cmp (slots_of world x)
+
+-- ---- its pairs
+
+-- the cells of a pair's row, which says 1
+abbrev pub pair_columns : Columns
+pair_columns = (pos 0, 1 ∷ int_bytes (pos 1)) ∷ []
+
+-- rows with those of an owner's pairs in a join table
+abbrev pub with_pairs : ℕ → Identity → List Identity → Rows → Rows
+with_pairs join owner [] rows = rows
+with_pairs join owner (t ∷ ts) rows = put row_cmp (pair_row join owner t) pair_columns (with_pairs join owner ts rows)
+
+-- rows with those of an owner's pairs along a side
+abbrev pub with_side : Identity → Side → List Identity → Rows → Rows
+with_side owner (Side.ManyToOne c) ids rows = rows
+with_side owner (Side.OneToOne c) ids rows = rows
+with_side owner (Side.OneToOneInverse o) ids rows = rows
+with_side owner (Side.OneToMany o) ids rows = rows
+with_side owner (Side.ManyToMany join) ids rows = with_pairs join owner ids rows
+with_side owner (Side.ManyToManyInverse o) ids rows = rows
+
+-- rows with those of an owner's pairs along relations
+abbrev pub with_joins : Identity → List (Relation × List Identity) → Rows → Rows
+with_joins owner [] rows = rows
+with_joins owner (p ∷ ps) rows = with_side owner (p.0).side p.1 (with_joins owner ps rows)
+
+-- ---- objects and sets
+
+-- rows with those of an object: its main row and its pairs
+abbrev pub with_object : World → Identity → Stored → Rows → Rows
+with_object world id x rows =
+    put row_cmp (row_of id) (columns_of world x) (with_joins id (zip (relations_of world.model x.class) x.owned) rows)
+
+-- rows with those of all objects of a set
+abbrev pub with_set : World → StoredSet → Rows → Rows
+with_set world [] rows = rows
+with_set world (e ∷ set) rows = with_object world e.0 e.1 (with_set world set rows)
+
+-- without pairs, and without the main row too
+abbrev pub without_pairs : ℕ → Identity → List Identity → Rows → Rows
+without_pairs join owner [] rows = rows
+without_pairs join owner (t ∷ ts) rows = dropped row_cmp (pair_row join owner t) (without_pairs join owner ts rows)
+
+-- rows without those of an owner's pairs along a side
+abbrev pub without_side : Identity → Side → List Identity → Rows → Rows
+without_side owner (Side.ManyToOne c) ids rows = rows
+without_side owner (Side.OneToOne c) ids rows = rows
+without_side owner (Side.OneToOneInverse o) ids rows = rows
+without_side owner (Side.OneToMany o) ids rows = rows
+without_side owner (Side.ManyToMany join) ids rows = without_pairs join owner ids rows
+without_side owner (Side.ManyToManyInverse o) ids rows = rows
+
+-- rows without those of an owner's pairs along relations
+abbrev pub without_joins : Identity → List (Relation × List Identity) → Rows → Rows
+without_joins owner [] rows = rows
+without_joins owner (p ∷ ps) rows = without_side owner (p.0).side p.1 (without_joins owner ps rows)
+
+-- rows without those of an object
+abbrev pub without_object : World → Identity → Stored → Rows → Rows
+without_object world id x rows =
+    dropped row_cmp (row_of id) (without_joins id (zip (relations_of world.model x.class) x.owned) rows)
+
+-- ---- with the rows of next numbers, spelled
+
+-- the rows of a set and of the next numbers
+abbrev pub rows_of : World → StoredSet → List ℕ → Rows
+rows_of world set numbers = with_set world set (raw (number_rows world.model numbers))

@@ -1,0 +1,2 @@
+pub mod fetch
+pub mod ops

@@ -1,8 +1,0 @@
-use Rattle.std.proofs.Common.{map, take}
-use Rattle.jpa_lines.specs.Outcome.{Adds}
-use Rattle.jpa_questions.specs.Lines.{datum_data}
-use Rattle.jpa_lines.proofs.Told.{begun}
-use Rattle.jpa_questions.proofs.line.tell_items.Given as goal
-
-abbrev pub invariant-loop-item : goal.invariant-loop-item
-invariant-loop-item l = Adds l.fn.out l.out (begun (map (datum_data l.metamodel) (take l.item-index l.items)))

@@ -1,8 +1,0 @@
-use Rattle.std.proofs.Common.{map, take}
-use Rattle.jpa_lines.specs.Outcome.{Adds}
-use Rattle.jpa_lines.specs.ReplyText.{value_data}
-use Rattle.jpa_lines.proofs.Told.{begun}
-use Rattle.jpa_questions.proofs.line.tell_key.Given as goal
-
-abbrev pub invariant-loop-part : goal.invariant-loop-part
-invariant-loop-part l = Adds l.fn.out l.out (begun (map value_data (take l.part-index l.key)))

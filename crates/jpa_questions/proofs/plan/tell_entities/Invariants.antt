@@ -1,6 +1,0 @@
-use Rattle.std.proofs.Common.{◌≡◌, take, flat_map}
-use Rattle.jpa_questions.specs.Plans.{entity_line}
-use Rattle.jpa_questions.proofs.plan.tell_entities.Given as goal
-
-abbrev pub invariant-loop-entity : goal.invariant-loop-entity
-invariant-loop-entity l = l.text.items ≡ flat_map entity_line (take l.entity-index l.entities)

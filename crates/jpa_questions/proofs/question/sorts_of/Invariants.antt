@@ -1,6 +1,0 @@
-use Rattle.std.proofs.Common.{◌≡◌, map, take}
-use Rattle.jpa_questions.specs.Questions.{named_sort}
-use Rattle.jpa_questions.proofs.question.sorts_of.Given as goal
-
-abbrev pub invariant-loop-one : goal.invariant-loop-one
-invariant-loop-one l = l.sorts ≡ map named_sort (take l.one-index l.bound)

@@ -1,0 +1,15 @@
+pub mod Cells
+pub mod Commits
+pub mod Looking
+pub mod Looks
+pub mod Faults
+pub mod Making
+pub mod Numbers
+pub mod Reading
+pub mod Rows
+pub mod Same
+pub mod Spellings
+pub mod Statements
+pub mod Tables
+pub mod ValueBytes
+pub mod NextNumbers

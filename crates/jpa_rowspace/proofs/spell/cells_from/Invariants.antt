@@ -1,6 +1,0 @@
-use Rattle.std.proofs.Common.{◌≡◌, ◌++◌}
-use Rattle.jpa_rowspace.specs.Reading.{cells_from}
-use Rattle.jpa_rowspace.proofs.spell.cells_from.Given as goal
-
-abbrev pub invariant-columns : goal.invariant-columns
-invariant-columns l = (l.cells ≡ cells_from l.yielded) × (l.fn.spelled.items ≡ l.yielded ++ l.column-iterator.rest.items)

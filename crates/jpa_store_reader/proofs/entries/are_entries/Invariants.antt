@@ -1,8 +1,0 @@
-use Rattle.std.proofs.Common.{take}
-use Rattle.std.specs.List.{AllByRecursion}
-use Rattle.jpa_rows.specs.Rows.{table_of}
-use Rattle.jpa_rowspace.specs.Stored.{IsEntryBy}
-use Rattle.jpa_store_reader.proofs.entries.are_entries.Given as goal
-
-abbrev pub invariant-loop-id : goal.invariant-loop-id
-invariant-loop-id l = AllByRecursion (λ e. IsEntryBy (table_of l.schema (e.0).table) e) (take l.id-index l.rows)

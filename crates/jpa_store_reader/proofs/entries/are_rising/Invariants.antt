@@ -1,6 +1,0 @@
-use Rattle.std.specs.List.{AllAdjacentBelow}
-use Rattle.jpa_store_reader.proofs.Rising.{Next}
-use Rattle.jpa_store_reader.proofs.entries.are_rising.Given as goal
-
-abbrev pub invariant-loop-i : goal.invariant-loop-i
-invariant-loop-i l = AllAdjacentBelow Next l.rows l.i

@@ -1,7 +1,0 @@
-use Rattle.std.proofs.Common.{take}
-use Rattle.jpa_behaviour.specs.Registered.{world_of}
-use Rattle.jpa_store_reader.proofs.Built.{IsBuilt}
-use Rattle.jpa_store_reader.proofs.objects.objects_of.Given as goal
-
-abbrev pub invariant-loop-place : goal.invariant-loop-place
-invariant-loop-place g l = IsBuilt (world_of g.B.Behaviour.meaning l.metamodel l.registry) l.rows (take l.place l.rows) l.set

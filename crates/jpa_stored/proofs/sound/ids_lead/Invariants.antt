@@ -1,7 +1,0 @@
-use Rattle.std.proofs.Common.{◌≡◌, true, take}
-use Rattle.std.specs.List.{list_all}
-use Rattle.jpa_stored.specs.Sets.{is_of, stored_at}
-use Rattle.jpa_stored.proofs.sound.ids_lead.Given as goal
-
-abbrev pub invariant-loop-id : goal.invariant-loop-id
-invariant-loop-id l = list_all (λ id. is_of l.metamodel (stored_at l.set id) l.target) (take l.id-index l.ids) ≡ true

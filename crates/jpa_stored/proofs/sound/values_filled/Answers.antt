@@ -1,6 +1,0 @@
-use Rattle.std.proofs.Common.{sym, ◌∙◌, drop}
-use Rattle.jpa_stored.proofs.Zips.{all_end}
-use Rattle.jpa_stored.proofs.sound.values_filled.Goals as goal
-
-pub returns : goal.returns
-returns c = sym (c.loop-i.invariant ∙ all_end _ (drop c.loop-i.i c.args.attributes.now) c.args.values.now c.loop-i.i c.loop-i-test.false)

@@ -1,0 +1,3 @@
+pub mod ClaimOrder
+pub mod Places
+pub mod Sets

@@ -1,0 +1,3 @@
+pub mod undo
+pub mod heap
+pub mod context

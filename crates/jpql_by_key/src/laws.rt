@@ -1,9 +1,0 @@
-//! The law of statements that ask one object by its key, for contracts to cite.
-ghost use Rattle.jpql_by_key.specs.Laws.{LawsOfKeys};
-
-/// The law of statements that ask one object by its key; it does nothing. Over a set they give what
-/// they give over that object alone, without its pairs, or over none: the same rows, or the same
-/// Overflow.
-pub fn key_laws()
-    ensures { LawsOfKeys }
-{}

@@ -1,5 +1,0 @@
-use Rattle.jpql_eval.proofs.Fronts.{IsGone}
-use Rattle.jpql_eval.proofs.patterns.front_of.Given as goal
-
-abbrev pub invariant-loop-i : goal.invariant-loop-i
-invariant-loop-i l = IsGone l.marks l.text l.i

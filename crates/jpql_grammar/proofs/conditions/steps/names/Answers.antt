@@ -1,0 +1,11 @@
+use Rattle.std.proofs.Common.{rules, arith}
+use Rattle.std.proofs.lemmas.Grind.{common_steps}
+use Rattle.jpql_grammar.specs.grammar.Values.{names_at}
+use Rattle.jpql_grammar.proofs.conditions.Turns.{one_more}
+use Rattle.jpql_grammar.proofs.conditions.steps.names.Goals as goal
+
+pub loop-turn-preserved : goal.loop-turn-preserved
+unfolding names_at
+loop-turn-preserved c =
+    let e = one_more (λ n. names_at n c.loop-turn.found c.loop-turn.rest.now) _ c.loop-turn._turn c.loop-turn-test.true c.loop-turn.invariant in
+    first_of (search rules, grind (arith, common_steps))

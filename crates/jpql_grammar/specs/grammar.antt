@@ -1,0 +1,15 @@
+pub mod Same
+pub mod Parts
+pub mod Tests
+pub mod ValueGrammar
+pub mod Grammar
+pub mod Nesting
+pub mod Values
+pub mod Conditions
+pub mod Statements
+pub mod Text
+pub mod Lexing
+pub mod Limits
+pub mod Lists
+pub mod Rows
+pub mod Queries

@@ -1,8 +1,0 @@
-use Rattle.jpql_lexer.proofs.Runs.{digits_run, digits_all}
-use Rattle.jpql_lexer.proofs.pieces.digits.Goals as goal
-
-pub number-requires-clause-some : goal.number-requires-clause-some
-number-requires-clause-some c = digits_run c.args.text.now c.split_run.result.0.now c.split_run.result.1.now c.split_run.ensures.value c.requires
-
-pub number-requires-clause-all : goal.number-requires-clause-all
-number-requires-clause-all c = digits_all c.args.text.now c.split_run.result.0.now c.split_run.result.1.now c.split_run.ensures.value

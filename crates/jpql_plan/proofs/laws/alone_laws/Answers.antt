@@ -1,5 +1,0 @@
-use Rattle.jpql_plan.proofs.AloneBlocks.{rows_alone}
-use Rattle.jpql_plan.proofs.laws.alone_laws.Goals as goal
-
-pub returns : goal.returns
-returns c = λ m s ps. record { rows_alone = λ n b p q h lp lq. rows_alone m s ps n b p q h lp lq }

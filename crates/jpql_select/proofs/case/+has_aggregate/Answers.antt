@@ -1,6 +1,0 @@
-use Rattle.std.proofs.Common.{rules}
-use Rattle.jpql_select.proofs.Calls.{call_has_aggregate}
-use Rattle.jpql_select.proofs.case.+has_aggregate.Goals as goal
-
-pub has_aggregate-returns-in-Call : goal.has_aggregate-returns-in-Call
-has_aggregate-returns-in-Call t c = rw c.in-Call.is (rw (call_has_aggregate _ _) (search rules))

@@ -1,6 +1,0 @@
-use Rattle.std.proofs.Common.{◌≡◌, take, map}
-use Rattle.jpql_eval.specs.Seen.{seen}
-use Rattle.jpql_select.proofs.key.key_of.Given as goal
-
-abbrev pub invariant-loop-datum : goal.invariant-loop-datum
-invariant-loop-datum l = map seen l.copies.items ≡ map seen (take l.datum-index l.data)

@@ -1,7 +1,0 @@
-use Rattle.std.proofs.Common.{◌≡◌, ◌++◌, drop, length}
-use Rattle.jpql_select.specs.Tables.{rows_in, items_in}
-use Rattle.jpql_select.proofs.table.table_of.Given as goal
-
-abbrev pub invariant-loop-row : goal.invariant-loop-row
-invariant-loop-row l =
-    items_in l.fn.rows.items ≡ rows_in l.table ++ items_in (drop (length l.yielded) l.fn.rows.items)

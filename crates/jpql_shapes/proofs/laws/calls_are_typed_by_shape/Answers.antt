@@ -1,8 +1,0 @@
-use Rattle.jpql_shapes.proofs.Typed.{counted, typed}
-use Rattle.jpql_shapes.proofs.laws.calls_are_typed_by_shape.Goals as goal
-
-pub returns-clause-counts : goal.returns-clause-counts
-returns-clause-counts c = counted
-
-pub returns-clause-sorts : goal.returns-clause-sorts
-returns-clause-sorts c = typed

@@ -1,5 +1,0 @@
-use Rattle.jpql_grammar.proofs.Queries.{one_query}
-use Rattle.jpql_text.proofs.read.at_most_one_tree.Goals as goal
-
-pub returns : goal.returns
-returns c = one_query

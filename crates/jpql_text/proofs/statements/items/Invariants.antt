@@ -1,7 +1,0 @@
-use Rattle.std.proofs.Common.{◌≡◌, ◌-◌}
-use Rattle.jpql_grammar.specs.Values.{list_at, others_at}
-use Rattle.jpql_grammar.specs.Conditions.{item_at}
-use Rattle.jpql_text.proofs.statements.items.Given as goal
-
-abbrev pub invariant-loop-turn : goal.invariant-loop-turn
-invariant-loop-turn l = list_at (item_at l.fn.depth) l.fn.tokens ≡ others_at (item_at l.depth) (l._turn-end - l._turn) l.found l.rest
