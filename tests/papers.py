@@ -6,7 +6,8 @@
 - Names behind a link into crates/, in a table of an index, are declared in that file.
 - docs/JUDGING.md cites each folder of tests/runs, and no other. Titles of worked examples are
   those of their files. The index of tests/runs/README.md has the same runs by chapter.
-- `CRATE: NAME` in docs/JUDGING.md and among the words of tests/records is a file of definitions.
+- `CRATE: NAME` and `CRATE::MODULE: NAME` in docs/JUDGING.md and among the words of tests/records are
+  files of definitions.
 - Each file of crates/*/specs says in its head what it defines, as tools/definitions prints it. Each
   public definition there has a comment right above it, and no line has more than 120 columns.
 - The table of limits of docs/OPERATING.md has those of crates/jpa_value/specs/Limits.antt.
