@@ -20,6 +20,7 @@ pub mod Stored
 pub mod Contents
 pub mod Read
 pub mod Kept
+pub mod Apart
 pub mod Exact
 pub mod Scans
 pub mod Standing

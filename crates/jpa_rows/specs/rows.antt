@@ -13,3 +13,4 @@ pub mod Statements
 pub mod Tables
 pub mod ValueBytes
 pub mod NextNumbers
+pub mod ObjectRows

@@ -20,16 +20,7 @@ pub mod Rounds
 pub mod Kept
 pub mod Inverse
 -- ---- cells
-pub mod FlatRow
-pub mod Fresh
-pub mod FlatObject
-pub mod FlatSet
 pub mod OneRows
-pub mod Normal
-pub mod Stands
--- ---- rows that are exactly those of a set
-pub mod Undone
-pub mod Exact
 -- ---- every metamodel is unambiguous
 pub mod Classes
 pub mod Tables

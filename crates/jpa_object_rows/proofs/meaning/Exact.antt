@@ -2,10 +2,12 @@
 -- is changed likewise.
 use Rattle.std.specs.Prelude.{◌≡◌, ℕ, pos, Bool, true, false, ◌==◌, ◌||◌, not, nat_lt, T, List, [], ◌∷◌, length, slice_set, slice_index_or, Some, None}
 use Rattle.std.proofs.Common.{refl, sym, ap, subst, ◌∙◌}
-use Rattle.std.specs.List.{zip, list_any}
+use Rattle.std.specs.List.{zip}
 use Rattle.std.specs.FinMap.{find, put, is_sorted}
+use Rattle.std.specs.FinMap.Entries.{below_all}
+use Rattle.std.specs.Ordering.{is_eq}
 use Rattle.jpa_value.specs.declared.value.Identity.{Identity}
-use Rattle.jpa_value.specs.Value.{identity_cmp, same_identity, is_i64}
+use Rattle.jpa_value.specs.Value.{identity_cmp, is_i64}
 use Rattle.jpa_model.specs.declared.unit.Origin.{Origin}
 use Rattle.jpa_model.specs.declared.unit.PersistenceUnit.{PersistenceUnit}
 use Rattle.jpa_model.specs.declared.unit.Root.{Root}
@@ -15,38 +17,41 @@ use Rattle.jpa_stored.specs.declared.objects.stored.Stored.{Stored}
 use Rattle.jpa_stored.specs.objects.Sets.{StoredSet, stored_at, with_stored, without}
 use Rattle.jpa_rows.specs.rows.Cells.{are_numbers}
 use Rattle.jpa_rows.specs.declared.rows.schema.Schema.{Schema}
-use Rattle.jpa_rows.specs.rows.Rows.{RowId, Rows, AreRising, cells_of, table_of}
+use Rattle.jpa_rows.specs.rows.Rows.{RowId, Rows, cells_of, table_of}
 use Rattle.jpa_rows.specs.rows.Tables.{schema_of}
-use Rattle.jpa_rows.proofs.laws.Facts.{and_second}
-use Rattle.jpa_rows.proofs.laws.Each.{each_put}
-use Rattle.jpa_rows.proofs.laws.Maps.{put_by_answers}
+use Rattle.jpa_rows.specs.laws.Changes.{dropped}
+use Rattle.jpa_rows.proofs.laws.Facts.{and_second, is_less, first_holds, second_holds}
+use Rattle.jpa_rows.proofs.laws.Each.{Each}
+use Rattle.jpa_rows.proofs.laws.Maps.{put_by_answers, put_first, dropped_rises, dropped_other, found_dropped, put_again}
 use Rattle.jpa_rows.proofs.laws.Elements.{found_has}
 use Rattle.jpa_rows.proofs.laws.Lists.{all_each, all_from, all_where}
 use Rattle.jpa_object_rows.specs.meaning.Rows as by_bytes
-use Rattle.jpa_object_rows.specs.meaning.Rows.{row_cmp, row_of}
-use Rattle.jpa_object_rows.specs.meaning.Written as written
-use Rattle.jpa_object_rows.specs.meaning.View.{set_of, is_storable, AreStorable}
+use Rattle.jpa_object_rows.specs.meaning.Rows.{row_of}
+use Rattle.jpa_object_rows.specs.meaning.Identities.{IsSpelled}
+use Rattle.jpa_object_rows.specs.meaning.View.{is_storable, AreStorable, pairs_of}
 use Rattle.jpa_object_rows.specs.meaning.Unambiguous.{IsUnambiguous, is_class, joins_of}
 use Rattle.jpa_object_rows.proofs.meaning.Bytes.Orders.{identities, are_same_numbers}
 use Rattle.jpa_object_rows.proofs.meaning.Bytes.Mapped.{IsMapped}
 use Rattle.jpa_object_rows.proofs.meaning.Bytes.MappedClasses.{unambiguous_mapped}
-use Rattle.jpa_object_rows.proofs.meaning.Bytes.Reading.{storable}
-use Rattle.jpa_object_rows.proofs.meaning.Bytes.Owned.{owned_of}
-use Rattle.jpa_object_rows.proofs.meaning.Bytes.Rounds.{set_read}
-use Rattle.jpa_object_rows.proofs.meaning.Bytes.Others.{apart_identities}
-use Rattle.jpa_object_rows.proofs.meaning.Bytes.Numbers.{small_table, base_rises}
-use Rattle.jpa_object_rows.proofs.meaning.Bytes.Exact.{rows_put, rows_dropped, rows_replaced}
+use Rattle.jpa_object_rows.proofs.meaning.Bytes.Reading.{storable, object_spelled}
+use Rattle.jpa_object_rows.proofs.meaning.Bytes.SetLaws.{is_without}
+use Rattle.jpa_object_rows.proofs.meaning.Bytes.Others.{apart_identities, Stays, stays_self, stays_then}
+use Rattle.jpa_object_rows.proofs.meaning.Bytes.Whole.{object_stays}
+use Rattle.jpa_object_rows.proofs.meaning.Bytes.Numbers.{small_table, numbers_no_pairs, numbers_no_set}
+use Rattle.jpa_object_rows.proofs.meaning.Bytes.Rounds.{none_held}
 use Rattle.jpa_object_rows.specs.meaning.Raw.{raw, AreNamed, AreWhole, IsRowBy}
-use Rattle.jpa_object_rows.specs.meaning.Objects.{is_discriminator, number_id, number_row, object_rows, with_object, without_pairs, without_object}
+use Rattle.jpa_object_rows.specs.meaning.Objects.{is_discriminator, number_id, number_row, object_entries, object_rows, with_object, without_pairs, without_object}
 use Rattle.jpa_rows.specs.rows.NextNumbers.{next_entries, base_of, number_rows}
 use Rattle.jpa_object_rows.specs.meaning.Sets.{set_in, numbers_in, AreOnes, AreUnitRows, with_set, rows_of}
-use Rattle.jpa_object_rows.proofs.meaning.Over.{found_over, over_rises, object_over_spelled, pairs_left_spelled, object_left_spelled}
+use Rattle.jpa_object_rows.proofs.meaning.Over.{found_over, object_over_spelled}
 use Rattle.jpa_object_rows.proofs.meaning.Named.{object_named, pairs_named}
 use Rattle.jpa_object_rows.proofs.meaning.Targets.{same_id}
 use Rattle.jpa_object_rows.proofs.meaning.Read.{same_by_table}
-use Rattle.jpa_object_rows.proofs.meaning.Kept.{unit_put, unit_left, unit_dropped, unit_numbered}
+use Rattle.jpa_object_rows.proofs.meaning.Sets.{raw_rows_rise, set_put_in}
+use Rattle.jpa_object_rows.proofs.meaning.Kept.{unit_put, unit_numbered}
 use Rattle.jpa_object_rows.proofs.meaning.NextNumbers.{rows_keep, base_keeps, entry_given, found_row, number_found, all_read, has_set, others_set}
 use Rattle.jpa_object_rows.proofs.meaning.Marked.{set_passed}
+use Rattle.jpa_object_rows.proofs.meaning.Apart.{IsNew, set_rises, rows_new, rows_put, object_undone, object_over}
 
 -- ---- rows with the same bytes are one
 
@@ -68,11 +73,6 @@ pub unit_same : (m : PersistenceUnit) (a b : Rows) → AreUnitRows m a → AreUn
 unit_same m a b g h e = same_raw (schema_of m) a b (g.named).named (h.named).named g.whole h.whole e
 
 -- ---- next numbers
-
--- rows of the unit with these bytes
-record IsSpelledAs (m : PersistenceUnit) (rows : Rows) (bytes : by_bytes.Rows) : Type 0 where
-  unit : AreUnitRows m rows
-  same : raw rows ≡ bytes
 
 module _ (m : PersistenceUnit) (clear : IsUnambiguous m) where
   small_revision : is_i64 (pos m.revision) ≡ true
@@ -101,53 +101,49 @@ set_over world q (e ∷ set) a b same =
     let rows = object_rows world e.0 e.1 in
     found_over q rows (with_set world set a) ∙ ap (or_else (find identity_cmp q rows)) (set_over world q set a b same) ∙ sym (found_over q rows (with_set world set b))
 
-set_over_rises : (world : World) (set : StoredSet) (rows : Rows) → AreRising rows → AreRising (with_set world set rows)
-set_over_rises world [] rows rise = rise
-set_over_rises world (e ∷ set) rows rise = over_rises (object_rows world e.0 e.1) (with_set world set rows) (set_over_rises world set rows rise)
-
 -- ---- objects
 
 module _ (world : World) (mapped : IsMapped world.model) (regular : IsRegular world) (named : (class : ℕ) → is_class world.model class ≡ true → is_discriminator (entity_at world.model class) ≡ true) where
   clear : IsUnambiguous world.model
   clear = unambiguous_mapped world.model mapped
 
-  module _ (id : Identity) (x : Stored) (h : is_storable world id x ≡ true) (rows : Rows) (bytes : by_bytes.Rows) (s : IsSpelledAs world.model rows bytes) where
-    object_spelled : IsSpelledAs world.model (with_object world id x rows) (written.with_object world id x bytes)
-    object_spelled = record {
-      unit = unit_put world mapped regular id x h (named x.class (storable world id x h).class) rows s.unit;
-      same = object_over_spelled (schema_of world.model) world id x (object_named world clear id x h) (pairs_named world clear id x h) rows (s.unit).named ∙ ap (written.with_object world id x) s.same;
-    }
+  set_unit : (set : StoredSet) → AreStorable world set → (rows : Rows) → AreUnitRows world.model rows → AreUnitRows world.model (with_set world set rows)
+  set_unit [] h rows unit = unit
+  set_unit (e ∷ set) h rows unit =
+      unit_put world mapped regular e.0 e.1 h.0 (named (e.1).class (storable world e.0 e.1 h.0).class) (with_set world set rows) (set_unit set h.1 rows unit)
 
-    pairs_spelled : IsSpelledAs world.model (without_pairs world id x rows) (written.without_joins id (owned_of world x) bytes)
-    pairs_spelled = record {
-      unit = unit_left world clear id x h rows s.unit;
-      same = pairs_left_spelled (schema_of world.model) world id x (object_named world clear id x h) (pairs_named world clear id x h) rows (s.unit).named ∙ ap (written.without_joins id (owned_of world x)) s.same;
-    }
-
-    left_spelled : IsSpelledAs world.model (without_object world id x rows) (written.without_object world id x bytes)
-    left_spelled = record {
-      unit = unit_dropped world clear id x h rows s.unit;
-      same = object_left_spelled (schema_of world.model) world id x (object_named world clear id x h) (pairs_named world clear id x h) rows (s.unit).named ∙ ap (written.without_object world id x) s.same;
-    }
-
-  set_spelled : (set : StoredSet) → AreStorable world set → (rows : Rows) (bytes : by_bytes.Rows) → IsSpelledAs world.model rows bytes → IsSpelledAs world.model (with_set world set rows) (written.with_set world set bytes)
-  set_spelled [] h rows bytes s = s
-  set_spelled (e ∷ set) h rows bytes s = object_spelled e.0 e.1 h.0 (with_set world set rows) (written.with_set world set bytes) (set_spelled set h.1 rows bytes s)
+  -- an identity below those of a set reads what it read before them
+  set_stays : (q : Identity) → IsSpelled world.model q → (set : StoredSet) → T (below_all identity_cmp q set) → AreStorable world set → (rows : Rows) → AreUnitRows world.model rows
+      → Stays world.model q (raw rows) (raw (with_set world set rows))
+  set_stays q sq [] low h rows unit = stays_self world.model q (raw rows)
+  set_stays q sq (e ∷ set) low h rows unit =
+      let m = world.model in
+      let mid = with_set world set rows in
+      let mid_rows = (set_unit set h.1 rows unit).named in
+      let spelled = object_over_spelled (schema_of m) world e.0 e.1 (object_named world clear e.0 e.1 h.0) (pairs_named world clear e.0 e.1 h.0) mid mid_rows in
+      stays_then m q (raw rows) (raw mid) (raw (with_set world (e ∷ set) rows)) (set_stays q sq set (second_holds _ _ low) h.1 rows unit)
+      (subst (Stays m q (raw mid)) (sym spelled)
+      (object_stays world clear e.0 e.1 h.0 q sq (ap is_eq (is_less (identity_cmp q e.0) (first_holds _ _ low))) (raw mid) (raw_rows_rise world mid mid_rows)))
 
   module _ (numbers : List ℕ) (are : are_numbers world.model numbers ≡ true) where
-    all_spelled : (set : StoredSet) → AreStorable world set → IsSpelledAs world.model (rows_of world set numbers) (written.rows_of world set numbers)
-    all_spelled set h =
-        set_spelled set h (number_rows world.model numbers) (raw (number_rows world.model numbers)) (record { unit = numbers_unit world.model clear numbers are; same = refl })
+    numbers_in_unit : AreUnitRows world.model (number_rows world.model numbers)
+    numbers_in_unit = numbers_unit world.model clear numbers are
 
     pub rows_of_unit : (set : StoredSet) → AreStorable world set → AreUnitRows world.model (rows_of world set numbers)
-    rows_of_unit set h = (all_spelled set h).unit
-
-    pub rows_of_spelled : (set : StoredSet) → AreStorable world set → raw (rows_of world set numbers) ≡ written.rows_of world set numbers
-    rows_of_spelled set h = (all_spelled set h).same
+    rows_of_unit set h = set_unit set h (number_rows world.model numbers) numbers_in_unit
 
     -- the set and the next numbers are read again
     pub set_read_in : (set : StoredSet) → T (is_sorted identity_cmp set) → AreStorable world set → set_in world (rows_of world set numbers) ≡ set
-    set_read_in set up h = ap (set_of world) (all_spelled set h).same ∙ set_read world clear regular set numbers up h
+    set_read_in [] up h = numbers_no_set world clear numbers
+    set_read_in (e ∷ set) up h =
+        let m = world.model in
+        let mid = rows_of world set numbers in
+        let se = object_spelled world clear e.0 e.1 h.0 in
+        let same = (set_stays e.0 se set (first_holds _ _ up) h.1 (number_rows m numbers) numbers_in_unit).pairs in
+        set_put_in world clear e.0 e.1 h.0 mid (rows_of_unit set h.1).named regular
+        (none_held (pairs_of m (raw mid) e.0) (relations_of m (e.1).class) (λ join target. (λ i. same i join target) ∙ numbers_no_pairs m clear numbers e.0 join target))
+        ∙ ap (with_stored e.0 e.1) (set_read_in set (second_holds _ _ up) h.1)
+        ∙ put_first identity_cmp e.0 e.1 set (first_holds _ _ up)
 
     pub numbers_read_in : (set : StoredSet) → AreStorable world set → numbers_in world.model (rows_of world set numbers) ≡ numbers
     numbers_read_in set h =
@@ -156,42 +152,50 @@ module _ (world : World) (mapped : IsMapped world.model) (regular : IsRegular wo
         (λ p k root is g. set_passed world clear (number_id root.table) refl set h (number_rows m numbers) ∙ found_row m clear numbers p k root is g)
 
     module _ (set : StoredSet) (up : T (is_sorted identity_cmp set)) (h : AreStorable world set) where
-      spelled : IsSpelledAs world.model (rows_of world set numbers) (written.rows_of world set numbers)
-      spelled = all_spelled set h
-
-      put_storable : (id : Identity) (x : Stored) → is_storable world id x ≡ true → AreStorable world (with_stored id x set)
-      put_storable id x g = each_put identities (λ id x. is_storable world id x ≡ true) id x set g h
-
-      reached : (rows : Rows) (bytes : by_bytes.Rows) (news : StoredSet) → IsSpelledAs world.model rows bytes → AreStorable world news → bytes ≡ written.rows_of world news numbers → rows ≡ rows_of world news numbers
-      reached rows bytes news s g e =
-          let other = all_spelled news g in
-          unit_same world.model rows (rows_of world news numbers) s.unit other.unit (s.same ∙ e ∙ sym other.same)
-
       -- a new object
       pub rows_put_in : (id : Identity) (x : Stored) → is_storable world id x ≡ true → stored_at set id ≡ None → with_object world id x (rows_of world set numbers) ≡ rows_of world (with_stored id x set) numbers
-      rows_put_in id x g none =
-          reached (with_object world id x (rows_of world set numbers)) (written.with_object world id x (written.rows_of world set numbers)) (with_stored id x set)
-          (object_spelled id x g (rows_of world set numbers) (written.rows_of world set numbers) spelled) (put_storable id x g) (rows_put world clear set numbers up h id x g none)
+      rows_put_in id x g none = rows_put world clear numbers id x g set none h
 
       module _ (id : Identity) (old : Stored) (at : stored_at set id ≡ Some old) where
+        abbrev left : StoredSet
+        left = dropped identity_cmp id set
+
+        abbrev rest : Rows
+        rest = rows_of world left numbers
+
         old_storable : is_storable world id old ≡ true
         old_storable = all_each (λ (e : Identity × Stored). is_storable world e.0 e.1 ≡ true) set h (id, old) (found_has identities id old set at)
+
+        left_storable : AreStorable world left
+        left_storable = all_where (λ (e : Identity × Stored). is_storable world e.0 e.1 ≡ true) _ set h
+
+        put_back : set ≡ with_stored id old left
+        put_back =
+            put_by_answers identities id old left set (dropped_rises identities id set up) up at (λ q apart. sym (dropped_other identities q id set apart))
+
+        put_rest : (x : Stored) → is_storable world id x ≡ true → with_object world id x rest ≡ rows_of world (with_stored id x left) numbers
+        put_rest x g = rows_put world clear numbers id x g left (found_dropped identities id set) left_storable
+
+        parted : rows_of world set numbers ≡ with_object world id old rest
+        parted = ap (λ s. rows_of world s numbers) put_back ∙ sym (put_rest old old_storable)
+
+        old_new : Each (IsNew rest) (object_entries world id old)
+        old_new = rows_new world clear numbers id old old_storable left (found_dropped identities id set) left_storable
 
         -- an object in the place of the old one, of any class
         pub rows_replaced_in : (x : Stored) → is_storable world id x ≡ true
             → with_object world id x (without_pairs world id old (rows_of world set numbers)) ≡ rows_of world (with_stored id x set) numbers
         rows_replaced_in x g =
-            let bytes = written.rows_of world set numbers in
-            reached (with_object world id x (without_pairs world id old (rows_of world set numbers))) (written.with_object world id x (written.without_joins id (owned_of world old) bytes)) (with_stored id x set)
-            (object_spelled id x g (without_pairs world id old (rows_of world set numbers)) (written.without_joins id (owned_of world old) bytes) (pairs_spelled id old old_storable (rows_of world set numbers) bytes spelled))
-            (put_storable id x g) (rows_replaced world clear set numbers up h id old at x g)
+            ap (λ rs. with_object world id x (without_pairs world id old rs)) parted
+            ∙ object_over world id old rest (set_rises world clear numbers left) old_new x
+            ∙ put_rest x g
+            ∙ ap (λ s. rows_of world s numbers) (sym (put_again identities id x old left (dropped_rises identities id set up)) ∙ ap (with_stored id x) (sym put_back))
 
         pub rows_dropped_in : without_object world id old (rows_of world set numbers) ≡ rows_of world (without (id ∷ []) set) numbers
         rows_dropped_in =
-            reached (without_object world id old (rows_of world set numbers)) (written.without_object world id old (written.rows_of world set numbers)) (without (id ∷ []) set)
-            (left_spelled id old old_storable (rows_of world set numbers) (written.rows_of world set numbers) spelled)
-            (all_where (λ (e : Identity × Stored). is_storable world e.0 e.1 ≡ true) (λ (e : Identity × Stored). not (list_any (same_identity e.0) (id ∷ []))) set h)
-            (rows_dropped world clear set numbers up h id old at)
+            ap (without_object world id old) parted
+            ∙ object_undone world id old rest (set_rises world clear numbers left) old_new
+            ∙ ap (λ s. rows_of world s numbers) (is_without id set)
 
   -- the next number of a root with generated keys, which is not 1 any more
   pub rows_numbered_in : (set : StoredSet) → AreStorable world set → (numbers : List ℕ) → are_numbers world.model numbers ≡ true → (class k : ℕ) (root : Root) → is_class world.model class ≡ true
@@ -202,7 +206,7 @@ module _ (world : World) (mapped : IsMapped world.model) (regular : IsRegular wo
       let q = number_id root.table in
       let others = slice_set numbers class k in
       let e = slice_index_or m.entities class no_entity in
-      sym (put_by_answers identities q (number_row k) (rows_of world set numbers) (rows_of world set others) (set_over_rises world set (number_rows m numbers) (base_rises m clear numbers)) (set_over_rises world set (number_rows m others) (base_rises m clear others))
+      sym (put_by_answers identities q (number_row k) (rows_of world set numbers) (rows_of world set others) (set_rises world clear numbers set) (set_rises world clear others set)
       (set_passed world clear q refl set h (number_rows m others)
       ∙ found_row m clear others (e, k) (has_set m.entities numbers class k within long) root is generated
       ∙ number_found root.table k more)

@@ -3,7 +3,6 @@ use Rattle.std.specs.Prelude.{◌≡◌, ◌≢◌, ℕ, pos, Bool, true, false,
 use Rattle.std.proofs.Common.{refl, sym, ap, subst, ◌∙◌, inl, inr}
 use Rattle.std.specs.List.{zip, AllByRecursion}
 use Rattle.std.specs.FinMap.{put}
-use Rattle.std.specs.Ordering.{eq_by_cmp}
 use Rattle.jpa_value.specs.declared.value.Identity.{Identity}
 use Rattle.jpa_value.specs.Value.{identity_cmp, is_i64}
 use Rattle.jpa_model.specs.declared.unit.PersistenceUnit.{PersistenceUnit}
@@ -15,12 +14,11 @@ use Rattle.jpa_stored.specs.declared.objects.stored.Stored.{Stored}
 use Rattle.jpa_rows.specs.declared.rows.schema.Schema.{Schema}
 use Rattle.jpa_rows.specs.rows.Rows.{RowId, Row, Rows, table_rows, IsRowOf, table_of}
 use Rattle.jpa_rows.specs.rows.Tables.{next_numbers, schema_of}
-use Rattle.jpa_rows.specs.laws.Changes.{dropped}
 use Rattle.jpa_rows.proofs.laws.Facts.{and_both, and_second, true_false}
 use Rattle.jpa_rows.proofs.laws.Maps.{put_rises}
 use Rattle.jpa_rows.proofs.laws.Each.{Each, each_put}
 use Rattle.jpa_rows.proofs.laws.Elements.{Has}
-use Rattle.jpa_rows.proofs.laws.Lists.{all_each, all_from, all_where}
+use Rattle.jpa_rows.proofs.laws.Lists.{all_each, all_from}
 use Rattle.jpa_object_rows.specs.meaning.Unambiguous.{IsUnambiguous, is_class, joins_of}
 use Rattle.jpa_object_rows.specs.meaning.Identities.{root_at, declarer_at, is_within, is_join_of}
 use Rattle.jpa_object_rows.specs.meaning.View.{is_storable}
@@ -32,12 +30,12 @@ use Rattle.jpa_object_rows.proofs.meaning.Bytes.Others.{join_no_root}
 use Rattle.jpa_object_rows.proofs.meaning.Bytes.Reading.{storable}
 use Rattle.jpa_object_rows.proofs.meaning.Bytes.Tables.{zero_join}
 use Rattle.jpa_object_rows.specs.meaning.Raw.{AreWhole, AreFilled, IsRowBy}
-use Rattle.jpa_object_rows.specs.meaning.Objects.{is_discriminator, pair_id, pair_row, side_pairs, pairs_along, pair_ids, number_id, number_row, with_rows, without_rows, as_pairs, object_entries, object_rows, with_object, without_pairs, without_object}
+use Rattle.jpa_object_rows.specs.meaning.Objects.{is_discriminator, pair_id, pair_row, side_pairs, pairs_along, pair_ids, number_id, number_row, with_rows, as_pairs, object_entries, object_rows, with_object}
 use Rattle.jpa_object_rows.specs.meaning.Sets.{AreOnes, HoldsOnes, AreUnitRows}
 use Rattle.jpa_object_rows.proofs.meaning.Tables.{join_table_found}
 use Rattle.jpa_object_rows.proofs.meaning.Raw.{named_put}
 use Rattle.jpa_object_rows.proofs.meaning.Named.{number_named}
-use Rattle.jpa_object_rows.proofs.meaning.Sets.{put_rows, left_rows, dropped_rows}
+use Rattle.jpa_object_rows.proofs.meaning.Sets.{put_rows}
 use Rattle.jpa_object_rows.proofs.meaning.Whole.{main_row_in, main_row_filled}
 
 -- ---- what holds of each row
@@ -46,13 +44,6 @@ module _ (P : RowId → Row → Type 0) where
   pub over_each : (es rows : Rows) → Each P es → Each P rows → Each P (with_rows es rows)
   over_each [] rows h g = g
   over_each (e ∷ es) rows h g = each_put identities P e.0 e.1 (with_rows es rows) h.0 (over_each es rows h.1 g)
-
-  pub dropped_each : (id : RowId) (rows : Rows) → Each P rows → Each P (dropped identity_cmp id rows)
-  dropped_each id rows h = all_where (λ (e : RowId × Row). P e.0 e.1) (λ (e : RowId × Row). not (eq_by_cmp identity_cmp id e.0)) rows h
-
-  pub without_each : (ids : List RowId) (rows : Rows) → Each P rows → Each P (without_rows ids rows)
-  without_each [] rows h = h
-  without_each (id ∷ ids) rows h = dropped_each id (without_rows ids rows) (without_each ids rows h)
 
   -- of each pair along relations
   pub along_each : (owner : Identity) (relations : List Relation) (owned : List (List Identity))
@@ -101,12 +92,6 @@ module _ (world : World) (mapped : IsMapped world.model) (regular : IsRegular wo
   pub put_whole : (rows : Rows) → AreWhole (schema_of world.model) rows → AreWhole (schema_of world.model) (with_object world id x rows)
   put_whole rows h = over_each (InTable (schema_of world.model)) (object_rows world id x) rows object_rows_whole h
 
-pub left_whole : (schema : Schema) (world : World) (id : Identity) (x : Stored) (rows : Rows) → AreWhole schema rows → AreWhole schema (without_pairs world id x rows)
-left_whole schema world id x rows h = without_each (InTable schema) (pair_ids world id x) rows h
-
-pub dropped_whole : (schema : Schema) (world : World) (id : Identity) (x : Stored) (rows : Rows) → AreWhole schema rows → AreWhole schema (without_object world id x rows)
-dropped_whole schema world id x rows h = dropped_each (InTable schema) id (without_pairs world id x rows) (left_whole schema world id x rows h)
-
 pub number_row_whole : (k : ℕ) → is_i64 (pos k) ≡ true → IsRowOf next_numbers (number_row k)
 number_row_whole k h = record { rising = tt; each = and_both (is_i64 (pos k) && true) _ (and_both (is_i64 (pos k)) _ h refl) refl }
 
@@ -140,13 +125,6 @@ kept_ones : (m : PersistenceUnit) (rows news : Rows) → ((class : ℕ) → is_c
 kept_ones m rows news kept h class is =
     all_from (λ join. AreOnes join news) (joins_of (relations_of m class))
     (λ join k. each_ones join news (kept class is join k (ones_each join rows (all_each (λ join. AreOnes join rows) (joins_of (relations_of m class)) (h class is) join k))))
-
-dropped_ones : (world : World) (id : Identity) (x : Stored) (rows : Rows) → HoldsOnes world.model rows → HoldsOnes world.model (without_object world id x rows)
-dropped_ones world id x rows h =
-    kept_ones world.model rows (without_object world id x rows) (λ class is join k g. dropped_each (OneIn join) id (without_pairs world id x rows) (without_each (OneIn join) (pair_ids world id x) rows g)) h
-
-left_ones : (world : World) (id : Identity) (x : Stored) (rows : Rows) → HoldsOnes world.model rows → HoldsOnes world.model (without_pairs world id x rows)
-left_ones world id x rows h = kept_ones world.model rows (without_pairs world id x rows) (λ class is join k g. without_each (OneIn join) (pair_ids world id x) rows g) h
 
 -- a join table of a class is no root's, nor that of next numbers
 pub join_of_class : (m : PersistenceUnit) → IsUnambiguous m → (class : ℕ) → is_class m class ≡ true → (join : ℕ) → Has (joins_of (relations_of m class)) join → is_join_of m join (root_of m class).table ≡ true
@@ -198,23 +176,6 @@ module _ (world : World) (mapped : IsMapped world.model) (regular : IsRegular wo
         filled = over_each Filled (object_rows world id x) rows (object_rows_filled world id x) h.filled;
         ones = put_ones world clear id x storable_x rows h.ones;
       }
-
-module _ (world : World) (clear : IsUnambiguous world.model) (id : Identity) (x : Stored) (storable_x : is_storable world id x ≡ true) (rows : Rows) (h : AreUnitRows world.model rows) where
-  pub unit_left : AreUnitRows world.model (without_pairs world id x rows)
-  unit_left = record {
-    named = left_rows world clear id x storable_x rows h.named;
-    whole = left_whole (schema_of world.model) world id x rows h.whole;
-    filled = without_each Filled (pair_ids world id x) rows h.filled;
-    ones = left_ones world id x rows h.ones;
-  }
-
-  pub unit_dropped : AreUnitRows world.model (without_object world id x rows)
-  unit_dropped = record {
-    named = dropped_rows world clear id x storable_x rows h.named;
-    whole = dropped_whole (schema_of world.model) world id x rows h.whole;
-    filled = dropped_each Filled id (without_pairs world id x rows) (without_each Filled (pair_ids world id x) rows h.filled);
-    ones = dropped_ones world id x rows h.ones;
-  }
 
 pub unit_numbered : (m : PersistenceUnit) → IsUnambiguous m → (table k : ℕ) → is_i64 (pos table) ≡ true → is_i64 (pos k) ≡ true → (rows : Rows) → AreUnitRows m rows
     → AreUnitRows m (put identity_cmp (number_id table) (number_row k) rows)

@@ -54,15 +54,18 @@ module _ (world : World) (clear : IsUnambiguous world.model) where
             ∙ ap (λ j. is_within m root.table (declarer_at m j)) zero ∙ ap (is_within m root.table) (zero_join m clear.tables))),
       )
 
-  object_passed : (q : RowId) → q.table ≡ 0 → (id : Identity) (x : Stored) → is_storable world id x ≡ true → (rows : Rows) → find identity_cmp q (with_object world id x rows) ≡ find identity_cmp q rows
-  object_passed q zero id x g rows =
-      found_over q (object_rows world id x) rows
-      ∙ ap (λ o. or_else o (find identity_cmp q rows))
-      (found_over q (object_entries world id x) [] ∙ ap (λ o. or_else o None) (not_among q (object_entries world id x) (each_apart q zero (object_entries world id x) (entries_elsewhere id x g))))
+  -- a row that is none of them
+  pub object_absent : (q : RowId) (id : Identity) (x : Stored) → Each (λ other row. q ≡ other → ⊥) (object_entries world id x) → find identity_cmp q (object_rows world id x) ≡ None
+  object_absent q id x apart = found_over q (object_entries world id x) [] ∙ ap (λ o. or_else o None) (not_among q (object_entries world id x) apart)
+
+  pub object_past : (q : RowId) (id : Identity) (x : Stored) (rows : Rows) → Each (λ other row. q ≡ other → ⊥) (object_entries world id x)
+      → find identity_cmp q (with_object world id x rows) ≡ find identity_cmp q rows
+  object_past q id x rows apart = found_over q (object_rows world id x) rows ∙ ap (λ o. or_else o (find identity_cmp q rows)) (object_absent q id x apart)
 
   pub set_passed : (q : RowId) → q.table ≡ 0 → (set : StoredSet) → AreStorable world set → (rows : Rows) → find identity_cmp q (with_set world set rows) ≡ find identity_cmp q rows
   set_passed q zero [] h rows = refl
-  set_passed q zero (e ∷ set) h rows = object_passed q zero e.0 e.1 h.0 (with_set world set rows) ∙ set_passed q zero set h.1 rows
+  set_passed q zero (e ∷ set) h rows =
+      object_past q e.0 e.1 (with_set world set rows) (each_apart q zero (object_entries world e.0 e.1) (entries_elsewhere e.0 e.1 h.0)) ∙ set_passed q zero set h.1 rows
 
 -- ---- so the row of the revision stands as it does without them
 

@@ -19,8 +19,8 @@ use Rattle.jpa_rows.specs.rows.Tables.{schema_of}
 use Rattle.jpa_object_rows.specs.meaning.Unambiguous.{is_class, joins_of}
 use Rattle.jpa_object_rows.specs.meaning.View.{set_of, Pairs, PairsAre}
 use Rattle.jpa_object_rows.specs.meaning.Raw.{raw, AreRowsOf, AreWhole, AreFilled}
-use Rattle.jpa_object_rows.specs.meaning.Objects.{main_row, number_id, pair_row, with_object}
-use Rattle.jpa_rows.specs.rows.NextNumbers.{number_rows}
+use Rattle.jpa_object_rows.specs.meaning.Objects.{main_row, number_id, pair_row}
+pub use Rattle.jpa_rows.specs.rows.ObjectRows.{with_set, rows_of}
 
 -- the set that rows stand for
 abbrev pub set_in : World → Rows → StoredSet
@@ -109,14 +109,3 @@ next_at rows (Origin.Extends parent) = 1
 -- the next numbers of all classes
 abbrev pub numbers_in : PersistenceUnit → Rows → List ℕ
 numbers_in m rows = map (λ e. next_at rows e.origin) m.entities
-
--- ---- the rows of a set and of next numbers
-
--- rows with those of all objects of a set
-abbrev pub with_set : World → StoredSet → Rows → Rows
-with_set world [] rows = rows
-with_set world (e ∷ set) rows = with_object world e.0 e.1 (with_set world set rows)
-
--- the rows of a set and of the next numbers
-abbrev pub rows_of : World → StoredSet → List ℕ → Rows
-rows_of world set numbers = with_set world set (number_rows world.model numbers)

@@ -1,4 +1,4 @@
--- The rows of a set of stored objects and of the next numbers.
+-- The rows of a stored object, by their bytes.
 use Rattle.std.specs.Prelude.{ℕ, ℤ, pos, List, [], ◌∷◌, ◌++◌, map, Option, Some, None}
 use Rattle.std.specs.List.{flat_map, zip}
 use Rattle.std.specs.FinMap.{put}
@@ -14,13 +14,10 @@ use Rattle.jpa_model.specs.Chains.{attributes_of, relations_of, root_of, entity_
 use Rattle.jpa_behaviour.specs.Behaviour.{World}
 use Rattle.jpa_rows.specs.keys.Keys.{key_bytes, int_bytes}
 use Rattle.jpa_stored.specs.declared.objects.stored.Stored.{Stored}
-use Rattle.jpa_stored.specs.objects.Sets.{StoredSet}
 use Rattle.jpa_rows.specs.rows.Cells.{value_bytes, column_value}
 use Rattle.jpa_rows.specs.laws.Changes.{dropped}
 use Rattle.jpa_rows.specs.laws.Slots.{filled}
 use Rattle.jpa_object_rows.specs.meaning.Rows.{row_cmp, Columns, Rows, row_of}
-use Rattle.jpa_object_rows.specs.meaning.Raw.{raw}
-use Rattle.jpa_rows.specs.rows.NextNumbers.{number_rows}
 use Rattle.jpa_object_rows.specs.meaning.Identities.{pair_row}
 
 -- ---- the main row of an object
@@ -103,17 +100,12 @@ abbrev pub with_joins : Identity → List (Relation × List Identity) → Rows �
 with_joins owner [] rows = rows
 with_joins owner (p ∷ ps) rows = with_side owner (p.0).side p.1 (with_joins owner ps rows)
 
--- ---- objects and sets
+-- ---- objects
 
 -- rows with those of an object: its main row and its pairs
 abbrev pub with_object : World → Identity → Stored → Rows → Rows
 with_object world id x rows =
     put row_cmp (row_of id) (columns_of world x) (with_joins id (zip (relations_of world.model x.class) x.owned) rows)
-
--- rows with those of all objects of a set
-abbrev pub with_set : World → StoredSet → Rows → Rows
-with_set world [] rows = rows
-with_set world (e ∷ set) rows = with_object world e.0 e.1 (with_set world set rows)
 
 -- without pairs, and without the main row too
 abbrev pub without_pairs : ℕ → Identity → List Identity → Rows → Rows
@@ -138,9 +130,3 @@ without_joins owner (p ∷ ps) rows = without_side owner (p.0).side p.1 (without
 abbrev pub without_object : World → Identity → Stored → Rows → Rows
 without_object world id x rows =
     dropped row_cmp (row_of id) (without_joins id (zip (relations_of world.model x.class) x.owned) rows)
-
--- ---- with the rows of next numbers, spelled
-
--- the rows of a set and of the next numbers
-abbrev pub rows_of : World → StoredSet → List ℕ → Rows
-rows_of world set numbers = with_set world set (raw (number_rows world.model numbers))

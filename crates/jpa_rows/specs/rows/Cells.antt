@@ -9,11 +9,9 @@ use Rattle.jpa_value.specs.declared.value.Value.{Value}
 use Rattle.jpa_value.specs.declared.value.Identity.{Identity}
 use Rattle.jpa_model.specs.declared.unit.PersistenceUnit.{PersistenceUnit}
 use Rattle.jpa_model.specs.declared.unit.Attribute.{Attribute}
-use Rattle.jpa_model.specs.declared.unit.Relation.{Relation}
 use Rattle.jpa_model.specs.declared.unit.Origin.{Origin}
 use Rattle.jpa_model.specs.declared.unit.Side.{Side}
-use Rattle.jpa_model.specs.declared.unit.VersionColumn.{VersionColumn}
-use Rattle.jpa_model.specs.Chains.{attributes_of, relations_of, root_of, root_class, entity_at}
+use Rattle.jpa_model.specs.Chains.{attributes_of, root_of, root_class}
 use Rattle.jpa_behaviour.specs.Behaviour.{World}
 use Rattle.jpa_stored.specs.declared.objects.stored.Stored.{Stored}
 use Rattle.jpa_stored.specs.objects.Sets.{StoredSet, all_shaped, each_fits, IsSound}
@@ -21,7 +19,8 @@ use Rattle.jpa_value.specs.Value.{identity_cmp, is_null, is_i64, is_representabl
 use Rattle.jpa_rows.specs.keys.Keys.{key_bytes}
 pub use Rattle.jpa_rows.specs.rows.ValueBytes.{value_bytes, is_given}
 use Rattle.jpa_rows.specs.rows.Rows.{RowId, Row, cells_of}
-use Rattle.jpa_rows.specs.rows.NextNumbers.{number_rows}
+use Rattle.jpa_rows.specs.rows.ObjectRows.{rows_of}
+pub use Rattle.jpa_rows.specs.rows.ObjectRows.{cell_value, column_value}
 
 -- a cell of a store: a table, the bytes of a row, a column, and its own bytes
 pub record Cell : Type 0 where
@@ -29,66 +28,6 @@ pub record Cell : Type 0 where
   pub row : List ℕ
   pub column : ℤ
   pub bytes : List ℕ
-
--- ---- cells of one object
-
--- a cell with these bytes, where there are any
-abbrev pub cell_if : ℕ → List ℕ → ℕ → Option (List ℕ) → List Cell
-cell_if table row column None = []
-cell_if table row column (Some bytes) = record { table = table; row = row; column = pos column; bytes = bytes } ∷ []
-
--- the cell of a value; null has none
-abbrev pub value_cell : ℕ → List ℕ → ℕ → Value → List Cell
-value_cell table row column v = cell_if table row column (value_bytes v)
-
--- a value in its column: through the converter, which null does not pass
-abbrev pub cell_value : Option Value → Value
-cell_value None = Value.Null
-cell_value (Some v) = v
-
--- a value as it stands in its column: through its converter (chapter 3.8)
-abbrev pub column_value : World → Option (List ℕ) → Value → Value
-column_value world None v = v
-column_value world (Some name) Value.Null = Value.Null
-column_value world (Some name) v = cell_value (world.column name v)
-
--- the cells of attributes
-abbrev pub attribute_cells : World → ℕ → List ℕ → List (Attribute × Value) → List Cell
-attribute_cells world table row =
-    flat_map (λ p. value_cell table row (p.0).column (column_value world (p.0).converter p.1))
-
--- the cell of a version, where there is one (chapter 3.4.2)
-abbrev pub version_cells : ℕ → List ℕ → Option VersionColumn → Option ℤ → List Cell
-version_cells table row None version = []
-version_cells table row (Some c) None = []
-version_cells table row (Some c) (Some n) = value_cell table row c.column (Value.Int n)
-
--- a to-one relation is a column of the row; a pair is a row of the join table; an inverse side is
--- not written
-abbrev pub relation_cells_of : ℕ → List ℕ → Side → List Identity → List Cell
-relation_cells_of table row (Side.ManyToOne c) ids =
-    flat_map (λ id. cell_if table row c.column (Some (4 ∷ key_bytes id.key))) ids
-relation_cells_of table row (Side.OneToOne c) ids =
-    flat_map (λ id. cell_if table row c.column (Some (4 ∷ key_bytes id.key))) ids
-relation_cells_of table row (Side.OneToOneInverse owner) ids = []
-relation_cells_of table row (Side.OneToMany owner) ids = []
-relation_cells_of table row (Side.ManyToMany join) ids =
-    flat_map (λ id. value_cell join (row ++ key_bytes id.key) 0 (Value.Int (pos 1))) ids
-relation_cells_of table row (Side.ManyToManyInverse owner) ids = []
-
--- the cells of relations
-abbrev pub relation_cells : ℕ → List ℕ → List (Relation × List Identity) → List Cell
-relation_cells table row = flat_map (λ p. relation_cells_of table row (p.0).side p.1)
-
--- the cells of an object under its identity
-abbrev pub object_cells : World → Identity → Stored → List Cell
-object_cells world id x =
-    let m = world.model in
-    let row = key_bytes id.key in
-    value_cell id.table row 0 (Value.Text (entity_at m x.class).discriminator)
-    ++ version_cells id.table row (root_of m x.class).version x.version
-    ++ attribute_cells world id.table row (zip (attributes_of m x.class) x.values)
-    ++ relation_cells id.table row (zip (relations_of m x.class) x.owned)
 
 -- ---- the cells of all
 
@@ -98,10 +37,9 @@ row_cells e =
     let row = key_bytes (e.0).key in
     map (λ c. record { table = (e.0).table; row = row; column = c.0; bytes = c.1 }) (cells_of e.1)
 
--- the cells of the objects, and those of the rows of next numbers
+-- the cells of the rows of the objects and of next numbers
 abbrev pub rows : World → StoredSet → List ℕ → List Cell
-rows world set numbers =
-    flat_map (λ e. object_cells world e.0 e.1) set ++ flat_map row_cells (number_rows world.model numbers)
+rows world set numbers = flat_map row_cells (rows_of world set numbers)
 
 -- ---- the tables of a persistence unit: 0 for next numbers, those of the roots, and join tables
 

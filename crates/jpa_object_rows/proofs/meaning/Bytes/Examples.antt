@@ -15,7 +15,8 @@ use Rattle.jpa_behaviour.specs.Behaviour.{World, without_functions}
 use Rattle.jpa_stored.specs.objects.Sets.{StoredSet}
 use Rattle.jpa_rows.specs.rows.Cells.{Cell}
 use Rattle.jpa_object_rows.specs.meaning.Rows.{Rows}
-use Rattle.jpa_object_rows.specs.meaning.Written.{rows_of}
+use Rattle.jpa_object_rows.specs.meaning.Raw.{raw}
+use Rattle.jpa_rows.specs.rows.ObjectRows.{rows_of}
 use Rattle.jpa_object_rows.specs.meaning.View.{set_of}
 use Rattle.jpa_object_rows.specs.meaning.Flat.{cells_of}
 
@@ -89,7 +90,7 @@ first_read : set_of both_sides first_rows ≡ first_set
 unfolding is_utf8 chars lib.Utf8.encode
 first_read = refl
 
-first_written : rows_of both_sides first_set (2 ∷ 1 ∷ []) ≡ first_rows
+first_written : raw (rows_of both_sides first_set (2 ∷ 1 ∷ [])) ≡ first_rows
 first_written = refl
 
 -- ---- an order links to a person without a name (removing-a-referenced-person)
@@ -115,7 +116,7 @@ linked_cells = refl
 linked_read : set_of one_side linked_rows ≡ linked_set
 linked_read = refl
 
-linked_written : rows_of one_side linked_set (2 ∷ 1 ∷ []) ≡ linked_rows
+linked_written : raw (rows_of one_side linked_set (2 ∷ 1 ∷ [])) ≡ linked_rows
 linked_written = refl
 
 -- ---- an embedded key of two parts, a link and a pair (embedded-keys-and-unique-link)
@@ -175,7 +176,7 @@ paired_read : set_of pairing paired_rows ≡ paired_set
 unfolding is_utf8 chars lib.Utf8.encode
 paired_read = refl
 
-paired_written : rows_of pairing paired_set (1 ∷ 1 ∷ []) ≡ paired_rows
+paired_written : raw (rows_of pairing paired_set (1 ∷ 1 ∷ [])) ≡ paired_rows
 paired_written = refl
 
 -- a pair without its owner's row is nobody's

@@ -65,8 +65,3 @@ same_front root p q after_p after_q hp gp hq gq e =
     let read = sym (front_read (kinds_of root) p.key after_p (is_whole root p hp gp)) ∙ ap (key_at (kinds_of root)) e ∙ front_read (kinds_of root) q.key after_q (is_whole root q hq gq) in
     let keys_same : p.key ≡ q.key = ap (λ (r : List Value × ℕ). r.0) (value_in _ _ read) in
     λ i. record { table = tables i; key = keys_same i }
-
--- keys with the same bytes are one
-pub same_key_bytes : (root : Root) (p q : Identity) → is_identity_of root p ≡ true → names_representable p ≡ true → is_identity_of root q ≡ true → names_representable q ≡ true
-    → keys.key_bytes p.key ≡ keys.key_bytes q.key → p ≡ q
-same_key_bytes root p q hp gp hq gq e = same_front root p q [] [] hp gp hq gq (ap (λ bytes. bytes ++ []) e)

@@ -1,8 +1,8 @@
--- Rows of next numbers are of table 0, so they spell no identity and no pair; and their cells are those of the numbers.
-use Rattle.std.specs.Prelude.{◌≡◌, ℕ, pos, true, false, cond, ◌==◌, not, is_some, List, [], ◌∷◌, map, Option, Some, None}
+-- Rows of next numbers are of table 0, so they spell no identity and no pair.
+use Rattle.std.specs.Prelude.{◌≡◌, ℕ, pos, true, false, cond, ◌==◌, not, is_some, List, [], ◌∷◌, map, Option, None}
 use Rattle.std.proofs.Common.{refl, sym, ap, ◌∙◌}
-use Rattle.std.specs.List.{flat_map, zip, AllByRecursion}
-use Rattle.std.specs.FinMap.{find, put}
+use Rattle.std.specs.List.{flat_map, zip}
+use Rattle.std.specs.FinMap.{put}
 use Rattle.std.specs.declared.cmp.Ordering.{Ordering}
 use Rattle.jpa_value.specs.declared.value.Identity.{Identity}
 use Rattle.jpa_value.specs.Value.{identity_cmp, is_i64}
@@ -11,7 +11,6 @@ use Rattle.jpa_model.specs.declared.unit.Root.{Root}
 use Rattle.jpa_model.specs.declared.unit.PersistenceUnit.{PersistenceUnit}
 use Rattle.jpa_behaviour.specs.Behaviour.{World}
 use Rattle.jpa_rows.specs.rows.Rows as typed
-use Rattle.jpa_rows.specs.rows.Tables.{schema_of}
 use Rattle.jpa_rows.specs.laws.Entries.{entry_if, entries_of}
 use Rattle.jpa_rows.proofs.laws.Facts.{some_none, and_second, true_false}
 use Rattle.jpa_rows.proofs.laws.Maps.{put_rises}
@@ -19,11 +18,10 @@ use Rattle.jpa_rows.proofs.laws.Each.{Each}
 use Rattle.jpa_rows.proofs.laws.Elements.{Has}
 use Rattle.jpa_rows.proofs.laws.Lists.{all_each}
 use Rattle.jpa_object_rows.specs.meaning.Rows.{RowId, row_cmp, row_of, Columns, Row, Rows, AreRising}
-use Rattle.jpa_object_rows.specs.meaning.Identities.{root_at, declarer_at, is_within, identity_in, identity_at, target_at, pair_row, IsSpelled}
+use Rattle.jpa_object_rows.specs.meaning.Identities.{root_at, declarer_at, is_within, identity_in, identity_at, target_at, IsSpelled}
 use Rattle.jpa_object_rows.specs.meaning.View.{set_of, stored_in, pairs_of, pair_from}
 use Rattle.jpa_object_rows.specs.meaning.Unambiguous.{IsUnambiguous}
-use Rattle.jpa_object_rows.specs.meaning.Flat.{IsRow, IsNormal}
-use Rattle.jpa_object_rows.specs.meaning.Raw.{raw, AreNamed, is_id_of}
+use Rattle.jpa_object_rows.specs.meaning.Raw.{raw}
 use Rattle.jpa_object_rows.specs.meaning.Objects.{number_id, number_row}
 use Rattle.jpa_rows.specs.rows.NextNumbers.{next_entries, base_of, number_rows}
 use Rattle.jpa_object_rows.proofs.meaning.Bytes.Orders.{row_ids}
@@ -31,10 +29,7 @@ use Rattle.jpa_object_rows.proofs.meaning.Bytes.Spelling.{spelling}
 use Rattle.jpa_object_rows.proofs.meaning.Bytes.SetLaws.{set_same}
 use Rattle.jpa_object_rows.proofs.meaning.Bytes.Others.{unless_paired, unless_tied, put_stays, read_stays}
 use Rattle.jpa_object_rows.proofs.meaning.Bytes.Tables.{own_tables, zero_root, zero_join}
-use Rattle.jpa_object_rows.proofs.meaning.Bytes.Fresh.{HasNoRow}
-use Rattle.jpa_object_rows.proofs.meaning.Named.{number_named}
 use Rattle.jpa_object_rows.proofs.meaning.Over.{over_rises}
-use Rattle.jpa_object_rows.proofs.meaning.Raw.{raw_rises}
 use Rattle.jpa_object_rows.proofs.meaning.NextNumbers.{HasEntry, number_each, rows_each, among_tables}
 
 -- ---- rows of table 0
@@ -61,23 +56,14 @@ number_put world clear rows rise r zero columns =
 abbrev Zero : Identity → typed.Row → Type 0
 Zero id row = id.table ≡ 0
 
-not_found : (r : RowId) → (r.table ≡ 0 → ⊥) → (rows : typed.Rows) → Each Zero rows → find row_cmp r (raw rows) ≡ None
-not_found r apart [] h = refl
-not_found r apart (e ∷ rows) h =
-    ap (λ b. cond b (Some (typed.cells_of e.1)) (find row_cmp r (raw rows))) (unless_tied r (row_of e.0) (λ same. apart (ap (λ (x : RowId). x.table) same ∙ h.0))) ∙ not_found r apart rows h.1
-
 nothing_read : {K X : Type 0} (by : K → K → Ordering) (key_at : RowId → Option K) (value : K → Columns → Option X) (rows : typed.Rows) → Each (λ id row. key_at (row_of id) ≡ None) rows
     → entries_of by key_at value (raw rows) ≡ []
 nothing_read by key_at value [] h = refl
 nothing_read by key_at value (e ∷ rows) h =
     ap (λ o. entry_if by o (λ k. value k (typed.cells_of e.1)) (entries_of by key_at value (raw rows))) h.0 ∙ nothing_read by key_at value rows h.1
 
-each_spelled : (rows : typed.Rows) → Each (λ id row. IsRow (typed.cells_of row)) rows → AllByRecursion (λ (r : Row). IsRow r.1) (raw rows)
-each_spelled [] h = tt
-each_spelled (e ∷ rows) h = (h.0, each_spelled rows h.1)
-
 module _ {P Q : Identity → typed.Row → Type 0} (into : (id : Identity) (row : typed.Row) → P id row → Q id row) where
-  each_into : (rows : typed.Rows) → Each P rows → Each Q rows
+  pub each_into : (rows : typed.Rows) → Each P rows → Each Q rows
   each_into [] h = tt
   each_into (e ∷ rows) h = (into e.0 e.1 h.0, each_into rows h.1)
 
@@ -90,40 +76,15 @@ module _ (m : PersistenceUnit) (clear : IsUnambiguous m) (numbers : List ℕ) wh
   pub of_zero : Each Zero (number_rows m numbers)
   of_zero = rows_each Zero m numbers (λ p h root k. refl) (number_each Zero 0 m.revision (λ more. refl))
 
-  named : AreNamed (schema_of m) (number_rows m numbers)
-  named =
-      let N = λ (id : Identity) (row : typed.Row). is_id_of (schema_of m) id ≡ true in
-      rows_each N m numbers (λ p h root k. number_named m root.table (small_table p h root k)) (number_each N 0 m.revision (λ more. number_named m 0 refl))
-
   pub base_rises : typed.AreRising (number_rows m numbers)
   base_rises =
       over_rises (next_entries (zip m.entities numbers)) (base_of m) (elim (m.revision == 1) as (λ b. typed.AreRising (cond b [] ((number_id 0, number_row m.revision) ∷ []))) [ true ↦ tt | false ↦ tt ])
-
-  pub numbers_rise : AreRising (raw (number_rows m numbers))
-  numbers_rise = raw_rises (schema_of m) (number_rows m numbers) named base_rises
-
-  pub numbers_normal : IsNormal (raw (number_rows m numbers))
-  numbers_normal =
-      let N = λ (id : Identity) (row : typed.Row). IsRow (typed.cells_of row) in
-      record {
-        rising = numbers_rise;
-        each = each_spelled (number_rows m numbers) (rows_each N m numbers (λ p h root k. record { rising = tt; filled = λ e. cc }) (number_each N 0 m.revision (λ more. record { rising = tt; filled = λ e. cc })));
-      }
 
   -- nothing is read from them
   pub numbers_no_pairs : (q : Identity) (join target : ℕ) → pairs_of m (raw (number_rows m numbers)) q join target ≡ []
   numbers_no_pairs q join target =
       ap (map (λ (e : Identity × _). e.0))
       (nothing_read identity_cmp (target_at m target q join) pair_from (number_rows m numbers) (each_into (λ id row zero. zero_unread m clear (row_of id) zero q join target) (number_rows m numbers) of_zero))
-
-  pub numbers_no_row : (q : Identity) → IsSpelled m q → HasNoRow m q (raw (number_rows m numbers))
-  numbers_no_row q sq = record {
-    main = not_found (row_of q) (λ zero. zero_apart m clear (row_of q) zero q sq refl) (number_rows m numbers) of_zero;
-    pairs = λ join t joins.
-        not_found (pair_row join q t)
-        (λ zero. true_false (sym (and_second _ (is_within m q.table (declarer_at m join)) joins) ∙ ap (λ j. is_within m q.table (declarer_at m j)) zero ∙ ap (is_within m q.table) (zero_join m clear.tables)))
-        (number_rows m numbers) of_zero;
-  }
 
 pub numbers_no_set : (world : World) → IsUnambiguous world.model → (numbers : List ℕ) → set_of world (raw (number_rows world.model numbers)) ≡ []
 numbers_no_set world clear numbers =

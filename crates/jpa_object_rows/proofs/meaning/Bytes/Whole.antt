@@ -107,9 +107,6 @@ read_pairs world rows id x (Some columns) e =
 
 -- ---- an object is put
 
-pub with_object_rises : (world : World) (id : Identity) (x : Stored) (rows : Rows) → AreRising rows → AreRising (with_object world id x rows)
-with_object_rises world id x rows rise = put_rises row_ids (row_of id) (columns_of world x) _ (with_joins_rise id (owned_of world x) rows rise)
-
 module _ (world : World) (clear : IsUnambiguous world.model) where
   pub object_stays : (id : Identity) (x : Stored) → is_storable world id x ≡ true → (q : Identity) → IsSpelled world.model q → same_identity q id ≡ false → (rows : Rows) → AreRising rows
       → Stays world.model q rows (with_object world id x rows)
