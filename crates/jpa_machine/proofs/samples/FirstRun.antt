@@ -43,10 +43,10 @@ key_one = 1 ∷ 128 ∷ 0 ∷ 0 ∷ 0 ∷ 0 ∷ 0 ∷ 0 ∷ 1 ∷ []
 
 abbrev pub person_cells : ℕ → List ℕ → List Cell
 person_cells version name =
-    record { table = 1; row = key_one; column = pos 0; bytes = 2 ∷ codes "Person" }
+    record { table = 0; row = key_one; column = pos 0; bytes = 1 ∷ 128 ∷ 0 ∷ 0 ∷ 0 ∷ 0 ∷ 0 ∷ 0 ∷ 2 ∷ [] }
+    ∷ record { table = 1; row = key_one; column = pos 0; bytes = 2 ∷ codes "Person" }
     ∷ record { table = 1; row = key_one; column = pos 1; bytes = 1 ∷ 128 ∷ 0 ∷ 0 ∷ 0 ∷ 0 ∷ 0 ∷ 0 ∷ version ∷ [] }
-    ∷ record { table = 1; row = key_one; column = pos 2; bytes = 2 ∷ name }
-    ∷ record { table = 0; row = key_one; column = pos 0; bytes = 1 ∷ 128 ∷ 0 ∷ 0 ∷ 0 ∷ 0 ∷ 0 ∷ 0 ∷ 2 ∷ [] } ∷ []
+    ∷ record { table = 1; row = key_one; column = pos 2; bytes = 2 ∷ name } ∷ []
 
 pub first_cells : cells_of after_first ≡ person_cells 0 (codes "Ada")
 first_cells = refl

@@ -39,10 +39,10 @@ first_committer_wins : replies_of P fresh first_committer ≡
 first_committer_wins = refl
 
 first_committer_cells : cells_of (machine_after P fresh first_committer) ≡
-    record { table = 1; row = number 1; column = pos 0; bytes = 2 ∷ codes "Person" }
+    record { table = 0; row = number 1; column = pos 0; bytes = number 2 }
+    ∷ record { table = 1; row = number 1; column = pos 0; bytes = 2 ∷ codes "Person" }
     ∷ record { table = 1; row = number 1; column = pos 1; bytes = number 1 }
-    ∷ record { table = 1; row = number 1; column = pos 2; bytes = 2 ∷ codes "A1" }
-    ∷ record { table = 0; row = number 1; column = pos 0; bytes = number 2 } ∷ []
+    ∷ record { table = 1; row = number 1; column = pos 2; bytes = 2 ∷ codes "A1" } ∷ []
 first_committer_cells = refl
 
 -- ---- unversioned-update-not-lost
@@ -97,9 +97,9 @@ keys_survive_rollback : replies_of P fresh survivors ≡
 keys_survive_rollback = refl
 
 survivors_cells : cells_of (machine_after P fresh survivors) ≡
-    record { table = 1; row = number 2; column = pos 0; bytes = 2 ∷ codes "Person" }
-    ∷ record { table = 1; row = number 2; column = pos 1; bytes = number 0 }
-    ∷ record { table = 0; row = number 1; column = pos 0; bytes = number 3 } ∷ []
+    record { table = 0; row = number 1; column = pos 0; bytes = number 3 }
+    ∷ record { table = 1; row = number 2; column = pos 0; bytes = 2 ∷ codes "Person" }
+    ∷ record { table = 1; row = number 2; column = pos 1; bytes = number 0 } ∷ []
 survivors_cells = refl
 
 -- ---- a second manager begins while the first one's transaction is open

@@ -126,9 +126,12 @@ card_cells version holder =
 abbrev other_cells : List Cell
 other_cells =
     cell_in 1 2 0 (2 ∷ codes "Cheque") ∷ cell_in 1 2 1 (number 0) ∷ cell_in 1 2 4 (2 ∷ codes "B") ∷ cell_in 1 3 0 (2 ∷ codes "Payment") ∷ cell_in 1 3 1 (number 0)
-    ∷ cell_in 0 1 0 (number 4) ∷ []
+    ∷ []
 
-made_cells : cells_of made ≡ card_cells 0 (codes "Ada") ++ other_cells
+abbrev next_cell : Cell
+next_cell = cell_in 0 1 0 (number 4)
+
+made_cells : cells_of made ≡ next_cell ∷ card_cells 0 (codes "Ada") ++ other_cells
 made_cells = refl
 
 -- ---- find
@@ -156,7 +159,7 @@ changing_replies : replies_of H made changing ≡
     quiet ∷ quiet ∷ tells (saw LifecycleEvent.PreUpdate 1 ∷ saw LifecycleEvent.PostUpdate 1 ∷ []) ∷ ok [] (Answer.Value (Value.Int (pos 1))) ∷ []
 changing_replies = refl
 
-changed_cells : cells_of (machine_after H made changing) ≡ card_cells 1 (codes "Eve") ++ other_cells
+changed_cells : cells_of (machine_after H made changing) ≡ next_cell ∷ card_cells 1 (codes "Eve") ++ other_cells
 changed_cells = refl
 
 refreshing : replies_of H made (set 1 (codes "holder") (codes "Eve") ∷ Call.Refresh (pos 1) (pos 1) ∷ Call.Get (pos 1) (codes "holder") ∷ []) ≡
@@ -175,7 +178,7 @@ removing_replies : replies_of H made removing ≡
     ∷ ok [] (Answer.Object 2) ∷ []
 removing_replies = refl
 
-removed_cells : cells_of (machine_after H made removing) ≡ other_cells
+removed_cells : cells_of (machine_after H made removing) ≡ next_cell ∷ other_cells
 removed_cells = refl
 
 -- ---- an identity is one over the whole hierarchy
