@@ -160,10 +160,10 @@ flat table n column bytes = record { table = table; row = (row n []).row; column
 revision_counted : rows persons [] (1 ∷ 1 ∷ []) ≡ flat 0 0 0 (int_cell 0 2).value ∷ []
 revision_counted = refl
 
--- the 6 cells are those of the set with Ada and of the next number 2: the object's, the revision's, the generator's
+-- the 6 cells are those of the set with Ada and of the next number 2: the revision's, the generator's, the object's
 cells_stand : rows persons ((one, ada) ∷ []) (2 ∷ 1 ∷ [])
-    ≡ flat 1 1 0 (2 ∷ codes "Person") ∷ flat 1 1 1 (int_cell 0 0).value ∷ flat 1 1 4 (2 ∷ codes "Ada") ∷ flat 1 1 3 (int_cell 0 0).value
-    ∷ flat 0 0 0 (int_cell 0 2).value ∷ flat 0 1 0 (int_cell 0 2).value ∷ []
+    ≡ flat 0 0 0 (int_cell 0 2).value ∷ flat 0 1 0 (int_cell 0 2).value
+    ∷ flat 1 1 0 (2 ∷ codes "Person") ∷ flat 1 1 1 (int_cell 0 0).value ∷ flat 1 1 3 (int_cell 0 0).value ∷ flat 1 1 4 (2 ∷ codes "Ada") ∷ []
 cells_stand = refl
 
 keys_lie_below : keys_given persons.model ((one, ada) ∷ []) (2 ∷ 1 ∷ []) ≡ true
