@@ -6,7 +6,6 @@ pub mod Raw
 pub mod Objects
 pub mod Over
 pub mod NextNumbers
-pub mod Changes
 pub mod Places
 -- ---- a unit's tables
 pub mod Tables

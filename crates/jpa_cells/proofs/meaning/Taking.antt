@@ -1,5 +1,5 @@
 -- What a write within a transaction takes, and why it is refused.
-use Rattle.std.proofs.Common.{◌≡◌, inl, inr, ◌<◌, ◌≤◌, ◌+◌, suc, drop, drop-cons, add-one, get_or, length, ℕ, ℤ, List, [], ◌∷◌, ◌++◌, Ok, Err, Result, IsSome, OnOk, IfErr, IsTrue, None, refl, sym, ap, subst, ◌∙◌, arith, lit≤, true≢false}
+use Rattle.std.proofs.Common.{◌≡◌, inl, inr, ◌<◌, ◌≤◌, ◌+◌, suc, drop, drop-cons, add-one, get_or, length, ℕ, ℤ, List, [], ◌∷◌, ◌++◌, Ok, Err, Result, IsSome, OnOk, IfErr, None, refl, sym, ap, subst, ◌∙◌, arith, lit≤, true≢false}
 use Rattle.std.proofs.lemmas.Bool.{cases_Bool}
 use Rattle.std.proofs.lemmas.List.Sorted.{IsPermutation-sym}
 use Rattle.std.proofs.lemmas.List.Sums.{sum_by-cons}
@@ -15,7 +15,6 @@ use Rattle.sqlite.specs.Effect.{Database}
 use Rattle.sqlite.specs.Disk.{MoreFaults}
 use Rattle.sqlite.specs.declared.error.Error.{Error}
 use Rattle.sqlite.specs.State.{State, HasCleanDisk, Survives, mode_of, ExecutesInside}
-use Rattle.sqlite.specs.Steps.{FailsToCommit}
 use Rattle.sqlite.proofs.Callers.{statement_of}
 use Rattle.sqlite_tied.specs.Compute.{everything}
 use Rattle.sqlite_keyed.specs.Lists.{insert_sorted}
@@ -32,7 +31,7 @@ use Rattle.jpa_cells.proofs.meaning.RowMeaning.{params}
 use Rattle.jpa_cells.proofs.meaning.Laws.{cells_in, obeys}
 use Rattle.jpa_cells.proofs.meaning.Contents.{NoTies, new_row, cell_cmp_total, no_ties, ties_permuted, same_itself}
 use Rattle.jpa_cells.proofs.meaning.Writes.{inserts, deletes}
-use Rattle.jpa_cells.proofs.meaning.Causes.{Takes, fails_excused}
+use Rattle.jpa_cells.proofs.meaning.Causes.{Takes}
 use Rattle.jpa_cells.proofs.meaning.Uniqueness.{unique_with, unique_without, free_from}
 use Rattle.jpa_cells.proofs.meaning.Stops.{insert_stops, delete_stops}
 use Rattle.jpa_cells.proofs.meaning.Refusals.{failing}
@@ -155,11 +154,6 @@ later first mid last up more = omega (arith, up, more)
 still : (first mid last : ℕ) → mid ≤ last → MoreFaults first mid → MoreFaults first last
 still first mid last up more = omega (arith, up, more)
 
-pub excused_still : (first mid last : State) (e : Error) → mid.faults ≤ last.faults → IsExcused first mid e → IsExcused first last e
-excused_still first mid last e up (inl memory) = inl memory
-excused_still first mid last e up (inr (inl more)) = inr (inl (still _ _ _ up more))
-excused_still first mid last e up (inr (inr other)) = inr (inr other)
-
 pub fault_later : (first mid last : State) (Commits : Trees → Type 0) → Survives first mid Commits → HasCleanDisk mid → mid.faults ≤ last.faults → IsFault mid last → IsFault first last
 fault_later first mid last Commits survived clean up (inl more) = inl (later _ _ _ survived.counts more)
 fault_later first mid last Commits survived clean up (inr (inr some)) = inr (inr (subst IsSome survived.limit some))
@@ -171,7 +165,3 @@ fault_later first mid last Commits survived clean up (inr (inl shut)) = elim (ca
 pub excused_later : (first mid last : State) (Commits : Trees → Type 0) (e : Error) → Survives first mid Commits → HasCleanDisk mid → mid.faults ≤ last.faults → IsExcused mid last e → IsExcused first last e
 excused_later first mid last Commits e survived clean up (inl memory) = inl memory
 excused_later first mid last Commits e survived clean up (inr fault) = inr (fault_later first mid last Commits survived clean up fault)
-
-pub commit_fault : (old new : State) (e : Error) → IsTrue old.in_transaction → FailsToCommit old new e → IsExcused old new e
-commit_fault old new e inside (inl fails) = fails_excused old new e fails
-commit_fault old new e inside (inr (_, outside, _)) = absurd (true≢false (sym inside ∙ outside))

@@ -13,7 +13,7 @@ use Rattle.jpa_cells.specs.declared.meaning.Cell.{Cell}
 use Rattle.jpa_cells.specs.declared.meaning.CellRow.{CellRow}
 use Rattle.jpa_cells.specs.meaning.Tables.{key_cmp, AreRows}
 use Rattle.jpa_cells.specs.rowspace.Stored.{cells_in, cell_of, stored_row}
-use Rattle.jpa_cells.specs.rowspace.Reading.{IsFound, IsIllFormed, SpellsEntry, IsEntry, IsDamaged, AreEntries, AreRead}
+use Rattle.jpa_cells.specs.rowspace.Reading.{IsFound, IsIllFormed, SpellsEntry, IsEntry, AreEntries, AreRead}
 use Rattle.jpa_cells.proofs.rowspace.Pairs.{spelled_columns}
 use Rattle.jpa_cells.proofs.rowspace.Ids.{IsIn, bytes_order, same_table}
 
@@ -40,33 +40,6 @@ spells_own rule e h = record {
   named = record { whole = h.entry.named; same = refl };
   whole = record { whole = h.entry.whole; same = spelled_columns e.1 };
 }
-
-pub entries_are : (rule : TableRule) (es found : Rows) → AllByRecursion (IsIn rule) es → AreEntries rule (map stored_row es) found → found ≡ es
-entries_are rule [] [] h f = refl
-entries_are rule [] (x ∷ found) h f = absurd f
-entries_are rule (e ∷ es) [] h f = absurd f
-entries_are rule (e ∷ es) (x ∷ found) h f =
-    let here : x ≡ e = (f.0 e).1 (spells_own rule e h.0) in
-    let rest = entries_are rule es found h.1 f.1 in
-    λ i. here i ∷ rest i
-
-nil_not : {X : Type 0} (before : List X) (x : X) (after : List X) → [] ≡ before ++ x ∷ after → ⊥
-nil_not [] x after e = cc
-nil_not (b ∷ before) x after e = cc
-
-head_of : {X : Type 0} (d x y : X) (xs ys : List X) → x ∷ xs ≡ y ∷ ys → x ≡ y
-head_of d x y xs ys e = cc
-
-tail_of : {X : Type 0} (x y : X) (xs ys : List X) → x ∷ xs ≡ y ∷ ys → xs ≡ ys
-tail_of x y xs ys e = cc
-
-none_damaged : (rule : TableRule) (es : Rows) (before : List CellRow) (r : CellRow) (after : List CellRow) → AllByRecursion (IsIn rule) es → map stored_row es ≡ before ++ r ∷ after → IsDamaged rule r → ⊥
-none_damaged rule [] before r after h e d = nil_not before r after e
-none_damaged rule (x ∷ es) [] r after h e d = d x (subst (λ s. SpellsEntry rule s x) (head_of r (stored_row x) r (map stored_row es) after e) (spells_own rule x h.0))
-none_damaged rule (x ∷ es) (b ∷ before) r after h e d = none_damaged rule es before r after h.1 (tail_of (stored_row x) b (map stored_row es) (before ++ r ∷ after) e) d
-
-pub whole_read : (rule : TableRule) (es found : Rows) (bytes : List ℕ) → AllByRecursion (IsIn rule) es → AreRead rule (map stored_row es) found (Some bytes) → ⊥
-whole_read rule es found bytes h d = none_damaged rule es d.0 d.1 d.2 h d.3 d.5
 
 pub entries_last : (rule : TableRule) (stored : List CellRow) (rows : Rows) (s : CellRow) (e : RowId × Row) → AreEntries rule stored rows → IsEntry rule s e → AreEntries rule (stored ++ s ∷ []) (rows ++ e ∷ [])
 entries_last rule [] [] s e h k = (k, tt)

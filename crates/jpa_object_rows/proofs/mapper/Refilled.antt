@@ -10,7 +10,7 @@ use Rattle.jpa_model.specs.declared.unit.Side.{Side}
 use Rattle.jpa_model.specs.Chains.{attributes_of, relations_of, root_of, entity_at}
 use Rattle.jpa_behaviour.specs.Behaviour.{World}
 use Rattle.jpa_stored.specs.declared.objects.stored.Stored.{Stored}
-use Rattle.jpa_stored.specs.objects.Sets.{each_fits, is_identity_of, is_rising, owns_as, owns_well, version_there, is_shaped}
+use Rattle.jpa_stored.specs.objects.Sets.{each_fits, is_identity_of, is_rising, owns_as, owns_well, version_there}
 use Rattle.jpa_rows.specs.rows.Cells.{names_representable, version_representable}
 use Rattle.jpa_rows.proofs.laws.Facts.{and_first, and_second, and_both, true_false}
 use Rattle.jpa_rows.proofs.laws.Elements.{Has}
@@ -211,7 +211,3 @@ fits_length ok (x ∷ xs) (y ∷ ys) h = ap suc (fits_length ok xs ys (and_secon
 -- an object may own no pairs
 pub none_owned : (m : PersistenceUnit) (relations : List Relation) → MayOwn m no_pairs relations
 none_owned m relations r has join side = record { rising = refl; of_target = refl; real = refl }
-
--- a storable object has the shape of its class
-pub shaped_storable : (world : World) (id : Identity) (x : Stored) → is_storable world id x ≡ true → is_shaped world.model id x ≡ true
-shaped_storable world id x h = and_first (is_shaped world.model id x) _ h

@@ -1,6 +1,6 @@
 -- The rows of an owner's pairs in a join table stand together among rows in rising order.
-use Rattle.std.specs.Prelude.{◌≡◌, ℕ, ◌≤◌, Bool, true, false, cond, ◌==◌, is_some, T, List, [], ◌∷◌, ◌++◌, length, take, drop, Option, Some, None, option_map}
-use Rattle.std.proofs.Common.{refl, sym, ap, subst, ◌∙◌, arith, Less, Equal, Greater}
+use Rattle.std.specs.Prelude.{◌≡◌, ℕ, Bool, true, false, cond, ◌==◌, is_some, T, List, [], ◌∷◌, ◌++◌, length, take, drop, Option, Some, None, option_map}
+use Rattle.std.proofs.Common.{refl, sym, ap, subst, ◌∙◌, Less, Equal, Greater}
 use Rattle.std.proofs.lemmas.Bool.{eq-eqb}
 use Rattle.std.proofs.lemmas.Grind.{flat_map-append}
 use Rattle.std.proofs.lemmas.List.{take-append-drop}
@@ -39,15 +39,6 @@ key_drops (v ∷ x) (w ∷ key) h = by_test (same_value v w) h (λ g. key_drops 
     by_test : (b : Bool) → is_some (cond b (key_after x key) None) ≡ true → (is_some (key_after x key) ≡ true → key_after x key ≡ Some (drop (length x) key))
         → cond b (key_after x key) None ≡ Some (drop (length x) key)
     by_test true g rest = rest g
-    by_test false g rest = absurd (true_false (sym g))
-
-pub key_long : (x key : List Value) → is_some (key_after x key) ≡ true → length x ≤ length key
-key_long [] key h = omega arith
-key_long (v ∷ x) [] h = absurd (true_false (sym h))
-key_long (v ∷ x) (w ∷ key) h = by_test (same_value v w) h (λ g. key_long x key g)
-  where
-    by_test : (b : Bool) → is_some (cond b (key_after x key) None) ≡ true → (is_some (key_after x key) ≡ true → length x ≤ length key) → length (v ∷ x) ≤ length (w ∷ key)
-    by_test true g rest = let r : length x ≤ length key = rest g in omega arith
     by_test false g rest = absurd (true_false (sym g))
 
 -- a longer key is not below
@@ -169,9 +160,6 @@ module _ (join table : ℕ) (owner : List Value) where
       by_target (Some t) f rest = ap (λ o. then o (leading rows)) f ∙ ap (λ ts. t ∷ ts) rest ∙ ap (λ o. if_any o ++ picked rows) (sym f)
 
   -- ---- step by step
-
-  pub leading_pair : (e : RowId × Row) (rows : Rows) (t : Identity) → pair_target join table owner e.0 ≡ Some t → leading (e ∷ rows) ≡ t ∷ leading rows
-  leading_pair e rows t f = ap (λ o. then o (leading rows)) f
 
   pub leading_none : (e : RowId × Row) (rows : Rows) → pair_target join table owner e.0 ≡ None → leading (e ∷ rows) ≡ []
   leading_none e rows f = ap (λ o. then o (leading rows)) f

@@ -9,7 +9,6 @@ pub mod Reading
 -- ---- the set that rows stand for, and one main row
 pub mod SetLaws
 pub mod Others
-pub mod MainRow
 -- ---- pairs, whole objects, sets
 pub mod Joins
 pub mod Relations
@@ -18,7 +17,6 @@ pub mod Whole
 pub mod Numbers
 pub mod Rounds
 pub mod Kept
-pub mod Inverse
 -- ---- cells
 pub mod OneRows
 -- ---- every metamodel is unambiguous

@@ -20,11 +20,10 @@ use Rattle.jpa_rows.proofs.laws.Elements.{Has, has_from_contains, contains_from_
 use Rattle.jpa_rows.proofs.laws.Lists.{has_any, flat_map-map}
 use Rattle.jpa_object_rows.specs.meaning.Rows as by_bytes
 use Rattle.jpa_object_rows.specs.meaning.Flat.{cell_in, cells_of_row, cells_of, IsRow, IsNormal, is_own_table, own_rows}
-use Rattle.jpa_object_rows.specs.meaning.Unambiguous.{IsUnambiguous, is_class}
+use Rattle.jpa_object_rows.specs.meaning.Unambiguous.{is_class}
 use Rattle.jpa_object_rows.proofs.meaning.Bytes.Orders.{are_same_numbers, same_number}
 use Rattle.jpa_object_rows.proofs.meaning.Bytes.Classes.{find_some}
 use Rattle.jpa_object_rows.proofs.meaning.Bytes.Mapped.{IsMapped}
-use Rattle.jpa_object_rows.proofs.meaning.Bytes.MappedClasses.{unambiguous_mapped}
 use Rattle.jpa_object_rows.proofs.meaning.Bytes.Rounds.{held_storable}
 use Rattle.jpa_object_rows.proofs.meaning.Bytes.OneRows.{one_rows}
 use Rattle.jpa_object_rows.specs.meaning.Raw.{raw, raw_entry, is_key_by, AreNamed, AreWhole, AreFilled, IsRowBy}
@@ -99,8 +98,6 @@ raw_normal m rows h = record { rising = raw_rises (schema_of m) rows (h.named).n
 
 module _ (world : World) (mapped : IsMapped world.model) (regular : IsRegular world) (named : (class : ℕ) → is_class world.model class ≡ true → is_discriminator (entity_at world.model class) ≡ true)
     (set : StoredSet) (numbers : List ℕ) where
-  clear : IsUnambiguous world.model
-  clear = unambiguous_mapped world.model mapped
 
   abbrev its : Rows
   its = rows_of world set numbers

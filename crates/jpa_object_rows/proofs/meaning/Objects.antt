@@ -104,6 +104,3 @@ main_row_spelled world x =
 
 pub pair_id_spelled : (join : ℕ) (owner target : Identity) → row_of (pair_id join owner target) ≡ identities.pair_row join owner target
 pair_id_spelled join owner target = λ i. record { table = join; row = flat_map-append part_bytes owner.key target.key i }
-
-pub pair_row_spelled : cells_of pair_row ≡ written.pair_columns
-pair_row_spelled = refl

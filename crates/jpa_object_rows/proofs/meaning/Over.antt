@@ -22,8 +22,8 @@ use Rattle.jpa_object_rows.specs.meaning.Rows.{row_cmp, row_of}
 use Rattle.jpa_object_rows.specs.meaning.Written as written
 use Rattle.jpa_object_rows.proofs.meaning.Bytes.Orders.{identities}
 use Rattle.jpa_object_rows.specs.meaning.Raw.{raw, is_id_of, AreIds, AreNamed, AreRowsOf}
-use Rattle.jpa_object_rows.specs.meaning.Objects.{main_row, pair_id, pair_row, side_pairs, pairs_along, pair_ids, with_rows, without_rows, as_pairs, object_entries, object_rows, with_object, without_pairs, without_object}
-use Rattle.jpa_object_rows.proofs.meaning.Raw.{raw_put, raw_dropped, named_put, named_dropped}
+use Rattle.jpa_object_rows.specs.meaning.Objects.{main_row, pair_id, pair_row, side_pairs, pairs_along, pair_ids, with_rows, without_rows, as_pairs, object_entries, object_rows, with_object, without_pairs}
+use Rattle.jpa_object_rows.proofs.meaning.Raw.{raw_put, named_put}
 use Rattle.jpa_object_rows.proofs.meaning.Objects.{main_row_spelled, pair_id_spelled}
 
 -- ---- rows over others
@@ -47,9 +47,6 @@ over_rises (e ∷ es) rows rise = put_rises identities e.0 e.1 (with_rows es row
 pub without_rises : (ids : List RowId) (rows : Rows) → AreRising rows → AreRising (without_rows ids rows)
 without_rises [] rows rise = rise
 without_rises (id ∷ ids) rows rise = dropped_rises identities id (without_rows ids rows) (without_rises ids rows rise)
-
-pub object_rows_rise : (world : World) (id : Identity) (x : Stored) → AreRising (object_rows world id x)
-object_rows_rise world id x = over_rises (object_entries world id x) [] tt
 
 pub or_nothing : (o p : Option Row) → or_else (or_else o None) p ≡ or_else o p
 or_nothing None p = refl
@@ -87,20 +84,12 @@ pub over_joined : (es fs rows : Rows) → with_rows (es ++ fs) rows ≡ with_row
 over_joined [] fs rows = refl
 over_joined (e ∷ es) fs rows = ap (put identity_cmp e.0 e.1) (over_joined es fs rows)
 
-without_joined : (ids others : List RowId) (rows : Rows) → without_rows (ids ++ others) rows ≡ without_rows ids (without_rows others rows)
-without_joined [] others rows = refl
-without_joined (id ∷ ids) others rows = ap (dropped identity_cmp id) (without_joined ids others rows)
-
 -- ---- spelled
 
 module _ (schema : Schema) where
   pairs_named : (ids : List RowId) (rows : Rows) → AreIds schema ids → AreNamed schema rows → AreNamed schema (with_rows (as_pairs ids) rows)
   pairs_named [] rows h g = g
   pairs_named (id ∷ ids) rows h g = named_put schema id h.0 pair_row (with_rows (as_pairs ids) rows) (pairs_named ids rows h.1 g)
-
-  pub without_named : (ids : List RowId) (rows : Rows) → AreNamed schema rows → AreNamed schema (without_rows ids rows)
-  without_named [] rows g = g
-  without_named (id ∷ ids) rows g = named_dropped schema id (without_rows ids rows) (without_named ids rows g)
 
   pairs_spelled : (join : ℕ) (owner : Identity) (ts : List Identity) (rows : Rows) → AreIds schema (map (pair_id join owner) ts) → AreNamed schema rows
       → raw (with_rows (as_pairs (map (pair_id join owner) ts)) rows) ≡ written.with_pairs join owner ts (raw rows)
@@ -131,33 +120,6 @@ module _ (schema : Schema) where
       ∙ side_spelled owner (p.0).side p.1 (with_rows (as_pairs others) rows) (all_first (λ id. is_id_of schema id ≡ true) here others h) (pairs_named others rows other_ids g)
       ∙ ap (written.with_side owner (p.0).side p.1) (along_spelled owner ps rows other_ids g)
 
-  left_spelled : (join : ℕ) (owner : Identity) (ts : List Identity) (rows : Rows) → AreIds schema (map (pair_id join owner) ts) → AreNamed schema rows
-      → raw (without_rows (map (pair_id join owner) ts) rows) ≡ written.without_pairs join owner ts (raw rows)
-  left_spelled join owner [] rows h g = refl
-  left_spelled join owner (t ∷ ts) rows h g =
-      let ids = map (pair_id join owner) ts in
-      raw_dropped schema (pair_id join owner t) h.0 (without_rows ids rows) (without_named ids rows g)
-      ∙ (λ i. dropped row_cmp (pair_id_spelled join owner t i) (left_spelled join owner ts rows h.1 g i))
-
-  side_left : (owner : Identity) (side : Side) (ids : List Identity) (rows : Rows) → AreIds schema (side_pairs owner side ids) → AreNamed schema rows
-      → raw (without_rows (side_pairs owner side ids) rows) ≡ written.without_side owner side ids (raw rows)
-  side_left owner (Side.ManyToOne c) ids rows h g = refl
-  side_left owner (Side.OneToOne c) ids rows h g = refl
-  side_left owner (Side.OneToOneInverse o) ids rows h g = refl
-  side_left owner (Side.OneToMany o) ids rows h g = refl
-  side_left owner (Side.ManyToMany join) ids rows h g = left_spelled join owner ids rows h g
-  side_left owner (Side.ManyToManyInverse o) ids rows h g = refl
-
-  along_left : (owner : Identity) (ps : List (Relation × List Identity)) (rows : Rows) → AreIds schema (pairs_along owner ps) → AreNamed schema rows
-      → raw (without_rows (pairs_along owner ps) rows) ≡ written.without_joins owner ps (raw rows)
-  along_left owner [] rows h g = refl
-  along_left owner (p ∷ ps) rows h g =
-      let here = side_pairs owner (p.0).side p.1 in
-      let others = pairs_along owner ps in
-      ap raw (without_joined here others rows)
-      ∙ side_left owner (p.0).side p.1 (without_rows others rows) (all_first (λ id. is_id_of schema id ≡ true) here others h) (without_named others rows g)
-      ∙ ap (written.without_side owner (p.0).side p.1) (along_left owner ps rows (all_rest (λ id. is_id_of schema id ≡ true) here others h) g)
-
   -- an object whose ids are those of the schema's tables
   module _ (world : World) (id : Identity) (x : Stored) (main : is_id_of schema id ≡ true) (own : AreIds schema (pair_ids world id x)) (rows : Rows) (h : AreRowsOf schema rows) where
     pub object_over_spelled : raw (with_object world id x rows) ≡ written.with_object world id x (raw rows)
@@ -172,20 +134,4 @@ module _ (schema : Schema) where
       rising = over_rises (object_rows world id x) rows h.rising;
       named = subst (AreNamed schema) (sym (over_together (object_entries world id x) rows h.rising))
           (named_put schema id main (main_row world x) (with_rows (as_pairs (pair_ids world id x)) rows) (pairs_named (pair_ids world id x) rows own h.named));
-    }
-
-    pub pairs_left_spelled : raw (without_pairs world id x rows) ≡ written.without_joins id (zip (relations_of world.model x.class) x.owned) (raw rows)
-    pairs_left_spelled = along_left id (zip (relations_of world.model x.class) x.owned) rows own h.named
-
-    pub pairs_left_rows : AreRowsOf schema (without_pairs world id x rows)
-    pairs_left_rows = record { rising = without_rises (pair_ids world id x) rows h.rising; named = without_named (pair_ids world id x) rows h.named }
-
-    pub object_left_spelled : raw (without_object world id x rows) ≡ written.without_object world id x (raw rows)
-    object_left_spelled =
-        raw_dropped schema id main (without_pairs world id x rows) (pairs_left_rows.named) ∙ ap (dropped row_cmp (row_of id)) pairs_left_spelled
-
-    pub object_left_rows : AreRowsOf schema (without_object world id x rows)
-    object_left_rows = record {
-      rising = dropped_rises identities id (without_pairs world id x rows) (pairs_left_rows.rising);
-      named = named_dropped schema id (without_pairs world id x rows) (pairs_left_rows.named);
     }

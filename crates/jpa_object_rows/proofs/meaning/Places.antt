@@ -1,5 +1,5 @@
 -- What an object holds in each of its columns is found in its main row, and no other object has the same main row and pairs.
-use Rattle.std.specs.Prelude.{◌≡◌, ℕ, pos, true, ◌&&◌, ◌||◌, not, [], ◌∷◌, None}
+use Rattle.std.specs.Prelude.{◌≡◌, ℕ, pos, true, ◌&&◌, ◌||◌, not, [], ◌∷◌}
 use Rattle.std.proofs.Common.{refl, sym, ap, ◌∙◌}
 use Rattle.std.specs.List.{zip, list_any}
 use Rattle.std.specs.FinMap.{find}
@@ -11,7 +11,7 @@ use Rattle.jpa_stored.specs.declared.objects.stored.Stored.{Stored}
 use Rattle.jpa_rows.specs.rows.Rows.{cells_of}
 use Rattle.jpa_rows.specs.laws.Slots.{filled, lacks, are_apart}
 use Rattle.jpa_rows.proofs.laws.Facts.{value_in}
-use Rattle.jpa_rows.proofs.laws.Slots.{Holds, all_hold, lacking}
+use Rattle.jpa_rows.proofs.laws.Slots.{Holds, all_hold}
 use Rattle.jpa_object_rows.specs.meaning.View.{Pairs, PairsAre, is_storable, stored_from}
 use Rattle.jpa_object_rows.specs.meaning.Unambiguous.{IsUnambiguous}
 use Rattle.jpa_object_rows.proofs.meaning.Bytes.Reading.{slots_apart, row_read}
@@ -44,10 +44,6 @@ module _ (world : World) (clear : IsUnambiguous world.model) (id : Identity) (x 
       all_found : (places : Places) → Holds (λ column. find nat_cmp column (filled nat_cmp (places_of world x))) places → Holds (λ column. content_at column (main_row world x)) places
       all_found [] h = tt
       all_found (place ∷ places) h = (ap (find nat_cmp place.0) (fields_placed (filled nat_cmp (places_of world x))) ∙ h.0, all_found places h.1)
-
--- and no other column has anything
-pub other_column : (world : World) (x : Stored) (column : ℕ) → lacks nat_cmp column (places_of world x) ≡ true → content_at column (main_row world x) ≡ None
-other_column world x column h = ap (find nat_cmp column) (fields_placed (filled nat_cmp (places_of world x))) ∙ lacking column_order column (places_of world x) h
 
 -- ---- one object
 

@@ -1,7 +1,6 @@
 -- Rows by their bytes are in the order of rows by their keys, so what is sought, put, dropped or seen is the same.
-use Rattle.std.specs.Prelude.{◌≡◌, ℕ, true, ◌==◌, T, List, Option, Some, None, option_map}
+use Rattle.std.specs.Prelude.{◌≡◌, true, T, List, Option, Some, None, option_map}
 use Rattle.std.proofs.Common.{refl, sym, subst, Less, Equal, Greater}
-use Rattle.std.specs.List.{AllByRecursion}
 use Rattle.std.specs.FinMap.{find, put, nat_cmp-IsAntisymmetric}
 use Rattle.std.specs.Ordering.{nat_cmp, ordering_then}
 use Rattle.std.specs.Cmp.Lexicographic.{slice_cmp}
@@ -12,14 +11,12 @@ use Rattle.jpa_rows.specs.keys.Keys.{key_bytes, is_key_of}
 use Rattle.jpa_rows.proofs.keys.Orders.{spelled_order}
 use Rattle.jpa_rows.specs.declared.rows.schema.Schema.{Schema}
 use Rattle.jpa_rows.specs.declared.rows.schema.TableRule.{TableRule}
-use Rattle.jpa_rows.specs.rows.Rows.{RowId, Row, Rows, AreRising, table_rows, cells_of, is_key, table_of}
-use Rattle.jpa_rows.specs.laws.Changes.{dropped, changed, seen}
+use Rattle.jpa_rows.specs.rows.Rows.{RowId, Row, Rows, AreRising, cells_of, is_key, table_of}
 use Rattle.jpa_rows.proofs.laws.Facts.{and_first, true_false}
 use Rattle.jpa_object_rows.specs.meaning.Rows as by_bytes
 use Rattle.jpa_object_rows.specs.meaning.Rows.{row_cmp, row_of}
-use Rattle.jpa_object_rows.specs.meaning.View as view
 use Rattle.jpa_object_rows.specs.meaning.Raw.{raw, is_key_by, is_id_of, AreNamed}
-use Rattle.jpa_object_rows.proofs.meaning.Renamed.{renamed, KeepsOrder, found_renamed, sorted_renamed, put_renamed, where_renamed, dropped_renamed, changed_renamed, seen_renamed, keys_put, keys_dropped, keys_seen}
+use Rattle.jpa_object_rows.proofs.meaning.Renamed.{KeepsOrder, found_renamed, sorted_renamed, put_renamed, keys_put}
 
 -- ---- the order of ids
 
@@ -57,28 +54,7 @@ module _ (schema : Schema) where
   pub raw_put : (id : RowId) → is_id_of schema id ≡ true → (row : Row) (rows : Rows) → AreNamed schema rows → raw (put identity_cmp id row rows) ≡ put row_cmp (row_of id) (cells_of row) (raw rows)
   raw_put id p row rows h = put_renamed (ids_keep_order schema) cells_of id p row rows h
 
-  pub raw_dropped : (id : RowId) → is_id_of schema id ≡ true → (rows : Rows) → AreNamed schema rows → raw (dropped identity_cmp id rows) ≡ dropped row_cmp (row_of id) (raw rows)
-  raw_dropped id p rows h = dropped_renamed (ids_keep_order schema) cells_of id p rows h
-
-  pub raw_changed : (id : RowId) → is_id_of schema id ≡ true → (row : Option Row) (rows : Rows) → AreNamed schema rows
-      → raw (changed identity_cmp id row rows) ≡ changed row_cmp (row_of id) (option_map cells_of row) (raw rows)
-  raw_changed id p row rows h = changed_renamed (ids_keep_order schema) cells_of id p row rows h
-
-  pub raw_seen : (base : Rows) (changes : List (RowId × Option Row)) → AreNamed schema base → AllByRecursion (λ c. is_id_of schema c.0 ≡ true) changes
-      → raw (seen identity_cmp base changes) ≡ seen row_cmp (raw base) (renamed row_of (option_map cells_of) changes)
-  raw_seen base changes h g = seen_renamed (ids_keep_order schema) cells_of base changes h g
-
-  pub raw_table_rows : (table : ℕ) (rows : Rows) → AreNamed schema rows → raw (table_rows table rows) ≡ view.table_rows table (raw rows)
-  raw_table_rows table rows h = where_renamed (ids_keep_order schema) cells_of (λ id. id.table == table) (λ r. r.table == table) (λ id p. refl) rows h
-
   -- ---- ids stay those of the schema
 
   pub named_put : (id : RowId) → is_id_of schema id ≡ true → (row : Row) (rows : Rows) → AreNamed schema rows → AreNamed schema (put identity_cmp id row rows)
   named_put id p row rows h = keys_put identity_cmp Named id row rows p h
-
-  pub named_dropped : (id : RowId) (rows : Rows) → AreNamed schema rows → AreNamed schema (dropped identity_cmp id rows)
-  named_dropped id rows h = keys_dropped identity_cmp Named id rows h
-
-  pub named_seen : (base : Rows) (changes : List (RowId × Option Row)) → AreNamed schema base → AllByRecursion (λ c. is_id_of schema c.0 ≡ true) changes
-      → AreNamed schema (seen identity_cmp base changes)
-  named_seen base changes h g = keys_seen identity_cmp Named base changes h g

@@ -37,11 +37,6 @@ use Rattle.jpa_object_rows.proofs.meaning.Sets.{stored_read_in}
 use Rattle.jpa_object_rows.proofs.meaning.Stored.{pairs_raw, pairs_typed}
 use Rattle.jpa_object_rows.proofs.meaning.Contents.{same_rows}
 
--- where no main row stands, no object does
-pub none_in : (world : World) (rows : Rows) → AreRowsOf (schema_of world.model) rows → (id : Identity) → is_id_of (schema_of world.model) id ≡ true → IsSpelled world.model id
-    → find identity_cmp id rows ≡ None → stored_at (set_in world rows) id ≡ None
-none_in world rows h id named spelled none = stored_read_in world rows h id named spelled ∙ ap (λ o. read_by (stored_in world (raw rows) id) (option_map cells_of o)) none
-
 module _ (world : World) (clear : IsUnambiguous world.model) (rows : Rows) (h : AreRowsOf (schema_of world.model) rows) (ones : HoldsOnes world.model rows) (id : Identity) (x : Stored)
     (storable_x : is_storable world id x ≡ true) where
   -- an object whose rows stand is in the set

@@ -1,15 +1,13 @@
 -- Finite maps whose keys get other names in the same order, and whose values get other forms.
-use Rattle.std.specs.Prelude.{◌≡◌, Bool, true, false, not, cond, ◌&&◌, List, [], ◌∷◌, map, Option, Some, None, option_map}
+use Rattle.std.specs.Prelude.{◌≡◌, Bool, true, false, cond, ◌&&◌, List, [], ◌∷◌, map, Option, Some, None, option_map}
 use Rattle.std.proofs.Common.{refl, sym, ap, ◌∙◌, Less, Equal, Greater}
 use Rattle.std.specs.List.{AllByRecursion}
 use Rattle.std.specs.FinMap.{find, put, is_sorted}
-use Rattle.std.specs.FinMap.Entries.{by_order, below_all, where_key}
+use Rattle.std.specs.FinMap.Entries.{by_order, below_all}
 use Rattle.std.specs.Ordering.{eq_by_cmp, is_eq, is_lt}
 use Rattle.std.specs.declared.cmp.Ordering.{Ordering}
-use Rattle.jpa_rows.specs.laws.Changes.{dropped, changed, seen}
 use Rattle.jpa_rows.specs.laws.Entries.{put_if}
 use Rattle.jpa_rows.specs.laws.Slots.{filled}
-use Rattle.jpa_rows.proofs.laws.Lists.{all_where}
 
 abbrev pub renamed : {K R X C : Type 0} → (K → R) → (X → C) → List (K × X) → List (R × C)
 renamed name form = map (λ e. (name e.0, form e.1))
@@ -29,17 +27,6 @@ module _ {K X : Type 0} (by : K → K → Ordering) (P : K → Type 0) where
         | Equal ↦ h
         | Greater ↦ (h.0, keys_put k x es p h.1)
       ]
-
-  pub keys_dropped : (k : K) (es : List (K × X)) → AreKeys P es → AreKeys P (dropped by k es)
-  keys_dropped k es h = all_where (λ (e : K × X). P e.0) (λ (e : K × X). not (eq_by_cmp by k e.0)) es h
-
-  pub keys_changed : (k : K) (o : Option X) (es : List (K × X)) → P k → AreKeys P es → AreKeys P (changed by k o es)
-  keys_changed k None es p h = keys_dropped k es h
-  keys_changed k (Some x) es p h = keys_put k x es p h
-
-  pub keys_seen : (base : List (K × X)) (changes : List (K × Option X)) → AreKeys P base → AreKeys P changes → AreKeys P (seen by base changes)
-  keys_seen base [] h g = h
-  keys_seen base (c ∷ cs) h g = keys_changed c.0 c.1 (seen by base cs) g.0 (keys_seen base cs h g.1)
 
   keys_put_if : (k : K) → P k → (o : Option X) (es : List (K × X)) → AreKeys P es → AreKeys P (put_if by k o es)
   keys_put_if k p None es h = h
@@ -86,32 +73,7 @@ module _ {K R : Type 0} {by_key : K → K → Ordering} {by_row : R → R → Or
         ∙ ap (λ o. by_order o ((name k, form x) ∷ renamed name form (e ∷ es)) ((name e.0, form x) ∷ renamed name form es) ((name e.0, form e.1) ∷ put by_row (name k) (form x) (renamed name form es)))
         (sym (order.same k e.0 p h.0))
 
-  -- the entries whose keys pass, where the names pass as the keys do
-  pub where_renamed : {X C : Type 0} (form : X → C) (of_key : K → Bool) (of_row : R → Bool) → ((k : K) → P k → of_row (name k) ≡ of_key k) → (es : List (K × X)) → AreKeys P es
-      → renamed name form (where_key by_key of_key es) ≡ where_key by_row of_row (renamed name form es)
-  where_renamed form of_key of_row alike [] h = refl
-  where_renamed form of_key of_row alike (e ∷ es) h =
-      elim (of_key e.0) as (λ b. renamed name form (cond b (e ∷ where_key by_key of_key es) (where_key by_key of_key es))
-      ≡ cond b ((name e.0, form e.1) ∷ where_key by_row of_row (renamed name form es)) (where_key by_row of_row (renamed name form es))) [
-        | true ↦ ap (λ rest. (name e.0, form e.1) ∷ rest) (where_renamed form of_key of_row alike es h.1)
-        | false ↦ where_renamed form of_key of_row alike es h.1
-      ]
-      ∙ ap (λ b. cond b ((name e.0, form e.1) ∷ where_key by_row of_row (renamed name form es)) (where_key by_row of_row (renamed name form es))) (sym (alike e.0 h.0))
-
   module _ {X C : Type 0} (form : X → C) where
-    pub dropped_renamed : (k : K) → P k → (es : List (K × X)) → AreKeys P es → renamed name form (dropped by_key k es) ≡ dropped by_row (name k) (renamed name form es)
-    dropped_renamed k p es h = where_renamed form (λ q. not (eq_by_cmp by_key k q)) (λ r. not (eq_by_cmp by_row (name k) r)) (λ q g. ap (λ o. not (is_eq o)) (order.same k q p g)) es h
-
-    pub changed_renamed : (k : K) → P k → (o : Option X) (es : List (K × X)) → AreKeys P es → renamed name form (changed by_key k o es) ≡ changed by_row (name k) (option_map form o) (renamed name form es)
-    changed_renamed k p None es h = dropped_renamed k p es h
-    changed_renamed k p (Some x) es h = put_renamed form k p x es h
-
-    -- what is seen under changes
-    pub seen_renamed : (base : List (K × X)) (changes : List (K × Option X)) → AreKeys P base → AreKeys P changes
-        → renamed name form (seen by_key base changes) ≡ seen by_row (renamed name form base) (renamed name (option_map form) changes)
-    seen_renamed base [] h g = refl
-    seen_renamed base (c ∷ cs) h g =
-        changed_renamed c.0 g.0 c.1 (seen by_key base cs) (keys_seen by_key P base cs h g.1) ∙ ap (changed by_row (name c.0) (option_map form c.1)) (seen_renamed base cs h g.1)
 
     -- places, of which some hold something
     put_if_renamed : (k : K) → P k → (o : Option X) (es : List (K × X)) → AreKeys P es → renamed name form (put_if by_key k o es) ≡ put_if by_row (name k) (option_map form o) (renamed name form es)

@@ -1,9 +1,8 @@
 -- Among the rows of a set the row under an identity is the main row of its object, and a hierarchy's table has the main rows of
 -- its objects in the order of their identities.
-use Rattle.std.specs.Prelude.{◌≡◌, ℕ, Bool, true, false, cond, ◌==◌, T, List, [], ◌∷◌, Option, Some, None, option_map}
+use Rattle.std.specs.Prelude.{◌≡◌, ℕ, Bool, true, false, cond, List, [], ◌∷◌, Option, Some, None, option_map}
 use Rattle.std.proofs.Common.{refl, sym, ap, subst, ◌∙◌, inl}
-use Rattle.std.specs.FinMap.{find, is_sorted}
-use Rattle.std.specs.FinMap.Entries.{where_key, find-where_key, is_sorted-where_key}
+use Rattle.std.specs.FinMap.{find}
 use Rattle.std.specs.Ordering.{eq_by_cmp}
 use Rattle.jpa_value.specs.declared.value.Identity.{Identity}
 use Rattle.jpa_value.specs.Value.{identity_cmp}
@@ -13,29 +12,22 @@ use Rattle.jpa_model.specs.declared.unit.PersistenceUnit.{PersistenceUnit}
 use Rattle.jpa_model.specs.Chains.{root_of, relations_of, or_else}
 use Rattle.jpa_behaviour.specs.Behaviour.{World}
 use Rattle.jpa_stored.specs.declared.objects.stored.Stored.{Stored}
-use Rattle.jpa_stored.specs.objects.Sets.{StoredSet, stored_at, leading_to}
+use Rattle.jpa_stored.specs.objects.Sets.{StoredSet, stored_at}
 use Rattle.jpa_rows.specs.rows.Cells.{join_tables}
-use Rattle.jpa_rows.specs.rows.Rows.{RowId, Row, Rows, AreRising, table_rows}
+use Rattle.jpa_rows.specs.rows.Rows.{RowId, Row, Rows}
 use Rattle.jpa_rows.proofs.laws.Facts.{some_none}
 use Rattle.jpa_rows.proofs.laws.Each.{Each}
 use Rattle.jpa_rows.proofs.laws.Elements.{Has, into_flat_map}
-use Rattle.jpa_rows.proofs.laws.Maps.{same_answers}
 use Rattle.jpa_object_rows.specs.meaning.Identities.{root_at}
 use Rattle.jpa_object_rows.specs.meaning.View.{is_storable, AreStorable}
 use Rattle.jpa_object_rows.specs.meaning.Unambiguous.{IsUnambiguous}
-use Rattle.jpa_object_rows.proofs.meaning.Bytes.Orders.{identities, are_same_numbers}
 use Rattle.jpa_object_rows.proofs.meaning.Bytes.Others.{join_no_root}
 use Rattle.jpa_object_rows.proofs.meaning.Bytes.Reading.{storable}
 use Rattle.jpa_object_rows.proofs.meaning.Bytes.Tables.{zero_root}
-use Rattle.jpa_rows.specs.rows.Tables.{schema_of}
-use Rattle.jpa_object_rows.proofs.meaning.Bytes.Inverse.{scan_is, leading_read}
-use Rattle.jpa_object_rows.specs.meaning.Raw.{raw, AreRowsOf}
 use Rattle.jpa_object_rows.specs.meaning.Objects.{main_row, pair_ids, as_pairs, object_entries, object_rows, with_object}
 use Rattle.jpa_rows.specs.rows.NextNumbers.{number_rows}
-use Rattle.jpa_object_rows.specs.meaning.Sets.{set_in, with_set, rows_of}
-use Rattle.jpa_object_rows.proofs.meaning.Renamed.{renamed, some_if, found_renamed, sorted_renamed}
-use Rattle.jpa_object_rows.proofs.meaning.Raw.{raw_rises}
-use Rattle.jpa_object_rows.proofs.meaning.Changes.{same_order, any_keys}
+use Rattle.jpa_object_rows.specs.meaning.Sets.{with_set, rows_of}
+use Rattle.jpa_object_rows.proofs.meaning.Renamed.{some_if}
 use Rattle.jpa_object_rows.proofs.meaning.Over.{found_over, or_nothing}
 use Rattle.jpa_object_rows.proofs.meaning.NextNumbers.{number_each, rows_each, unless_same, or_none}
 use Rattle.jpa_object_rows.proofs.meaning.Kept.{along_each, join_of_class}
@@ -100,32 +92,4 @@ module _ (world : World) (clear : IsUnambiguous world.model) (q : RowId) (root :
 
 -- ---- a whole table
 
-abbrev pub main_rows : World → StoredSet → Rows
-main_rows world = renamed (λ id. id) (main_row world)
-
--- the rows of a root's table
-pub main_table_rows : (world : World) → IsUnambiguous world.model → (set : StoredSet) → T (is_sorted identity_cmp set) → AreStorable world set → (numbers : List ℕ) → AreRising (rows_of world set numbers)
-    → (table : ℕ) (root : Root) → root_at world.model table ≡ Some root → table_rows table (rows_of world set numbers) ≡ main_rows world (where_key identity_cmp (λ id. id.table == table) set)
-main_table_rows world clear set up h numbers rise table root at =
-    let rows = rows_of world set numbers in
-    let here = where_key identity_cmp (λ id. id.table == table) set in
-    let of_table = λ (id : RowId). id.table == table in
-    same_answers identities (table_rows table rows) (main_rows world here) (is_sorted-where_key identity_cmp of_table rows rise)
-    (subst T (sym (sorted_renamed same_order (main_row world) here (any_keys here))) (is_sorted-where_key identity_cmp of_table set up))
-    (λ q. find-where_key identity_cmp of_table q (λ z t. ap of_table (sym (identities.exact q z t))) rows
-    ∙ elim (q.table == table) as (λ b. q.table == table ≡ b → cond b (find identity_cmp q rows) None ≡ option_map (main_row world) (cond b (stored_at set q) None)) [
-      | true ↦ λ e. main_found world clear q root (ap (root_at world.model) (are_same_numbers q.table table e) ∙ at) set h numbers
-      | false ↦ λ e. refl
-    ] refl
-    ∙ ap (option_map (main_row world)) (sym (find-where_key identity_cmp of_table q (λ z t. ap of_table (sym (identities.exact q z t))) set))
-    ∙ sym (found_renamed same_order (main_row world) q tt here (any_keys here)))
-
 -- ---- inverse sides
-
--- what leads to an identity along a relation of a class is sought among the objects of one table
-pub leading_in : (world : World) → IsUnambiguous world.model → (rows : Rows) → AreRowsOf (schema_of world.model) rows → (class owner : ℕ) (id : Identity)
-    → leading_to world.model (where_key identity_cmp (λ q. q.table == (root_of world.model class).table) (set_in world rows)) class owner id ≡ leading_to world.model (set_in world rows) class owner id
-leading_in world clear rows h class owner id =
-    let rise = raw_rises (schema_of world.model) rows h.named h.rising in
-    let table = (root_of world.model class).table in
-    ap (λ set. leading_to world.model set class owner id) (sym (scan_is world (raw rows) rise table)) ∙ leading_read world clear (raw rows) rise class owner id

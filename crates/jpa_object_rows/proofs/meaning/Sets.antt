@@ -1,30 +1,28 @@
 -- What rows make of the set that they stand for when an object is put over them, replaced or dropped, and what is read.
-use Rattle.std.specs.Prelude.{◌≡◌, ℕ, true, [], ◌∷◌, Some, option_map, T}
-use Rattle.std.proofs.Common.{refl, ap, ◌∙◌}
-use Rattle.std.specs.FinMap.{find, put, is_sorted}
+use Rattle.std.specs.Prelude.{◌≡◌, true, option_map, T}
+use Rattle.std.proofs.Common.{ap, ◌∙◌}
+use Rattle.std.specs.FinMap.{find, is_sorted}
 use Rattle.jpa_value.specs.declared.value.Identity.{Identity}
 use Rattle.jpa_value.specs.Value.{identity_cmp}
 use Rattle.jpa_model.specs.Chains.{relations_of}
 use Rattle.jpa_behaviour.specs.Behaviour.{World, IsRegular}
 use Rattle.jpa_stored.specs.declared.objects.stored.Stored.{Stored}
-use Rattle.jpa_stored.specs.objects.Sets.{stored_at, with_stored, without}
-use Rattle.jpa_rows.specs.rows.Rows.{Row, Rows, cells_of}
+use Rattle.jpa_stored.specs.objects.Sets.{stored_at, with_stored}
+use Rattle.jpa_rows.specs.rows.Rows.{Rows, cells_of}
 use Rattle.jpa_rows.specs.rows.Tables.{schema_of}
 use Rattle.jpa_rows.specs.laws.Entries.{read_by}
 use Rattle.jpa_object_rows.specs.meaning.Rows as by_bytes
-use Rattle.jpa_object_rows.specs.meaning.Written as written
 use Rattle.jpa_object_rows.specs.meaning.View.{set_of, stored_in, is_storable, HoldsNone}
 use Rattle.jpa_object_rows.specs.meaning.Identities.{IsSpelled}
 use Rattle.jpa_object_rows.specs.meaning.Unambiguous.{IsUnambiguous}
 use Rattle.jpa_object_rows.proofs.meaning.Bytes.SetLaws.{set_rises, stored_read}
-use Rattle.jpa_object_rows.proofs.meaning.Bytes.Whole.{object_put, object_replaced, object_dropped}
-use Rattle.jpa_object_rows.proofs.meaning.Bytes.Numbers.{number_put}
+use Rattle.jpa_object_rows.proofs.meaning.Bytes.Whole.{object_put}
 use Rattle.jpa_object_rows.specs.meaning.Raw.{raw, is_id_of, AreIds, AreRowsOf}
-use Rattle.jpa_object_rows.specs.meaning.Objects.{with_object, without_pairs, without_object, number_id}
+use Rattle.jpa_object_rows.specs.meaning.Objects.{with_object}
 use Rattle.jpa_object_rows.specs.meaning.Objects as objects
 use Rattle.jpa_object_rows.specs.meaning.Sets.{set_in}
-use Rattle.jpa_object_rows.proofs.meaning.Raw.{raw_found, raw_rises, raw_put}
-use Rattle.jpa_object_rows.proofs.meaning.Over.{object_over_spelled, object_over_rows, pairs_left_spelled, pairs_left_rows, object_left_spelled, object_left_rows}
+use Rattle.jpa_object_rows.proofs.meaning.Raw.{raw_found, raw_rises}
+use Rattle.jpa_object_rows.proofs.meaning.Over.{object_over_spelled, object_over_rows}
 use Rattle.jpa_object_rows.proofs.meaning.Named.{object_named, pairs_named}
 
 pub set_in_rises : (world : World) (rows : Rows) → T (is_sorted identity_cmp (set_in world rows))
@@ -50,36 +48,7 @@ module _ (world : World) (clear : IsUnambiguous world.model) (id : Identity) (x 
   pub put_rows : AreRowsOf (schema_of world.model) (with_object world id x rows)
   put_rows = object_over_rows (schema_of world.model) world id x main own rows h
 
-  pub left_rows : AreRowsOf (schema_of world.model) (without_pairs world id x rows)
-  left_rows = pairs_left_rows (schema_of world.model) world id x main own rows h
-
-  pub dropped_rows : AreRowsOf (schema_of world.model) (without_object world id x rows)
-  dropped_rows = object_left_rows (schema_of world.model) world id x main own rows h
-
   -- a new object
   pub set_put_in : IsRegular world → HoldsNone world.model (raw rows) id (relations_of world.model x.class) → set_in world (with_object world id x rows) ≡ with_stored id x (set_in world rows)
   set_put_in regular none =
       ap (set_of world) (object_over_spelled (schema_of world.model) world id x main own rows h) ∙ object_put world clear regular (raw rows) (raw_rows_rise world rows h) id x storable none
-
-  -- an object is dropped
-  pub set_dropped_in : set_in world (without_object world id x rows) ≡ without (id ∷ []) (set_in world rows)
-  set_dropped_in = ap (set_of world) (object_left_spelled (schema_of world.model) world id x main own rows h) ∙ object_dropped world clear (raw rows) (raw_rows_rise world rows h) id x storable
-
--- an object in the place of one of its class: the pairs of the old one are dropped first
-pub set_replaced_in : (world : World) → IsUnambiguous world.model → IsRegular world → (id : Identity) (old x : Stored) → is_storable world id old ≡ true → is_storable world id x ≡ true → old.class ≡ x.class
-    → (rows : Rows) → AreRowsOf (schema_of world.model) rows → stored_at (set_in world rows) id ≡ Some old
-    → set_in world (with_object world id x (without_pairs world id old rows)) ≡ with_stored id x (set_in world rows)
-set_replaced_in world clear regular id old x g s same rows h at =
-    let schema = schema_of world.model in
-    let left = left_rows world clear id old g rows h in
-    ap (set_of world)
-    (object_over_spelled schema world id x (object_named world clear id x s) (pairs_named world clear id x s) (without_pairs world id old rows) left
-    ∙ ap (written.with_object world id x) (pairs_left_spelled schema world id old (object_named world clear id old g) (pairs_named world clear id old g) rows h))
-    ∙ object_replaced world clear regular (raw rows) (raw_rows_rise world rows h) id old x s same at
-
--- a row of table 0 changes no object
-pub number_put_in : (world : World) → IsUnambiguous world.model → (table : ℕ) → is_id_of (schema_of world.model) (number_id table) ≡ true → (row : Row) (rows : Rows) → AreRowsOf (schema_of world.model) rows
-    → set_in world (put identity_cmp (number_id table) row rows) ≡ set_in world rows
-number_put_in world clear table named row rows h =
-    ap (set_of world) (raw_put (schema_of world.model) (number_id table) named row rows h.named)
-    ∙ number_put world clear (raw rows) (raw_rows_rise world rows h) (by_bytes.row_of (number_id table)) refl (cells_of row)

@@ -39,10 +39,6 @@ or_none (Some row) = refl
 entries_found : (world : World) (id : Identity) (x : Stored) (q : RowId) → find identity_cmp q (object_rows world id x) ≡ find identity_cmp q (object_entries world id x)
 entries_found world id x q = found_over q (object_entries world id x) [] ∙ or_none (find identity_cmp q (object_entries world id x))
 
-later_too : (a b : Bool) → b ≡ true → a || b ≡ true
-later_too true b e = refl
-later_too false b e = e
-
 -- a pair is one of the pairs' ids
 pair_there : (ids : List RowId) (q : RowId) (row : Row) → find identity_cmp q (as_pairs ids) ≡ Some row → list_any (same_identity q) ids ≡ true
 pair_there [] q row e = absurd (some_none row (sym e))

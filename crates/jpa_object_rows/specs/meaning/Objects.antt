@@ -1,14 +1,13 @@
 -- What of the rows of a stored object is put over others, and dropped from them.
-use Rattle.std.specs.Prelude.{Bool, List, [], ◌∷◌, map, Some}
+use Rattle.std.specs.Prelude.{Bool, List, [], ◌∷◌}
 use Rattle.jpa_value.specs.declared.value.Identity.{Identity}
 use Rattle.jpa_value.specs.declared.value.Kind.{Kind}
 use Rattle.jpa_value.specs.Value.{identity_cmp}
 use Rattle.jpa_model.specs.declared.unit.Entity.{Entity}
 use Rattle.jpa_behaviour.specs.Behaviour.{World}
 use Rattle.jpa_stored.specs.declared.objects.stored.Stored.{Stored}
-use Rattle.jpa_rows.specs.declared.rows.row.RowChange.{RowChange}
 use Rattle.jpa_rows.specs.declared.rows.schema.Holds.{Holds}
-use Rattle.jpa_rows.specs.rows.Rows.{RowId, Row, Rows, may_hold}
+use Rattle.jpa_rows.specs.rows.Rows.{RowId, Rows, may_hold}
 pub use Rattle.jpa_rows.specs.rows.NextNumbers.{number_in_first, number_id, number_row, with_rows}
 pub use Rattle.jpa_rows.specs.rows.ObjectRows.{value_content, version_content, link_content, Places, version_places}
 pub use Rattle.jpa_rows.specs.rows.ObjectRows.{attribute_places, side_places, relation_places, places_of}
@@ -37,11 +36,3 @@ abbrev pub without_object : World → Identity → Stored → Rows → Rows
 without_object world id x rows = dropped identity_cmp id (without_pairs world id x rows)
 
 -- ---- as changes
-
--- a change that puts a row
-abbrev pub change_to : RowId × Row → RowChange
-change_to e = record { id = e.0; row = Some e.1 }
-
--- these rows in the place of what stands there
-abbrev pub changes_to : Rows → List RowChange
-changes_to = map change_to

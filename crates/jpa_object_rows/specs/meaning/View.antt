@@ -3,7 +3,6 @@ use Rattle.std.specs.Prelude.{◌≡◌, ℕ, ℤ, pos, Bool, true, ◌==◌, �
 use Rattle.std.specs.Prelude.{Some, None, unwrap_or, if◌then◌else◌}
 use Rattle.std.specs.List.{zip, list_all, AllByRecursion}
 use Rattle.std.specs.FinMap as maps
-use Rattle.std.specs.FinMap.Entries.{where_key}
 use Rattle.std.specs.Int.{from_be_bytes, w64}
 use Rattle.std.specs.Ordering.{int_cmp}
 use Rattle.jpa_value.specs.declared.value.Value.{Value}
@@ -175,14 +174,3 @@ PairsAre pairs = AllByRecursion (λ p. SideHas pairs (p.0).target p.1 (p.0).side
 -- an owner holds no pairs along these relations
 abbrev pub HoldsNone : PersistenceUnit → Rows → Identity → List Relation → Type 0
 HoldsNone m rows owner relations = PairsAre (pairs_of m rows owner) (map (λ r. (r, [])) relations)
-
--- ---- one table
-
--- the rows of a table
-abbrev pub table_rows : ℕ → Rows → Rows
-table_rows table rows = where_key row_cmp (λ r. r.table == table) rows
-
--- the objects read off the rows of a table
-abbrev pub scanned : World → ℕ → Rows → StoredSet
-scanned world table rows =
-    entries_of identity_cmp (identity_at world.model) (stored_in world rows) (table_rows table rows)

@@ -15,7 +15,6 @@ use Rattle.jpa_behaviour.specs.Behaviour.{World}
 use Rattle.jpa_rows.specs.keys.Keys.{key_bytes, int_bytes}
 use Rattle.jpa_stored.specs.declared.objects.stored.Stored.{Stored}
 use Rattle.jpa_rows.specs.rows.Cells.{value_bytes, column_value}
-use Rattle.jpa_rows.specs.laws.Changes.{dropped}
 use Rattle.jpa_rows.specs.laws.Slots.{filled}
 use Rattle.jpa_object_rows.specs.meaning.Rows.{row_cmp, Columns, Rows, row_of}
 use Rattle.jpa_object_rows.specs.meaning.Identities.{pair_row}
@@ -106,27 +105,3 @@ with_joins owner (p ∷ ps) rows = with_side owner (p.0).side p.1 (with_joins ow
 abbrev pub with_object : World → Identity → Stored → Rows → Rows
 with_object world id x rows =
     put row_cmp (row_of id) (columns_of world x) (with_joins id (zip (relations_of world.model x.class) x.owned) rows)
-
--- without pairs, and without the main row too
-abbrev pub without_pairs : ℕ → Identity → List Identity → Rows → Rows
-without_pairs join owner [] rows = rows
-without_pairs join owner (t ∷ ts) rows = dropped row_cmp (pair_row join owner t) (without_pairs join owner ts rows)
-
--- rows without those of an owner's pairs along a side
-abbrev pub without_side : Identity → Side → List Identity → Rows → Rows
-without_side owner (Side.ManyToOne c) ids rows = rows
-without_side owner (Side.OneToOne c) ids rows = rows
-without_side owner (Side.OneToOneInverse o) ids rows = rows
-without_side owner (Side.OneToMany o) ids rows = rows
-without_side owner (Side.ManyToMany join) ids rows = without_pairs join owner ids rows
-without_side owner (Side.ManyToManyInverse o) ids rows = rows
-
--- rows without those of an owner's pairs along relations
-abbrev pub without_joins : Identity → List (Relation × List Identity) → Rows → Rows
-without_joins owner [] rows = rows
-without_joins owner (p ∷ ps) rows = without_side owner (p.0).side p.1 (without_joins owner ps rows)
-
--- rows without those of an object
-abbrev pub without_object : World → Identity → Stored → Rows → Rows
-without_object world id x rows =
-    dropped row_cmp (row_of id) (without_joins id (zip (relations_of world.model x.class) x.owned) rows)

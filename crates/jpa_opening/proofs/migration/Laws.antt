@@ -8,18 +8,10 @@ use Rattle.std.specs.Ordering.{int_eq, match_ordering, ordering_reverse}
 use Rattle.std.proofs.lemmas.Cmp.{nat_list_cmp_total}
 use Rattle.sqlite.specs.Tree.{IsAscending}
 use Rattle.sqlite_keyed.proofs.ListLemmas.{all_weaker, ascending-map, all_map}
-use Rattle.jpa_value.specs.declared.value.Value.{Value}
-use Rattle.jpa_value.specs.declared.value.Kind.{Kind}
 use Rattle.jpa_model.specs.Chains.{entity_at}
 use Rattle.jpa_model.specs.Kept.{IsDescribed}
 use Rattle.jpa_behaviour.specs.Behaviour.{World}
 use Rattle.jpa_description.specs.declared.history.history.History.{History}
-use Rattle.jpa_rows.proofs.laws.Facts.{and_first}
-use Rattle.jpa_rows.specs.declared.rows.row.Content.{Content}
-use Rattle.jpa_rows.specs.declared.rows.schema.Holds.{Holds}
-use Rattle.jpa_rows.specs.declared.rows.schema.ColumnRule.{ColumnRule}
-use Rattle.jpa_rows.specs.declared.rows.schema.TableRule.{TableRule}
-use Rattle.jpa_rows.specs.rows.Rows.{Row, content_bytes, may_hold, is_field_by, rule_of, SpellsRow}
 use Rattle.jpa_rows.specs.rows.Tables.{classes}
 use Rattle.jpa_cells.specs.declared.meaning.CellRow.{CellRow}
 use Rattle.jpa_cells.specs.meaning.Tables.{Tables, AreRows, with_row, key_cmp, cell_cmp}
@@ -118,28 +110,3 @@ pub opened_same : (world : World) (h : History) (tables : Tables) → opened_tab
 opened_same world h tables = λ i t. cond (opened_twice world h tables i) (rows_migrated world h t (opened_tables world h tables t)) (opened_tables world h tables t)
 
 -- ---- what stands for a row that revision 1 cannot have spells none
-
-nothing_held : (holds : Holds) (content : Content) → content_bytes content ≡ [] → may_hold holds content ≡ true → ⊥
-nothing_held (Holds.Kind Kind.Int) (Content.Value Value.Null) e h = cc
-nothing_held (Holds.Kind Kind.Text) (Content.Value Value.Null) e h = cc
-nothing_held (Holds.Kind Kind.Bytes) (Content.Value Value.Null) e h = cc
-nothing_held Holds.Any (Content.Value Value.Null) e h = cc
-nothing_held (Holds.Reference kinds) (Content.Value v) e h = cc
-nothing_held holds (Content.Value (Value.Int n)) e h = cc
-nothing_held holds (Content.Value (Value.Text bytes)) e h = cc
-nothing_held holds (Content.Value (Value.Bytes bytes)) e h = cc
-nothing_held holds (Content.Reference key) e h = cc
-
-nothing_in : (o : Option ColumnRule) (content : Content) → content_bytes content ≡ [] → is_field_by content o ≡ true → ⊥
-nothing_in None content e h = cc
-nothing_in (Some rule) content e h = nothing_held rule.holds content e h
-
-pub unreadable : (rule : TableRule) (row : Row) → SpellsRow rule ((pos 0, []) ∷ []) row → ⊥
-unreadable rule [] s = let bad : ◌≡◌ {A = List (ℤ × List ℕ)} [] ((pos 0, []) ∷ []) = s.same in cc
-unreadable rule (f ∷ row) s =
-    let first : ◌≡◌ {A = List ℕ} (content_bytes f.content) [] = ap (λ (l : List (ℤ × List ℕ)). first_bytes l) s.same in
-    nothing_in (rule_of rule f.column) f.content first (and_first _ _ (s.whole).each)
-  where
-    first_bytes : List (ℤ × List ℕ) → List ℕ
-    first_bytes [] = []
-    first_bytes (c ∷ cells) = c.1

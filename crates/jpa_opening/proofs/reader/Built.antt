@@ -14,7 +14,7 @@ use Rattle.jpa_stored.specs.declared.objects.stored.Stored.{Stored}
 use Rattle.jpa_stored.specs.objects.Sets.{StoredSet, stored_at, with_stored}
 use Rattle.jpa_rows.specs.rows.Rows.{RowId, Row, Rows, table_rows}
 use Rattle.jpa_rows.specs.rows.Tables.{schema_of}
-use Rattle.jpa_rows.proofs.laws.Facts.{true_false, some_none, value_in}
+use Rattle.jpa_rows.proofs.laws.Facts.{true_false, value_in}
 use Rattle.jpa_rows.proofs.laws.Elements.{Has, found_has, has_found, from_filter, same_option}
 use Rattle.jpa_rows.proofs.laws.Lists.{all_each, all_from}
 use Rattle.jpa_rows.proofs.laws.Maps.{same_answers, same_key, found_put, found_other, put_rises}
@@ -62,9 +62,6 @@ pub record IsBuilt (world : World) (rows done : Rows) (set : StoredSet) : Type 0
   pub sound : AreSoundRows world done
   pub stand : (id : Identity) (x : Stored) → stored_at set id ≡ Some x → (is_storable world id x ≡ true) × StandsIn world rows id x
   pub each : HaveObjects world set done
-
-pub nothing_built : (world : World) (rows : Rows) → IsBuilt world rows [] []
-nothing_built world rows = record { rising = tt; sound = tt; stand = λ id x e. absurd (some_none x (sym e)); each = tt }
 
 all_more : {X : Type 0} (P : X → Type 0) (xs : List X) (x : X) → AllByRecursion P xs → P x → AllByRecursion P (xs ++ x ∷ [])
 all_more P [] x h p = (p, tt)

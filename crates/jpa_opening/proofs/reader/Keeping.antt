@@ -1,20 +1,17 @@
 -- One reading after another: what both leave of the store.
-use Rattle.std.specs.Prelude.{◌≡◌, ◌⊎◌, ℕ, ◌+◌, Bool, true, false, IsTrue, IsSome, Result, Ok, Err, IfErr}
-use Rattle.std.proofs.Common.{refl, sym, ap, subst, ◌∙◌, arith, inl, inr}
+use Rattle.std.specs.Prelude.{◌≡◌, ◌⊎◌, ℕ, ◌+◌, Bool, true, false, IsTrue, IsSome}
+use Rattle.std.proofs.Common.{refl, ap, subst, ◌∙◌, arith, inl, inr}
 use Rattle.sqlite_trees.specs.declared.store.Store.{Ghosts}
 use Rattle.sqlite.specs.Held.{Held, state}
 use Rattle.sqlite.proofs.StateLemmas.{survives_then}
-use Rattle.jpa_value.specs.declared.refusal.Cause.{Cause}
 use Rattle.jpa_cells.specs.meaning.Content.{Leaves}
 use Rattle.jpa_cells.specs.meaning.Tables.{Tables}
-use Rattle.jpa_cells.specs.meaning.Store.{up_to_greatest, Tells, faults_after, IsClean, IsOpen, Endures, HasFault}
+use Rattle.jpa_cells.specs.meaning.Store.{up_to_greatest, IsClean, Endures, HasFault}
 use Rattle.jpa_cells.specs.rowspace.Space.{Space}
-use Rattle.jpa_cells.proofs.rowspace.Holding.{clean_before, endures_self}
+use Rattle.jpa_cells.proofs.rowspace.Holding.{clean_before}
 use Rattle.jpa_opening.specs.reader.Reads.{KeepsTables}
 
 module _ {S : Type 0} (g : Ghosts S) where
-  pub keeps_self : (space : Space S) → KeepsTables g space space
-  keeps_self space = record { kept = λ clean live. (live, refl); content = λ clean live. (live, refl); crash = endures_self g space.store.conn (λ _. ⊥); others = refl }
 
   pub keeps_then : (a b c : Space S) → KeepsTables g a b → KeepsTables g b c → KeepsTables g a c
   keeps_then a b c one two = record {
@@ -47,22 +44,8 @@ module _ {S : Type 0} (g : Ghosts S) where
       not_shut b t f = cc
   fault_then a b c Commits one two clean (inr (inr some)) = inr (inr (subst IsSome one.limit some))
 
-  pub open_then : (a b c : Held S) → Endures g b c (λ _. ⊥) → (IsClean g b → IsOpen g a × IsOpen g b) → IsClean g c → IsOpen g a
-  open_then a b c e live clean = (live (clean_before g b c (λ _. ⊥) e clean)).0
-
 -- ---- counts
 
 pub counted_more : (first index now next : ℕ) → ((index ≡ 0) × (now ≡ first)) ⊎ (now ≡ up_to_greatest (first + index)) → next ≡ up_to_greatest (now + 1) → next ≡ up_to_greatest (first + (index + 1))
 counted_more first index now next (inl h) e = let a = h.0 in let b = h.1 in omega arith
 counted_more first index now next (inr h) e = omega arith
-
-pub told_of : {T : Type 0} (r : Result T Cause) (old new : ℕ) → Tells r old new → new ≡ faults_after r old
-told_of (Ok x) old new h = h
-told_of (Err Cause.OutOfMemory) old new h = h
-told_of (Err Cause.StoreFault) old new h = h
-told_of (Err cause) old new h = absurd h
-
--- want of memory is no fault
-pub no_fault : {T : Type 0} (r : Result T Cause) (old : ℕ) → IfErr r (λ cause. cause ≡ Cause.OutOfMemory) → old ≡ faults_after r old
-no_fault (Ok x) old h = refl
-no_fault (Err cause) old h = sym (ap (λ e. faults_after {T = ℕ} (Err e) old) h)

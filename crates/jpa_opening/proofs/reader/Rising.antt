@@ -164,9 +164,6 @@ module _ (m : PersistenceUnit) (schema : Schema) (is : schema ≡ schema_of m) (
   pub unit_order : IsPermutation (tables_of m) ns
   unit_order = subst (λ l. IsPermutation l ns) (ap (λ (s : Schema). map (λ (t : TableRule). t.table) s.tables) is ∙ sym (as_map (schema_of m).tables) ∙ unit_numbers m) given.order
 
-  pub some_numbers : 0 < length ns
-  some_numbers = let all = given.all ∙ ap (λ (s : Schema). length s.tables) is in omega arith
-
   -- table 0 is the first
   pub begins_at_zero : get_or ns 0 0 ≡ 0
   begins_at_zero = first ns given.rising (known_number 0 ns (given.same 0 ∙ ap (λ (s : Schema). is_some (table_of s 0)) is))

@@ -1,10 +1,9 @@
 -- Pairs of one owner, put and dropped along its relations.
-use Rattle.std.specs.Prelude.{◌≡◌, ℕ, Bool, true, not, List, [], ◌∷◌, map, Some, None, T}
-use Rattle.std.proofs.Common.{refl, sym, ap, subst, ◌∙◌, inl, inr}
+use Rattle.std.specs.Prelude.{◌≡◌, ℕ, Bool, true, List, [], ◌∷◌, map, Some, None, T}
+use Rattle.std.proofs.Common.{refl, sym, ap, subst, ◌∙◌}
 use Rattle.std.specs.List.{list_all}
 use Rattle.std.specs.FinMap.{put}
 use Rattle.std.specs.FinMap.Entries.{by_order}
-use Rattle.std.specs.Ordering.{eq_by_cmp}
 use Rattle.jpa_value.specs.declared.value.Identity.{Identity}
 use Rattle.jpa_value.specs.Value.{identity_cmp}
 use Rattle.jpa_model.specs.declared.unit.PersistenceUnit.{PersistenceUnit}
@@ -14,16 +13,14 @@ use Rattle.jpa_model.specs.Chains.{root_of}
 use Rattle.jpa_stored.specs.objects.Sets.{is_identity_of, is_rising, is_below}
 use Rattle.jpa_rows.specs.rows.Cells.{names_representable}
 use Rattle.jpa_rows.specs.laws.Entries.{entries_of}
-use Rattle.jpa_rows.specs.laws.Changes.{dropped}
-use Rattle.jpa_rows.proofs.laws.Facts.{and_first, and_second, give_if, is_less, true_false}
-use Rattle.jpa_rows.proofs.laws.Maps.{put_rises, dropped_rises, ties_itself}
-use Rattle.jpa_rows.proofs.laws.Elements.{Has, from_filter, into_map}
-use Rattle.jpa_rows.proofs.laws.OneRow.{row_put, row_dropped}
+use Rattle.jpa_rows.proofs.laws.Facts.{and_first, and_second, give_if, is_less}
+use Rattle.jpa_rows.proofs.laws.Maps.{put_rises}
+use Rattle.jpa_rows.proofs.laws.OneRow.{row_put}
 use Rattle.jpa_object_rows.specs.meaning.Rows.{RowId, row_cmp, Rows, AreRising}
 use Rattle.jpa_object_rows.specs.meaning.Identities.{is_join_of, pair_row, target_at}
-use Rattle.jpa_object_rows.specs.meaning.Written.{pair_columns, with_pairs, with_side, with_joins, without_pairs, without_side, without_joins}
+use Rattle.jpa_object_rows.specs.meaning.Written.{pair_columns, with_pairs, with_side, with_joins}
 use Rattle.jpa_object_rows.specs.meaning.View.{pair_from, pairs_of}
-use Rattle.jpa_object_rows.proofs.meaning.Bytes.Orders.{identities, row_ids, same_columns_itself}
+use Rattle.jpa_object_rows.proofs.meaning.Bytes.Orders.{row_ids, same_columns_itself}
 use Rattle.jpa_object_rows.proofs.meaning.Bytes.Spelling.{pair_spells, pair_spelled}
 use Rattle.jpa_object_rows.proofs.meaning.Bytes.Others.{unless_paired}
 
@@ -45,22 +42,6 @@ pub with_joins_rise : (owner : Identity) (ps : List (Relation × List Identity))
 with_joins_rise owner [] rows h = h
 with_joins_rise owner (p ∷ ps) rows h = with_side_rises owner (p.0).side p.1 (with_joins owner ps rows) (with_joins_rise owner ps rows h)
 
-pub without_pairs_rise : (join : ℕ) (owner : Identity) (ts : List Identity) (rows : Rows) → AreRising rows → AreRising (without_pairs join owner ts rows)
-without_pairs_rise join owner [] rows h = h
-without_pairs_rise join owner (t ∷ ts) rows h = dropped_rises row_ids (pair_row join owner t) (without_pairs join owner ts rows) (without_pairs_rise join owner ts rows h)
-
-without_side_rises : (owner : Identity) (side : Side) (ids : List Identity) (rows : Rows) → AreRising rows → AreRising (without_side owner side ids rows)
-without_side_rises owner (Side.ManyToOne c) ids rows h = h
-without_side_rises owner (Side.OneToOne c) ids rows h = h
-without_side_rises owner (Side.OneToOneInverse o) ids rows h = h
-without_side_rises owner (Side.OneToMany o) ids rows h = h
-without_side_rises owner (Side.ManyToMany join) ids rows h = without_pairs_rise join owner ids rows h
-without_side_rises owner (Side.ManyToManyInverse o) ids rows h = h
-
-pub without_joins_rise : (owner : Identity) (ps : List (Relation × List Identity)) (rows : Rows) → AreRising rows → AreRising (without_joins owner ps rows)
-without_joins_rise owner [] rows h = h
-without_joins_rise owner (p ∷ ps) rows h = without_side_rises owner (p.0).side p.1 (without_joins owner ps rows) (without_joins_rise owner ps rows h)
-
 -- ---- one pair
 
 abbrev pub pair_entries : PersistenceUnit → Rows → Identity → ℕ → ℕ → List (Identity × Bool)
@@ -73,9 +54,6 @@ module _ (m : PersistenceUnit) (owner : Identity) (join target : ℕ) (joins : i
     (t : Identity) (of_target : is_identity_of (root_of m target) t ≡ true) (real : names_representable t ≡ true) where
   pub own_pair_put : pair_entries m (put row_cmp (pair_row join owner t) pair_columns rows) owner join target ≡ put identity_cmp t true (pair_entries m rows owner join target)
   own_pair_put = row_put (pair_spells m target owner join) pair_from rows rise t pair_columns true (pair_spelled m target owner t join joins of_target real) (pair_stands t)
-
-  pub own_pair_dropped : pair_entries m (dropped row_cmp (pair_row join owner t) rows) owner join target ≡ dropped identity_cmp t (pair_entries m rows owner join target)
-  own_pair_dropped = row_dropped (pair_spells m target owner join) pair_from rows rise t (pair_spelled m target owner t join joins of_target real)
 
 -- a row of another table is no pair of this relation
 pub elsewhere_unread : (m : PersistenceUnit) (owner : Identity) (join target : ℕ) (r : RowId) → (r.table ≡ join → ⊥) → target_at m target owner join r ≡ None
@@ -118,40 +96,3 @@ pairs_added m owner join target joins rows rise ts up of_target real none =
     ap (map (λ e. e.0)) (targets_put m owner join target joins rows rise ts up of_target real (no_entries (pair_entries m rows owner join target) none)) ∙ unmarked ts
 
 -- ---- targets dropped
-
-abbrev dropped_all : List Identity → List (Identity × Bool) → List (Identity × Bool)
-dropped_all [] es = es
-dropped_all (t ∷ ts) es = dropped identity_cmp t (dropped_all ts es)
-
-targets_dropped : (m : PersistenceUnit) (owner : Identity) (join target : ℕ) → is_join_of m join owner.table ≡ true → (rows : Rows) → AreRising rows → (ts : List Identity)
-    → list_all (is_identity_of (root_of m target)) ts ≡ true → list_all names_representable ts ≡ true
-    → pair_entries m (without_pairs join owner ts rows) owner join target ≡ dropped_all ts (pair_entries m rows owner join target)
-targets_dropped m owner join target joins rows rise [] of_target real = refl
-targets_dropped m owner join target joins rows rise (t ∷ ts) of_target real =
-    own_pair_dropped m owner join target joins (without_pairs join owner ts rows) (without_pairs_rise join owner ts rows rise) t
-    (and_first (is_identity_of (root_of m target) t) _ of_target) (and_first (names_representable t) _ real)
-    ∙ ap (dropped identity_cmp t)
-    (targets_dropped m owner join target joins rows rise ts (and_second (is_identity_of (root_of m target) t) _ of_target) (and_second (names_representable t) _ real))
-
-was_there : (ts : List Identity) (es : List (Identity × Bool)) (e : Identity × Bool) → Has (dropped_all ts es) e → Has es e
-was_there [] es e h = h
-was_there (t ∷ ts) es e h = was_there ts es e (from_filter (λ d. not (eq_by_cmp identity_cmp t d.0)) (dropped_all ts es) e h).0
-
-not_dropped : (ts : List Identity) (es : List (Identity × Bool)) (e : Identity × Bool) → Has (dropped_all ts es) e → Has ts e.0 → ⊥
-not_dropped [] es e h g = absurd g
-not_dropped (t ∷ ts) es e h (inl same) =
-    let left = (from_filter (λ d. not (eq_by_cmp identity_cmp t d.0)) (dropped_all ts es) e h).1 in
-    true_false (sym left ∙ ap not (ap (λ z. eq_by_cmp identity_cmp z e.0) same ∙ ties_itself identities e.0))
-not_dropped (t ∷ ts) es e h (inr g) = not_dropped ts es e (from_filter (λ d. not (eq_by_cmp identity_cmp t d.0)) (dropped_all ts es) e h).0 g
-
-nothing_left : {X : Type 0} (xs : List X) → ((x : X) → Has xs x → ⊥) → xs ≡ []
-nothing_left [] h = refl
-nothing_left (x ∷ xs) h = absurd (h x (inl refl))
-
-pub pairs_removed : (m : PersistenceUnit) (owner : Identity) (join target : ℕ) → is_join_of m join owner.table ≡ true → (rows : Rows) → AreRising rows → (ts : List Identity)
-    → list_all (is_identity_of (root_of m target)) ts ≡ true → list_all names_representable ts ≡ true
-    → pairs_of m rows owner join target ≡ ts → pairs_of m (without_pairs join owner ts rows) owner join target ≡ []
-pairs_removed m owner join target joins rows rise ts of_target real all =
-    let es = pair_entries m rows owner join target in
-    ap (map (λ e. e.0)) (targets_dropped m owner join target joins rows rise ts of_target real
-    ∙ nothing_left (dropped_all ts es) (λ e h. not_dropped ts es e h (subst (λ us. Has us e.0) all (into_map (λ (d : Identity × Bool). d.0) es e (was_there ts es e h)))))

@@ -21,14 +21,12 @@ use Rattle.jpa_object_rows.proofs.meaning.Bytes.Classes.{class_within, within_cl
 use Rattle.jpa_object_rows.proofs.meaning.Bytes.Tables.{own_tables, unless_true, has_root_table, has_join_table, distinct_rest, distinct_apart}
 use Rattle.jpa_object_rows.proofs.meaning.Bytes.Climb as climb
 use Rattle.jpa_object_rows.proofs.meaning.Bytes.Distinct.{unless_any, distinct_first, distinct_joined, one_owner, distinct_at, distinct_within}
-use Rattle.jpa_object_rows.proofs.meaning.Bytes.Mapped.{IsMapped, own_version, own_columns, hierarchy, Lineage, lineage, root_above, kinds_root, root_named, same_root_class, class_tables, one_class, root_has_table}
+use Rattle.jpa_object_rows.proofs.meaning.Bytes.Mapped.{IsMapped, own_version, own_columns, hierarchy, lineage, root_above, kinds_root, root_named, same_root_class, class_tables, one_class, root_has_table}
 
 same_tail : (a b : List ℕ) → ◌≡◌ {A = List ℕ} (2 ∷ a) (2 ∷ b) → a ≡ b
 same_tail a b e = ap (drop 1) e
 
 module _ (m : PersistenceUnit) (mapped : IsMapped m) (class : ℕ) (h : is_class m class ≡ true) where
-  own_lineage : Lineage m class
-  own_lineage = lineage m mapped class h
 
   in_hierarchy : (c : ℕ) → is_class m c ≡ true → root_class m c ≡ root_class m class → Has (hierarchy m (root_class m class)) c
   in_hierarchy c k e =

@@ -2,7 +2,6 @@
 use Rattle.std.specs.Prelude.{◌≡◌, ℕ, pos, true, false, cond, ◌==◌, not, is_some, List, [], ◌∷◌, map, Option, None}
 use Rattle.std.proofs.Common.{refl, sym, ap, ◌∙◌}
 use Rattle.std.specs.List.{flat_map, zip}
-use Rattle.std.specs.FinMap.{put}
 use Rattle.std.specs.declared.cmp.Ordering.{Ordering}
 use Rattle.jpa_value.specs.declared.value.Identity.{Identity}
 use Rattle.jpa_value.specs.Value.{identity_cmp, is_i64}
@@ -12,22 +11,18 @@ use Rattle.jpa_model.specs.declared.unit.PersistenceUnit.{PersistenceUnit}
 use Rattle.jpa_behaviour.specs.Behaviour.{World}
 use Rattle.jpa_rows.specs.rows.Rows as typed
 use Rattle.jpa_rows.specs.laws.Entries.{entry_if, entries_of}
-use Rattle.jpa_rows.proofs.laws.Facts.{some_none, and_second, true_false}
-use Rattle.jpa_rows.proofs.laws.Maps.{put_rises}
+use Rattle.jpa_rows.proofs.laws.Facts.{and_second, true_false}
 use Rattle.jpa_rows.proofs.laws.Each.{Each}
 use Rattle.jpa_rows.proofs.laws.Elements.{Has}
 use Rattle.jpa_rows.proofs.laws.Lists.{all_each}
-use Rattle.jpa_object_rows.specs.meaning.Rows.{RowId, row_cmp, row_of, Columns, Row, Rows, AreRising}
-use Rattle.jpa_object_rows.specs.meaning.Identities.{root_at, declarer_at, is_within, identity_in, identity_at, target_at, IsSpelled}
+use Rattle.jpa_object_rows.specs.meaning.Rows.{RowId, row_of, Columns, Row, Rows, AreRising}
+use Rattle.jpa_object_rows.specs.meaning.Identities.{root_at, declarer_at, is_within, identity_in, identity_at, target_at}
 use Rattle.jpa_object_rows.specs.meaning.View.{set_of, stored_in, pairs_of, pair_from}
 use Rattle.jpa_object_rows.specs.meaning.Unambiguous.{IsUnambiguous}
 use Rattle.jpa_object_rows.specs.meaning.Raw.{raw}
 use Rattle.jpa_object_rows.specs.meaning.Objects.{number_id, number_row}
 use Rattle.jpa_rows.specs.rows.NextNumbers.{next_entries, base_of, number_rows}
-use Rattle.jpa_object_rows.proofs.meaning.Bytes.Orders.{row_ids}
-use Rattle.jpa_object_rows.proofs.meaning.Bytes.Spelling.{spelling}
-use Rattle.jpa_object_rows.proofs.meaning.Bytes.SetLaws.{set_same}
-use Rattle.jpa_object_rows.proofs.meaning.Bytes.Others.{unless_paired, unless_tied, put_stays, read_stays}
+use Rattle.jpa_object_rows.proofs.meaning.Bytes.Others.{unless_paired}
 use Rattle.jpa_object_rows.proofs.meaning.Bytes.Tables.{own_tables, zero_root, zero_join}
 use Rattle.jpa_object_rows.proofs.meaning.Over.{over_rises}
 use Rattle.jpa_object_rows.proofs.meaning.NextNumbers.{HasEntry, number_each, rows_each, among_tables}
@@ -39,17 +34,6 @@ module _ (m : PersistenceUnit) (clear : IsUnambiguous m) (r : RowId) (zero : r.t
   zero_unread q join target =
       unless_paired m q r join target
       (λ t p. true_false (sym (and_second (not (is_some (root_at m join))) _ p.joins) ∙ ap (λ j. is_within m q.table (declarer_at m j)) (sym p.table ∙ zero) ∙ ap (is_within m q.table) (zero_join m clear.tables)))
-
-  zero_apart : (q : Identity) → IsSpelled m q → row_of q ≡ r → ⊥
-  zero_apart q sq e =
-      let s = spelling m q sq in some_none s.root (sym s.at ∙ ap (λ (x : RowId). root_at m x.table) e ∙ ap (root_at m) zero ∙ zero_root m clear.tables)
-
--- so putting one keeps the set
-pub number_put : (world : World) → IsUnambiguous world.model → (rows : Rows) → AreRising rows → (r : RowId) → r.table ≡ 0 → (columns : Columns) → set_of world (put row_cmp r columns rows) ≡ set_of world rows
-number_put world clear rows rise r zero columns =
-    set_same world rows (put row_cmp r columns rows) rise (put_rises row_ids r columns rows rise)
-    (λ q sq. read_stays world q rows (put row_cmp r columns rows)
-    (put_stays world.model q rows rise r columns (record { unread = zero_unread world.model clear r zero q; apart = unless_tied (row_of q) r (zero_apart world.model clear r zero q sq) })))
 
 -- ---- rows spelled, by their ids
 

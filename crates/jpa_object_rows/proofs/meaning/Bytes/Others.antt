@@ -11,10 +11,9 @@ use Rattle.jpa_model.specs.Chains.{root_of}
 use Rattle.jpa_behaviour.specs.Behaviour.{World}
 use Rattle.jpa_rows.specs.keys.Keys.{key_bytes}
 use Rattle.jpa_rows.specs.laws.Entries.{read_by}
-use Rattle.jpa_rows.specs.laws.Changes.{dropped}
 use Rattle.jpa_rows.proofs.laws.Facts.{value_in, true_false, and_first, and_second}
-use Rattle.jpa_rows.proofs.laws.Maps.{found_other, dropped_other, same_key, ties_itself}
-use Rattle.jpa_rows.proofs.laws.OneRow.{row_apart, row_unread, row_unread_dropped}
+use Rattle.jpa_rows.proofs.laws.Maps.{found_other, same_key, ties_itself}
+use Rattle.jpa_rows.proofs.laws.OneRow.{row_apart, row_unread}
 use Rattle.jpa_object_rows.specs.meaning.Rows.{RowId, row_cmp, row_of, Columns, Rows, AreRising}
 use Rattle.jpa_object_rows.specs.meaning.Identities.{root_at, declarer_at, is_within, is_join_of, pair_row, target_at, IsSpelled}
 use Rattle.jpa_object_rows.specs.meaning.View.{pair_from, pairs_of, stored_from, read_at}
@@ -114,13 +113,5 @@ pub pairs_put : (m : PersistenceUnit) (q : Identity) (rows : Rows) → AreRising
 pairs_put m q rows rise r columns unread =
     λ i join target. map (λ e. e.0) (row_unread (pair_spells m target q join) pair_from rows rise r columns (unread join target) i)
 
-pub pairs_dropped : (m : PersistenceUnit) (q : Identity) (rows : Rows) → AreRising rows → (r : RowId) → ((join target : ℕ) → target_at m target q join r ≡ None)
-    → pairs_of m (dropped row_cmp r rows) q ≡ pairs_of m rows q
-pairs_dropped m q rows rise r unread =
-    λ i join target. map (λ e. e.0) (row_unread_dropped (pair_spells m target q join) pair_from rows rise r (unread join target) i)
-
 pub put_stays : (m : PersistenceUnit) (q : Identity) (rows : Rows) → AreRising rows → (r : RowId) (columns : Columns) → IsForeign m q r → Stays m q rows (put row_cmp r columns rows)
 put_stays m q rows rise r columns foreign = record { main = found_other row_ids (row_of q) r columns rows foreign.apart; pairs = pairs_put m q rows rise r columns foreign.unread }
-
-pub dropped_stays : (m : PersistenceUnit) (q : Identity) (rows : Rows) → AreRising rows → (r : RowId) → IsForeign m q r → Stays m q rows (dropped row_cmp r rows)
-dropped_stays m q rows rise r foreign = record { main = dropped_other row_ids (row_of q) r rows foreign.apart; pairs = pairs_dropped m q rows rise r foreign.unread }

@@ -1,5 +1,5 @@
 -- What an owner holds along its relations, after all its pairs were put or dropped.
-use Rattle.std.specs.Prelude.{◌≡◌, ◌==◌, ℕ, true, ◌&&◌, not, List, [], ◌∷◌, ◌++◌, map, T}
+use Rattle.std.specs.Prelude.{◌≡◌, ◌==◌, true, ◌&&◌, not, List, [], ◌∷◌, ◌++◌, map, T}
 use Rattle.std.proofs.Common.{refl, sym, ap, subst, ◌∙◌}
 use Rattle.std.specs.List.{zip, list_any, list_all, AllByRecursion}
 use Rattle.jpa_value.specs.declared.value.Identity.{Identity}
@@ -14,20 +14,16 @@ use Rattle.jpa_rows.specs.rows.Cells.{names_representable, join_tables}
 use Rattle.jpa_rows.proofs.laws.Facts.{and_first, and_second, and_both}
 use Rattle.jpa_object_rows.specs.meaning.Rows.{Rows, AreRising}
 use Rattle.jpa_object_rows.specs.meaning.Identities.{is_join_of}
-use Rattle.jpa_object_rows.specs.meaning.Written.{with_side, with_joins, with_pairs, without_side, without_joins, without_pairs}
+use Rattle.jpa_object_rows.specs.meaning.Written.{with_side, with_joins, with_pairs}
 use Rattle.jpa_object_rows.specs.meaning.View.{is_storable, pairs_of, SideHas, PairsAre}
 use Rattle.jpa_object_rows.specs.meaning.Unambiguous.{IsUnambiguous, are_distinct_numbers, joins_of}
 use Rattle.jpa_object_rows.proofs.meaning.Bytes.Keys.{table_is}
 use Rattle.jpa_object_rows.proofs.meaning.Bytes.Reading.{storable}
-use Rattle.jpa_object_rows.proofs.meaning.Bytes.Joins.{with_joins_rise, without_joins_rise, pairs_added, pairs_removed}
-use Rattle.jpa_object_rows.proofs.meaning.Bytes.Relations.{Owned, joins_in, AreOwn, Lacks, pairs_elsewhere, pairs_left, joins_elsewhere, joins_left, pairs_kept}
+use Rattle.jpa_object_rows.proofs.meaning.Bytes.Joins.{with_joins_rise, pairs_added}
+use Rattle.jpa_object_rows.proofs.meaning.Bytes.Relations.{Owned, joins_in, AreOwn, pairs_elsewhere, joins_elsewhere, pairs_kept}
 
 abbrev pub emptied : Owned → Owned
 emptied = map (λ p. (p.0, []))
-
-emptied_joins : (ps : Owned) → joins_in (emptied ps) ≡ joins_in ps
-emptied_joins [] = refl
-emptied_joins (p ∷ ps) = ap (λ js. join_tables (p.0).side ++ js) (emptied_joins ps)
 
 -- ---- put where there was none
 
@@ -66,40 +62,6 @@ joined m owner (p ∷ ps) own rows rise none =
     by_side (Side.ManyToManyInverse o) as_side j a n rest = (tt, rest j a)
 
 -- ---- dropped where those were all
-
-pub removed : (m : PersistenceUnit) (owner : Identity) (ps : Owned) → AreOwn m owner ps → (rows : Rows) → AreRising rows → PairsAre (pairs_of m rows owner) ps
-    → PairsAre (pairs_of m (without_joins owner ps rows) owner) (emptied ps)
-removed m owner [] own rows rise all = tt
-removed m owner (p ∷ ps) own rows rise all =
-    by_side (p.0).side own.joins own.apart all.0 (λ j a. removed m owner ps (record { wells = own.wells.1; joins = j; apart = a }) rows rise all.1)
-  where
-    of_target : list_all (is_identity_of (root_of m (p.0).target)) p.1 ≡ true
-    of_target = and_second (owns_as (p.0).side p.1) _ (and_first (owns_well m p.0 p.1) (list_all names_representable p.1) own.wells.0)
-
-    real : list_all names_representable p.1 ≡ true
-    real = and_second (owns_well m p.0 p.1) _ own.wells.0
-
-    emptied_lacks : (join : ℕ) (qs : Owned) → Lacks join (joins_in qs) → Lacks join (joins_in (emptied qs))
-    emptied_lacks join qs h = subst (Lacks join) (sym (emptied_joins qs)) h
-
-    by_side : (side : Side) → AllByRecursion (λ join. is_join_of m join owner.table ≡ true) (join_tables side ++ joins_in ps)
-        → are_distinct_numbers (join_tables side ++ joins_in ps) ≡ true → SideHas (pairs_of m rows owner) (p.0).target p.1 side
-        → (AllByRecursion (λ join. is_join_of m join owner.table ≡ true) (joins_in ps) → are_distinct_numbers (joins_in ps) ≡ true → PairsAre (pairs_of m (without_joins owner ps rows) owner) (emptied ps))
-        → SideHas (pairs_of m (without_side owner side p.1 (without_joins owner ps rows)) owner) (p.0).target [] side
-        × PairsAre (pairs_of m (without_side owner side p.1 (without_joins owner ps rows)) owner) (emptied ps)
-    by_side (Side.ManyToOne c) j a n rest = (tt, rest j a)
-    by_side (Side.OneToOne c) j a n rest = (tt, rest j a)
-    by_side (Side.OneToOneInverse o) j a n rest = (tt, rest j a)
-    by_side (Side.OneToMany o) j a n rest = (tt, rest j a)
-    by_side (Side.ManyToMany join) j a n rest =
-        let lacking = and_first (not (list_any (λ other. join == other) (joins_in ps))) _ a in
-        let mid = without_joins owner ps rows in
-        let up = without_joins_rise owner ps rows rise in (
-          pairs_removed m owner join (p.0).target j.0 mid up p.1 of_target real (joins_left m owner join (p.0).target ps lacking rows rise ∙ n),
-          pairs_kept (pairs_of m mid owner) (pairs_of m (without_pairs join owner p.1 mid) owner) join (λ other target apart. pairs_left m owner other target join apart p.1 mid up) (emptied ps) (emptied_lacks join ps lacking)
-              (rest j.1 (and_second (not (list_any (λ other. join == other) (joins_in ps))) _ a)),
-        )
-    by_side (Side.ManyToManyInverse o) j a n rest = (tt, rest j a)
 
 -- ---- a storable object
 

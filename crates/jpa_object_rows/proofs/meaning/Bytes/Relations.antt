@@ -9,15 +9,15 @@ use Rattle.jpa_model.specs.declared.unit.Side.{Side}
 use Rattle.jpa_stored.specs.objects.Sets.{owns_well}
 use Rattle.jpa_rows.specs.rows.Cells.{names_representable, join_tables}
 use Rattle.jpa_rows.proofs.laws.Facts.{true_false}
-use Rattle.jpa_rows.proofs.laws.OneRow.{row_unread, row_unread_dropped}
+use Rattle.jpa_rows.proofs.laws.OneRow.{row_unread}
 use Rattle.jpa_object_rows.specs.meaning.Rows.{Rows, AreRising}
 use Rattle.jpa_object_rows.specs.meaning.Identities.{is_join_of, pair_row}
-use Rattle.jpa_object_rows.specs.meaning.Written.{pair_columns, with_pairs, with_side, with_joins, without_pairs, without_side, without_joins}
+use Rattle.jpa_object_rows.specs.meaning.Written.{pair_columns, with_pairs, with_side, with_joins}
 use Rattle.jpa_object_rows.specs.meaning.View.{Pairs, pair_from, pairs_of, SideHas, PairsAre}
 use Rattle.jpa_object_rows.specs.meaning.Unambiguous.{are_distinct_numbers}
 use Rattle.jpa_object_rows.proofs.meaning.Bytes.Orders.{same_number}
 use Rattle.jpa_object_rows.proofs.meaning.Bytes.Spelling.{pair_spells}
-use Rattle.jpa_object_rows.proofs.meaning.Bytes.Joins.{elsewhere_unread, with_pairs_rise, with_joins_rise, without_pairs_rise, without_joins_rise}
+use Rattle.jpa_object_rows.proofs.meaning.Bytes.Joins.{elsewhere_unread, with_pairs_rise, with_joins_rise}
 
 abbrev pub Owned : Type 0
 Owned = List (Relation × List Identity)
@@ -61,15 +61,6 @@ pairs_elsewhere m owner join target other apart (t ∷ ts) rows rise =
     (elsewhere_unread m owner join target (pair_row other owner t) apart))
     ∙ pairs_elsewhere m owner join target other apart ts rows rise
 
-pub pairs_left : (m : PersistenceUnit) (owner : Identity) (join target other : ℕ) → (other ≡ join → ⊥) → (ids : List Identity) (rows : Rows) → AreRising rows
-    → pairs_of m (without_pairs other owner ids rows) owner join target ≡ pairs_of m rows owner join target
-pairs_left m owner join target other apart [] rows rise = refl
-pairs_left m owner join target other apart (t ∷ ts) rows rise =
-    ap (map (λ e. e.0))
-    (row_unread_dropped (pair_spells m target owner join) pair_from (without_pairs other owner ts rows) (without_pairs_rise other owner ts rows rise) (pair_row other owner t)
-    (elsewhere_unread m owner join target (pair_row other owner t) apart))
-    ∙ pairs_left m owner join target other apart ts rows rise
-
 module _ (m : PersistenceUnit) (owner : Identity) (join target : ℕ) where
   pub joins_elsewhere : (ps : Owned) → Lacks join (joins_in ps) → (rows : Rows) → AreRising rows → pairs_of m (with_joins owner ps rows) owner join target ≡ pairs_of m rows owner join target
   joins_elsewhere [] h rows rise = refl
@@ -83,20 +74,6 @@ module _ (m : PersistenceUnit) (owner : Identity) (join target : ℕ) where
       by_side (Side.OneToMany o) k rest = rest k
       by_side (Side.ManyToMany other) k rest =
           pairs_elsewhere m owner join target other (lacks_one join other (joins_in ps) k) p.1 (with_joins owner ps rows) (with_joins_rise owner ps rows rise) ∙ rest (lacks_others join other (joins_in ps) k)
-      by_side (Side.ManyToManyInverse o) k rest = rest k
-
-  pub joins_left : (ps : Owned) → Lacks join (joins_in ps) → (rows : Rows) → AreRising rows → pairs_of m (without_joins owner ps rows) owner join target ≡ pairs_of m rows owner join target
-  joins_left [] h rows rise = refl
-  joins_left (p ∷ ps) h rows rise = by_side (p.0).side h (λ k. joins_left ps k rows rise)
-    where
-      by_side : (side : Side) → Lacks join (join_tables side ++ joins_in ps) → (Lacks join (joins_in ps) → pairs_of m (without_joins owner ps rows) owner join target ≡ pairs_of m rows owner join target)
-          → pairs_of m (without_side owner side p.1 (without_joins owner ps rows)) owner join target ≡ pairs_of m rows owner join target
-      by_side (Side.ManyToOne c) k rest = rest k
-      by_side (Side.OneToOne c) k rest = rest k
-      by_side (Side.OneToOneInverse o) k rest = rest k
-      by_side (Side.OneToMany o) k rest = rest k
-      by_side (Side.ManyToMany other) k rest =
-          pairs_left m owner join target other (lacks_one join other (joins_in ps) k) p.1 (without_joins owner ps rows) (without_joins_rise owner ps rows rise) ∙ rest (lacks_others join other (joins_in ps) k)
       by_side (Side.ManyToManyInverse o) k rest = rest k
 
 -- a change in one join table keeps what the others hold

@@ -2,7 +2,6 @@
 use Rattle.std.specs.Prelude.{◌≡◌, ℕ, true, false, List, [], ◌∷◌, ◌++◌, map, Option, Some, None}
 use Rattle.std.proofs.Common.{refl, sym, ap, subst, ◌∙◌}
 use Rattle.std.specs.List.{zip, AllByRecursion}
-use Rattle.std.specs.FinMap.{find, put}
 use Rattle.jpa_value.specs.declared.value.Identity.{Identity}
 use Rattle.jpa_value.specs.Value.{same_identity}
 use Rattle.jpa_model.specs.declared.unit.PersistenceUnit.{PersistenceUnit}
@@ -11,25 +10,24 @@ use Rattle.jpa_model.specs.declared.unit.Side.{Side}
 use Rattle.jpa_model.specs.Chains.{relations_of}
 use Rattle.jpa_behaviour.specs.Behaviour.{World, IsRegular}
 use Rattle.jpa_stored.specs.declared.objects.stored.Stored.{Stored}
-use Rattle.jpa_stored.specs.objects.Sets.{stored_at, with_stored, without}
+use Rattle.jpa_stored.specs.objects.Sets.{with_stored}
 use Rattle.jpa_rows.specs.rows.Cells.{join_tables}
 use Rattle.jpa_rows.specs.laws.Entries.{read_by}
 use Rattle.jpa_rows.proofs.laws.Facts.{some_none, given_if}
-use Rattle.jpa_rows.proofs.laws.Maps.{found_put, found_dropped, put_rises, dropped_rises}
-use Rattle.jpa_object_rows.specs.meaning.Rows.{row_cmp, row_of, Columns, Rows, AreRising, same_columns}
+use Rattle.jpa_rows.proofs.laws.Maps.{found_put, put_rises}
+use Rattle.jpa_object_rows.specs.meaning.Rows.{row_of, Columns, Rows, AreRising, same_columns}
 use Rattle.jpa_object_rows.specs.meaning.Identities.{is_join_of, pair_row, IsSpelled}
-use Rattle.jpa_object_rows.specs.meaning.Written.{columns_of, pair_columns, with_pairs, with_side, with_joins, with_object, without_pairs, without_side, without_joins, without_object}
+use Rattle.jpa_object_rows.specs.meaning.Written.{columns_of, pair_columns, with_pairs, with_side, with_joins, with_object}
 use Rattle.jpa_object_rows.specs.meaning.View.{set_of, stored_in, stored_from, pairs_of, is_storable, Pairs, PairsAre, SideHas, HoldsNone, owned_by, guessed, class_from}
 use Rattle.jpa_object_rows.specs.meaning.Unambiguous.{IsUnambiguous}
 use Rattle.jpa_object_rows.proofs.meaning.Bytes.Orders.{row_ids}
 use Rattle.jpa_object_rows.proofs.meaning.Bytes.Spelling.{spelling}
-use Rattle.jpa_object_rows.proofs.meaning.Bytes.SetLaws.{set_put, set_dropped, stored_read, is_without}
-use Rattle.jpa_object_rows.proofs.meaning.Bytes.Others.{Stays, stays_self, stays_then, put_stays, dropped_stays, read_stays, foreign_main, foreign_pair, main_unread, pairs_put}
-use Rattle.jpa_object_rows.proofs.meaning.Bytes.MainRow.{main_put}
+use Rattle.jpa_object_rows.proofs.meaning.Bytes.SetLaws.{set_put}
+use Rattle.jpa_object_rows.proofs.meaning.Bytes.Others.{Stays, stays_self, stays_then, put_stays, read_stays, foreign_main, foreign_pair, main_unread, pairs_put}
 use Rattle.jpa_object_rows.proofs.meaning.Bytes.Reading.{storable, object_spelled, row_read}
-use Rattle.jpa_object_rows.proofs.meaning.Bytes.Joins.{with_pairs_rise, with_joins_rise, without_pairs_rise, without_joins_rise}
+use Rattle.jpa_object_rows.proofs.meaning.Bytes.Joins.{with_pairs_rise, with_joins_rise}
 use Rattle.jpa_object_rows.proofs.meaning.Bytes.Relations.{Owned, joins_in}
-use Rattle.jpa_object_rows.proofs.meaning.Bytes.Owned.{joined, removed, zipped_empty, owned_of, own_pairs}
+use Rattle.jpa_object_rows.proofs.meaning.Bytes.Owned.{joined, zipped_empty, owned_of, own_pairs}
 
 -- ---- what other identities read stays
 
@@ -39,12 +37,6 @@ module _ (m : PersistenceUnit) (owner q : Identity) (so : IsSpelled m owner) (sq
   pairs_put_stay join joins (t ∷ ts) rows rise =
       stays_then m q rows (with_pairs join owner ts rows) (with_pairs join owner (t ∷ ts) rows) (pairs_put_stay join joins ts rows rise)
       (put_stays m q (with_pairs join owner ts rows) (with_pairs_rise join owner ts rows rise) (pair_row join owner t) pair_columns (foreign_pair m owner q t join so sq apart joins))
-
-  pairs_dropped_stay : (join : ℕ) → is_join_of m join owner.table ≡ true → (ts : List Identity) (rows : Rows) → AreRising rows → Stays m q rows (without_pairs join owner ts rows)
-  pairs_dropped_stay join joins [] rows rise = stays_self m q rows
-  pairs_dropped_stay join joins (t ∷ ts) rows rise =
-      stays_then m q rows (without_pairs join owner ts rows) (without_pairs join owner (t ∷ ts) rows) (pairs_dropped_stay join joins ts rows rise)
-      (dropped_stays m q (without_pairs join owner ts rows) (without_pairs_rise join owner ts rows rise) (pair_row join owner t) (foreign_pair m owner q t join so sq apart joins))
 
   pub joins_put_stay : (ps : Owned) → AllByRecursion (λ join. is_join_of m join owner.table ≡ true) (joins_in ps) → (rows : Rows) → AreRising rows → Stays m q rows (with_joins owner ps rows)
   joins_put_stay [] joins rows rise = stays_self m q rows
@@ -58,21 +50,6 @@ module _ (m : PersistenceUnit) (owner q : Identity) (so : IsSpelled m owner) (sq
       by_side (Side.OneToMany o) j rest = rest j
       by_side (Side.ManyToMany join) j rest =
           stays_then m q rows (with_joins owner ps rows) (with_pairs join owner p.1 (with_joins owner ps rows)) (rest j.1) (pairs_put_stay join j.0 p.1 (with_joins owner ps rows) (with_joins_rise owner ps rows rise))
-      by_side (Side.ManyToManyInverse o) j rest = rest j
-
-  pub joins_dropped_stay : (ps : Owned) → AllByRecursion (λ join. is_join_of m join owner.table ≡ true) (joins_in ps) → (rows : Rows) → AreRising rows → Stays m q rows (without_joins owner ps rows)
-  joins_dropped_stay [] joins rows rise = stays_self m q rows
-  joins_dropped_stay (p ∷ ps) joins rows rise = by_side (p.0).side joins (λ j. joins_dropped_stay ps j rows rise)
-    where
-      by_side : (side : Side) → AllByRecursion (λ join. is_join_of m join owner.table ≡ true) (join_tables side ++ joins_in ps)
-          → (AllByRecursion (λ join. is_join_of m join owner.table ≡ true) (joins_in ps) → Stays m q rows (without_joins owner ps rows)) → Stays m q rows (without_side owner side p.1 (without_joins owner ps rows))
-      by_side (Side.ManyToOne c) j rest = rest j
-      by_side (Side.OneToOne c) j rest = rest j
-      by_side (Side.OneToOneInverse o) j rest = rest j
-      by_side (Side.OneToMany o) j rest = rest j
-      by_side (Side.ManyToMany join) j rest =
-          stays_then m q rows (without_joins owner ps rows) (without_pairs join owner p.1 (without_joins owner ps rows)) (rest j.1)
-          (pairs_dropped_stay join j.0 p.1 (without_joins owner ps rows) (without_joins_rise owner ps rows rise))
       by_side (Side.ManyToManyInverse o) j rest = rest j
 
 -- ---- what is read is storable, and owns the pairs that stand
@@ -117,12 +94,6 @@ module _ (world : World) (clear : IsUnambiguous world.model) where
       stays_then m q rows mid (with_object world id x rows) (joins_put_stay m id q si sq apart (owned_of world x) (own_pairs world clear id x h).joins rows rise)
       (put_stays m q mid (with_joins_rise id (owned_of world x) rows rise) (row_of id) (columns_of world x) (foreign_main m id q si sq apart))
 
-  -- the main row of an object whose pairs stand
-  pub object_main_put : IsRegular world → (rows : Rows) → AreRising rows → (id : Identity) (x : Stored) → is_storable world id x ≡ true → PairsAre (pairs_of world.model rows id) (owned_of world x)
-      → set_of world (put row_cmp (row_of id) (columns_of world x) rows) ≡ with_stored id x (set_of world rows)
-  object_main_put regular rows rise id x h own =
-      main_put world rows rise id (columns_of world x) x (object_spelled world clear id x h) (row_read world clear regular (pairs_of world.model rows id) id x h own)
-
   -- a whole object over rows in which its identity holds no pairs, and every other reads what it read before
   object_put_over : IsRegular world → (rows mid : Rows) → AreRising rows → AreRising mid → (id : Identity) (x : Stored) → is_storable world id x ≡ true
       → ((q : Identity) → IsSpelled world.model q → same_identity q id ≡ false → Stays world.model q rows mid) → HoldsNone world.model mid id (relations_of world.model x.class)
@@ -148,35 +119,4 @@ module _ (world : World) (clear : IsUnambiguous world.model) where
       → set_of world (with_object world id x rows) ≡ with_stored id x (set_of world rows)
   object_put regular rows rise id x h none = object_put_over regular rows rows rise rise id x h (λ q sq apart. stays_self world.model q rows) none
 
-  -- an object in the place of one of its class: the pairs of the old one are dropped first
-  pub object_replaced : IsRegular world → (rows : Rows) → AreRising rows → (id : Identity) (old x : Stored) → is_storable world id x ≡ true → old.class ≡ x.class → stored_at (set_of world rows) id ≡ Some old
-      → set_of world (with_object world id x (without_joins id (owned_of world old) rows)) ≡ with_stored id x (set_of world rows)
-  object_replaced regular rows rise id old x h same at =
-      let m = world.model in
-      let si = object_spelled world clear id x h in
-      let read = sym (stored_read world rows rise id si) ∙ at in
-      let h_old = read_storable world rows id old (find row_cmp (row_of id) rows) read in
-      let own = own_pairs world clear id old h_old in
-      let none = removed m id (owned_of world old) own rows rise (read_pairs world rows id old (find row_cmp (row_of id) rows) read) in
-      object_put_over regular rows (without_joins id (owned_of world old) rows) rise (without_joins_rise id (owned_of world old) rows rise) id x h
-      (λ q sq apart. joins_dropped_stay m id q si sq apart (owned_of world old) own.joins rows rise)
-      (subst (HoldsNone m (without_joins id (owned_of world old) rows) id) (ap (relations_of m) same)
-      (subst (PairsAre (pairs_of m (without_joins id (owned_of world old) rows) id)) (zipped_empty m (relations_of m old.class) old.owned (storable world id old h_old).owned) none))
-
   -- ---- an object is dropped
-
-  pub object_dropped : (rows : Rows) → AreRising rows → (id : Identity) (x : Stored) → is_storable world id x ≡ true
-      → set_of world (without_object world id x rows) ≡ without (id ∷ []) (set_of world rows)
-  object_dropped rows rise id x h =
-      let m = world.model in
-      let si = object_spelled world clear id x h in
-      let ps = owned_of world x in
-      let mid = without_joins id ps rows in
-      let up = without_joins_rise id ps rows rise in
-      let news = without_object world id x rows in
-      set_dropped world rows news rise (dropped_rises row_ids (row_of id) mid up) id si
-      (ap (read_by (stored_in world news id)) (found_dropped row_ids (row_of id) mid))
-      (λ q sq apart. read_stays world q rows news
-      (stays_then m q rows mid news (joins_dropped_stay m id q si sq apart ps (own_pairs world clear id x h).joins rows rise)
-      (dropped_stays m q mid up (row_of id) (foreign_main m id q si sq apart))))
-      ∙ is_without id (set_of world rows)
