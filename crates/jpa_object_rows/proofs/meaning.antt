@@ -20,9 +20,9 @@ pub mod Contents
 pub mod Read
 pub mod Kept
 pub mod Apart
+pub mod StandsOver
 pub mod Exact
 pub mod Scans
-pub mod Standing
 pub mod Cells
 pub mod Covered
 pub mod Marked

@@ -1,6 +1,6 @@
 -- The rows of an object are new among those of other objects and of next numbers: they can be put before them or after them,
 -- and dropped again.
-use Rattle.std.specs.Prelude.{◌≡◌, ℕ, true, false, cond, ◌||◌, List, [], ◌∷◌, ◌++◌, Option, Some, None}
+use Rattle.std.specs.Prelude.{◌≡◌, ℕ, true, false, cond, ◌||◌, not, is_some, List, [], ◌∷◌, ◌++◌, Option, Some, None}
 use Rattle.std.proofs.Common.{refl, sym, ap, subst, ◌∙◌, Less, Equal, Greater}
 use Rattle.std.proofs.lemmas.Grind.{flat_map-append}
 use Rattle.std.specs.List.{list_any, AllByRecursion}
@@ -18,16 +18,17 @@ use Rattle.jpa_stored.specs.declared.objects.stored.Stored.{Stored}
 use Rattle.jpa_stored.specs.objects.Sets.{StoredSet, stored_at, with_stored}
 use Rattle.jpa_rows.specs.rows.Rows.{RowId, Row, Rows, AreRising}
 use Rattle.jpa_rows.specs.rows.NextNumbers.{number_rows}
-use Rattle.jpa_rows.proofs.laws.Facts.{some_none, true_false}
+use Rattle.jpa_rows.proofs.laws.Facts.{some_none, true_false, and_second}
 use Rattle.jpa_rows.proofs.laws.Each.{Each}
 use Rattle.jpa_rows.proofs.laws.Elements.{Has, found_has}
 use Rattle.jpa_rows.proofs.laws.Lists.{all_each}
 use Rattle.jpa_rows.proofs.laws.Maps.{same_key, same_answers}
-use Rattle.jpa_object_rows.specs.meaning.Identities.{root_at, is_join_of, IsSpelled}
+use Rattle.jpa_object_rows.specs.meaning.Identities.{root_at, is_join_of, declarer_at, is_within, IsSpelled}
 use Rattle.jpa_object_rows.specs.meaning.Unambiguous.{IsUnambiguous}
 use Rattle.jpa_object_rows.specs.meaning.View.{is_storable, AreStorable}
 use Rattle.jpa_object_rows.proofs.meaning.Bytes.Orders.{identities}
 use Rattle.jpa_object_rows.proofs.meaning.Bytes.Spelling.{spelling}
+use Rattle.jpa_object_rows.proofs.meaning.Bytes.Tables.{zero_join}
 use Rattle.jpa_object_rows.proofs.meaning.Bytes.Others.{apart_identities, join_no_root, same_owner}
 use Rattle.jpa_object_rows.proofs.meaning.Bytes.Reading.{storable, object_spelled}
 use Rattle.jpa_object_rows.proofs.meaning.Bytes.Numbers.{each_into, of_zero, base_rises}
@@ -56,7 +57,7 @@ module _ (P Q R : RowId → Row → Type 0) (both : (id : RowId) (row : Row) →
 
 module _ (world : World) (clear : IsUnambiguous world.model) where
   -- an identity is no pair
-  main_apart : (id owner : Identity) → IsSpelled world.model id → (join : ℕ) (t : Identity) → is_join_of world.model join owner.table ≡ true → id ≡ pair_id join owner t → ⊥
+  pub main_apart : (id owner : Identity) → IsSpelled world.model id → (join : ℕ) (t : Identity) → is_join_of world.model join owner.table ≡ true → id ≡ pair_id join owner t → ⊥
   main_apart id owner spelled join t joins e =
       let m = world.model in
       let s = spelling m id spelled in
@@ -111,10 +112,10 @@ module _ (world : World) (clear : IsUnambiguous world.model) where
 -- ---- the rows of an object that is not in a set
 
 -- another identity
-abbrev AreOthers : Identity → StoredSet → Type 0
+abbrev pub AreOthers : Identity → StoredSet → Type 0
 AreOthers q = AllByRecursion (λ e. same_identity q e.0 ≡ false)
 
-absent_others : (q : Identity) (set : StoredSet) → stored_at set q ≡ None → AreOthers q set
+pub absent_others : (q : Identity) (set : StoredSet) → stored_at set q ≡ None → AreOthers q set
 absent_others q [] none = tt
 absent_others q (e ∷ set) none =
     elim (same_identity q e.0) as (λ b. same_identity q e.0 ≡ b → cond b (Some e.1) (stored_at set q) ≡ None → AreOthers q (e ∷ set)) [
@@ -148,6 +149,26 @@ module _ (world : World) (clear : IsUnambiguous world.model) (numbers : List ℕ
   pub rows_new : (id : Identity) (x : Stored) → is_storable world id x ≡ true → (set : StoredSet) → stored_at set id ≡ None → AreStorable world set
       → Each (IsNew (rows_of world set numbers)) (object_entries world id x)
   rows_new id x h set none g = new_among id x h set (absent_others id set none) g
+
+  -- and so is a row of any pair of it
+  pub pair_new : (owner : Identity) → IsSpelled world.model owner → (join : ℕ) (t : Identity) → is_join_of world.model join owner.table ≡ true → (set : StoredSet) → AreOthers owner set → AreStorable world set
+      → find identity_cmp (pair_id join owner t) (rows_of world set numbers) ≡ None
+  pair_new owner so join t joins [] others g =
+      let m = world.model in
+      not_among (pair_id join owner t) (number_rows m numbers)
+      (each_into
+      (λ other row zero same. true_false (sym (and_second (not (is_some (root_at m join))) _ joins)
+      ∙ ap (λ j. is_within m owner.table (declarer_at m j)) (ap (λ (s : RowId). s.table) same ∙ zero) ∙ ap (is_within m owner.table) (zero_join m clear.tables)))
+      (number_rows m numbers) (of_zero m clear numbers))
+  pair_new owner so join t joins (e ∷ set) others g =
+      let m = world.model in
+      let se = object_spelled world clear e.0 e.1 g.0 in
+      object_past world clear (pair_id join owner t) e.0 e.1 (rows_of world set numbers) (
+        λ same. main_apart world clear e.0 owner se join t joins (sym same),
+        along_each (λ other row. pair_id join owner t ≡ other → ⊥) e.0 (relations_of m (e.1).class) (e.1).owned
+            (λ o l other at u. pair_apart world clear owner e.0 so se (λ same. apart_identities owner e.0 others.0 (sym same)) join other t u joins (own_joins world clear e.0 e.1 g.0 o l other at)),
+      )
+      ∙ pair_new owner so join t joins set others.1 g.1
 
   -- so they are found alike, put at its place or over all others
   set_put : (q : RowId) (id : Identity) (x : Stored) → is_storable world id x ≡ true → (set : StoredSet) → stored_at set id ≡ None → AreStorable world set

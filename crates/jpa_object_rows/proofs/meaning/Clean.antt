@@ -48,9 +48,8 @@ use Rattle.jpa_object_rows.proofs.meaning.Stored.{own_join}
 use Rattle.jpa_object_rows.proofs.meaning.Read.{found_whole, stands_in}
 use Rattle.jpa_object_rows.proofs.meaning.Kept.{over_each}
 use Rattle.jpa_object_rows.proofs.meaning.NextNumbers.{zipped_first, rows_each}
-use Rattle.jpa_object_rows.proofs.meaning.Exact.{rows_of_unit, numbers_read_in}
+use Rattle.jpa_object_rows.proofs.meaning.Exact.{rows_of_unit, numbers_read_in, set_stands}
 use Rattle.jpa_object_rows.proofs.meaning.Scans.{main_found}
-use Rattle.jpa_object_rows.proofs.meaning.Standing.{set_stands}
 use Rattle.jpa_object_rows.proofs.meaning.Covered.{Stands, along_stand}
 use Rattle.jpa_object_rows.proofs.meaning.Marked.{revision_found, later_base}
 

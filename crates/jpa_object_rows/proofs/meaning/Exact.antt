@@ -1,17 +1,15 @@
 -- The rows of a set and of next numbers: they stand for these alone, and what changes make of them are the rows of the set that
 -- is changed likewise.
-use Rattle.std.specs.Prelude.{◌≡◌, ℕ, pos, Bool, true, false, ◌==◌, ◌||◌, not, nat_lt, T, List, [], ◌∷◌, length, slice_set, slice_index_or, Some, None}
+use Rattle.std.specs.Prelude.{◌≡◌, ℕ, pos, Bool, true, false, ◌==◌, ◌||◌, not, nat_lt, T, List, [], ◌∷◌, length, slice_set, slice_index_or, Option, Some, None, option_map}
 use Rattle.std.proofs.Common.{refl, sym, ap, subst, ◌∙◌}
 use Rattle.std.specs.List.{zip}
 use Rattle.std.specs.FinMap.{find, put, is_sorted}
-use Rattle.std.specs.FinMap.Entries.{below_all}
-use Rattle.std.specs.Ordering.{is_eq}
 use Rattle.jpa_value.specs.declared.value.Identity.{Identity}
 use Rattle.jpa_value.specs.Value.{identity_cmp, is_i64}
 use Rattle.jpa_model.specs.declared.unit.Origin.{Origin}
 use Rattle.jpa_model.specs.declared.unit.PersistenceUnit.{PersistenceUnit}
 use Rattle.jpa_model.specs.declared.unit.Root.{Root}
-use Rattle.jpa_model.specs.Chains.{entity_at, no_entity, relations_of, or_else}
+use Rattle.jpa_model.specs.Chains.{entity_at, no_entity, relations_of, root_of, or_else}
 use Rattle.jpa_behaviour.specs.Behaviour.{World, IsRegular}
 use Rattle.jpa_stored.specs.declared.objects.stored.Stored.{Stored}
 use Rattle.jpa_stored.specs.objects.Sets.{StoredSet, stored_at, with_stored, without}
@@ -20,38 +18,41 @@ use Rattle.jpa_rows.specs.declared.rows.schema.Schema.{Schema}
 use Rattle.jpa_rows.specs.rows.Rows.{RowId, Rows, cells_of, table_of}
 use Rattle.jpa_rows.specs.rows.Tables.{schema_of}
 use Rattle.jpa_rows.specs.laws.Changes.{dropped}
-use Rattle.jpa_rows.proofs.laws.Facts.{and_second, is_less, first_holds, second_holds}
+use Rattle.jpa_rows.specs.laws.Entries.{read_by}
+use Rattle.jpa_rows.proofs.laws.Facts.{and_second, some_none}
 use Rattle.jpa_rows.proofs.laws.Each.{Each}
-use Rattle.jpa_rows.proofs.laws.Maps.{put_by_answers, put_first, dropped_rises, dropped_other, found_dropped, put_again}
-use Rattle.jpa_rows.proofs.laws.Elements.{found_has}
+use Rattle.jpa_rows.proofs.laws.Maps.{same_answers, put_by_answers, dropped_rises, dropped_other, found_dropped, put_again}
+use Rattle.jpa_rows.proofs.laws.Elements.{found_has, same_option}
 use Rattle.jpa_rows.proofs.laws.Lists.{all_each, all_from, all_where}
 use Rattle.jpa_object_rows.specs.meaning.Rows as by_bytes
 use Rattle.jpa_object_rows.specs.meaning.Rows.{row_of}
-use Rattle.jpa_object_rows.specs.meaning.Identities.{IsSpelled}
-use Rattle.jpa_object_rows.specs.meaning.View.{is_storable, AreStorable, pairs_of}
+use Rattle.jpa_object_rows.specs.meaning.Identities.{root_at}
+use Rattle.jpa_object_rows.specs.meaning.View.{is_storable, AreStorable, stored_in}
 use Rattle.jpa_object_rows.specs.meaning.Unambiguous.{IsUnambiguous, is_class, joins_of}
 use Rattle.jpa_object_rows.proofs.meaning.Bytes.Orders.{identities, are_same_numbers}
 use Rattle.jpa_object_rows.proofs.meaning.Bytes.Mapped.{IsMapped}
 use Rattle.jpa_object_rows.proofs.meaning.Bytes.MappedClasses.{unambiguous_mapped}
 use Rattle.jpa_object_rows.proofs.meaning.Bytes.Reading.{storable, object_spelled}
 use Rattle.jpa_object_rows.proofs.meaning.Bytes.SetLaws.{is_without}
-use Rattle.jpa_object_rows.proofs.meaning.Bytes.Others.{apart_identities, Stays, stays_self, stays_then}
-use Rattle.jpa_object_rows.proofs.meaning.Bytes.Whole.{object_stays}
-use Rattle.jpa_object_rows.proofs.meaning.Bytes.Numbers.{small_table, numbers_no_pairs, numbers_no_set}
-use Rattle.jpa_object_rows.proofs.meaning.Bytes.Rounds.{none_held}
+use Rattle.jpa_object_rows.proofs.meaning.Bytes.Kept.{each_storable}
+use Rattle.jpa_object_rows.proofs.meaning.Bytes.Keys.{table_is}
+use Rattle.jpa_object_rows.proofs.meaning.Bytes.Others.{apart_identities}
+use Rattle.jpa_object_rows.proofs.meaning.Bytes.Numbers.{small_table}
 use Rattle.jpa_object_rows.specs.meaning.Raw.{raw, AreNamed, AreWhole, IsRowBy}
-use Rattle.jpa_object_rows.specs.meaning.Objects.{is_discriminator, number_id, number_row, object_entries, object_rows, with_object, without_pairs, without_object}
+use Rattle.jpa_object_rows.specs.meaning.Objects.{is_discriminator, main_row, number_id, number_row, object_entries, object_rows, with_object, without_pairs, without_object}
 use Rattle.jpa_rows.specs.rows.NextNumbers.{next_entries, base_of, number_rows}
-use Rattle.jpa_object_rows.specs.meaning.Sets.{set_in, numbers_in, AreOnes, AreUnitRows, with_set, rows_of}
-use Rattle.jpa_object_rows.proofs.meaning.Over.{found_over, object_over_spelled}
-use Rattle.jpa_object_rows.proofs.meaning.Named.{object_named, pairs_named}
+use Rattle.jpa_object_rows.specs.meaning.Sets.{set_in, numbers_in, AreOnes, AreUnitRows, StandsIn, with_set, rows_of}
+use Rattle.jpa_object_rows.proofs.meaning.Over.{found_over}
+use Rattle.jpa_object_rows.proofs.meaning.Named.{object_named}
 use Rattle.jpa_object_rows.proofs.meaning.Targets.{same_id}
-use Rattle.jpa_object_rows.proofs.meaning.Read.{same_by_table}
-use Rattle.jpa_object_rows.proofs.meaning.Sets.{raw_rows_rise, set_put_in}
+use Rattle.jpa_object_rows.proofs.meaning.Read.{same_by_table, some_in}
+use Rattle.jpa_object_rows.proofs.meaning.Sets.{set_in_rises, stored_read_in}
 use Rattle.jpa_object_rows.proofs.meaning.Kept.{unit_put, unit_numbered}
 use Rattle.jpa_object_rows.proofs.meaning.NextNumbers.{rows_keep, base_keeps, entry_given, found_row, number_found, all_read, has_set, others_set}
 use Rattle.jpa_object_rows.proofs.meaning.Marked.{set_passed}
-use Rattle.jpa_object_rows.proofs.meaning.Apart.{IsNew, set_rises, rows_new, rows_put, object_undone, object_over}
+use Rattle.jpa_object_rows.proofs.meaning.Apart.{IsNew, absent_others, set_rises, rows_new, pair_new, rows_put, object_undone, object_over}
+use Rattle.jpa_object_rows.proofs.meaning.StandsOver.{stands_over}
+use Rattle.jpa_object_rows.proofs.meaning.Scans.{main_found}
 
 -- ---- rows with the same bytes are one
 
@@ -112,19 +113,6 @@ module _ (world : World) (mapped : IsMapped world.model) (regular : IsRegular wo
   set_unit (e ∷ set) h rows unit =
       unit_put world mapped regular e.0 e.1 h.0 (named (e.1).class (storable world e.0 e.1 h.0).class) (with_set world set rows) (set_unit set h.1 rows unit)
 
-  -- an identity below those of a set reads what it read before them
-  set_stays : (q : Identity) → IsSpelled world.model q → (set : StoredSet) → T (below_all identity_cmp q set) → AreStorable world set → (rows : Rows) → AreUnitRows world.model rows
-      → Stays world.model q (raw rows) (raw (with_set world set rows))
-  set_stays q sq [] low h rows unit = stays_self world.model q (raw rows)
-  set_stays q sq (e ∷ set) low h rows unit =
-      let m = world.model in
-      let mid = with_set world set rows in
-      let mid_rows = (set_unit set h.1 rows unit).named in
-      let spelled = object_over_spelled (schema_of m) world e.0 e.1 (object_named world clear e.0 e.1 h.0) (pairs_named world clear e.0 e.1 h.0) mid mid_rows in
-      stays_then m q (raw rows) (raw mid) (raw (with_set world (e ∷ set) rows)) (set_stays q sq set (second_holds _ _ low) h.1 rows unit)
-      (subst (Stays m q (raw mid)) (sym spelled)
-      (object_stays world clear e.0 e.1 h.0 q sq (ap is_eq (is_less (identity_cmp q e.0) (first_holds _ _ low))) (raw mid) (raw_rows_rise world mid mid_rows)))
-
   module _ (numbers : List ℕ) (are : are_numbers world.model numbers ≡ true) where
     numbers_in_unit : AreUnitRows world.model (number_rows world.model numbers)
     numbers_in_unit = numbers_unit world.model clear numbers are
@@ -132,19 +120,7 @@ module _ (world : World) (mapped : IsMapped world.model) (regular : IsRegular wo
     pub rows_of_unit : (set : StoredSet) → AreStorable world set → AreUnitRows world.model (rows_of world set numbers)
     rows_of_unit set h = set_unit set h (number_rows world.model numbers) numbers_in_unit
 
-    -- the set and the next numbers are read again
-    pub set_read_in : (set : StoredSet) → T (is_sorted identity_cmp set) → AreStorable world set → set_in world (rows_of world set numbers) ≡ set
-    set_read_in [] up h = numbers_no_set world clear numbers
-    set_read_in (e ∷ set) up h =
-        let m = world.model in
-        let mid = rows_of world set numbers in
-        let se = object_spelled world clear e.0 e.1 h.0 in
-        let same = (set_stays e.0 se set (first_holds _ _ up) h.1 (number_rows m numbers) numbers_in_unit).pairs in
-        set_put_in world clear e.0 e.1 h.0 mid (rows_of_unit set h.1).named regular
-        (none_held (pairs_of m (raw mid) e.0) (relations_of m (e.1).class) (λ join target. (λ i. same i join target) ∙ numbers_no_pairs m clear numbers e.0 join target))
-        ∙ ap (with_stored e.0 e.1) (set_read_in set (second_holds _ _ up) h.1)
-        ∙ put_first identity_cmp e.0 e.1 set (first_holds _ _ up)
-
+    -- the next numbers are read again
     pub numbers_read_in : (set : StoredSet) → AreStorable world set → numbers_in world.model (rows_of world set numbers) ≡ numbers
     numbers_read_in set h =
         let m = world.model in
@@ -182,6 +158,14 @@ module _ (world : World) (mapped : IsMapped world.model) (regular : IsRegular wo
         old_new : Each (IsNew rest) (object_entries world id old)
         old_new = rows_new world clear numbers id old old_storable left (found_dropped identities id set) left_storable
 
+        -- it stands in the rows of the set
+        pub set_stands : StandsIn world (rows_of world set numbers) id old
+        set_stands =
+            subst (λ rs. StandsIn world rs id old) (sym parted)
+            (stands_over world clear id old old_storable rest (set_rises world clear numbers left)
+            (λ join t joins. pair_new world clear numbers id (object_spelled world clear id old old_storable) join t joins left (absent_others id left (found_dropped identities id set)) left_storable)
+            (subst (AreUnitRows world.model) parted (rows_of_unit set h)))
+
         -- an object in the place of the old one, of any class
         pub rows_replaced_in : (x : Stored) → is_storable world id x ≡ true
             → with_object world id x (without_pairs world id old (rows_of world set numbers)) ≡ rows_of world (with_stored id x set) numbers
@@ -196,6 +180,32 @@ module _ (world : World) (mapped : IsMapped world.model) (regular : IsRegular wo
             ap (without_object world id old) parted
             ∙ object_undone world id old rest (set_rises world clear numbers left) old_new
             ∙ ap (λ s. rows_of world s numbers) (is_without id set)
+
+      -- the set is read again
+      read_again : (q : Identity) (x : Stored) → stored_at set q ≡ Some x → stored_at (set_in world (rows_of world set numbers)) q ≡ Some x
+      read_again q x at =
+          let unit = rows_of_unit set h in
+          some_in world clear (rows_of world set numbers) unit.named unit.ones q x (old_storable q x at) regular (set_stands q x at)
+
+      read_alone : (q : Identity) (y : Stored) → stored_at (set_in world (rows_of world set numbers)) q ≡ Some y → stored_at set q ≡ Some y
+      read_alone q y e =
+          let rows = rows_of world set numbers in
+          let g = all_each (λ (d : Identity × Stored). is_storable world d.0 d.1 ≡ true) (set_in world rows) (each_storable world (raw rows)) (q, y) (found_has identities q y (set_in world rows) e) in
+          let s = storable world q y g in
+          let root = root_of world.model y.class in
+          let main = main_found world clear q root (ap (root_at world.model) (table_is root q s.of_root) ∙ clear.root y.class s.class) set h numbers in
+          by_stored (stored_at set q) refl
+          (ap (λ o. read_by (stored_in world (raw rows) q) (option_map cells_of o)) (sym main)
+          ∙ sym (stored_read_in world rows (rows_of_unit set h).named q (object_named world clear q y g) (object_spelled world clear q y g)) ∙ e)
+        where
+          by_stored : (o : Option Stored) → stored_at set q ≡ o → read_by (stored_in world (raw (rows_of world set numbers)) q) (option_map cells_of (option_map (main_row world) o)) ≡ Some y → o ≡ Some y
+          by_stored None at read = absurd (some_none y (sym read))
+          by_stored (Some x) at read = sym (read_again q x at) ∙ e
+
+      pub set_read_in : set_in world (rows_of world set numbers) ≡ set
+      set_read_in =
+          same_answers identities (set_in world (rows_of world set numbers)) set (set_in_rises world (rows_of world set numbers)) up
+          (λ q. same_option (stored_at (set_in world (rows_of world set numbers)) q) (stored_at set q) (read_alone q) (read_again q))
 
   -- the next number of a root with generated keys, which is not 1 any more
   pub rows_numbered_in : (set : StoredSet) → AreStorable world set → (numbers : List ℕ) → are_numbers world.model numbers ≡ true → (class k : ℕ) (root : Root) → is_class world.model class ≡ true

@@ -16,7 +16,7 @@ use Rattle.jpa_rows.proofs.laws.Facts.{and_first, true_false}
 use Rattle.jpa_object_rows.specs.meaning.Rows as by_bytes
 use Rattle.jpa_object_rows.specs.meaning.Rows.{row_cmp, row_of}
 use Rattle.jpa_object_rows.specs.meaning.Raw.{raw, is_key_by, is_id_of, AreNamed}
-use Rattle.jpa_object_rows.proofs.meaning.Renamed.{KeepsOrder, found_renamed, sorted_renamed, put_renamed, keys_put}
+use Rattle.jpa_object_rows.proofs.meaning.Renamed.{KeepsOrder, found_renamed, sorted_renamed, keys_put}
 
 -- ---- the order of ids
 
@@ -50,9 +50,6 @@ module _ (schema : Schema) where
 
   pub raw_rises : (rows : Rows) → AreNamed schema rows → AreRising rows → by_bytes.AreRising (raw rows)
   raw_rises rows h rise = subst T (sym (sorted_renamed (ids_keep_order schema) cells_of rows h)) rise
-
-  pub raw_put : (id : RowId) → is_id_of schema id ≡ true → (row : Row) (rows : Rows) → AreNamed schema rows → raw (put identity_cmp id row rows) ≡ put row_cmp (row_of id) (cells_of row) (raw rows)
-  raw_put id p row rows h = put_renamed (ids_keep_order schema) cells_of id p row rows h
 
   -- ---- ids stay those of the schema
 

@@ -89,7 +89,3 @@ module _ (world : World) (clear : IsUnambiguous world.model) (q : RowId) (root :
       set_found set h (number_rows world.model numbers)
       ∙ ap (or_else (option_map (main_row world) (stored_at set q))) (past_numbers world.model clear q root at numbers)
       ∙ or_none (option_map (main_row world) (stored_at set q))
-
--- ---- a whole table
-
--- ---- inverse sides

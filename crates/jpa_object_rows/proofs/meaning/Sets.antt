@@ -4,25 +4,23 @@ use Rattle.std.proofs.Common.{ap, ◌∙◌}
 use Rattle.std.specs.FinMap.{find, is_sorted}
 use Rattle.jpa_value.specs.declared.value.Identity.{Identity}
 use Rattle.jpa_value.specs.Value.{identity_cmp}
-use Rattle.jpa_model.specs.Chains.{relations_of}
-use Rattle.jpa_behaviour.specs.Behaviour.{World, IsRegular}
+use Rattle.jpa_behaviour.specs.Behaviour.{World}
 use Rattle.jpa_stored.specs.declared.objects.stored.Stored.{Stored}
-use Rattle.jpa_stored.specs.objects.Sets.{stored_at, with_stored}
+use Rattle.jpa_stored.specs.objects.Sets.{stored_at}
 use Rattle.jpa_rows.specs.rows.Rows.{Rows, cells_of}
 use Rattle.jpa_rows.specs.rows.Tables.{schema_of}
 use Rattle.jpa_rows.specs.laws.Entries.{read_by}
 use Rattle.jpa_object_rows.specs.meaning.Rows as by_bytes
-use Rattle.jpa_object_rows.specs.meaning.View.{set_of, stored_in, is_storable, HoldsNone}
+use Rattle.jpa_object_rows.specs.meaning.View.{stored_in, is_storable}
 use Rattle.jpa_object_rows.specs.meaning.Identities.{IsSpelled}
 use Rattle.jpa_object_rows.specs.meaning.Unambiguous.{IsUnambiguous}
 use Rattle.jpa_object_rows.proofs.meaning.Bytes.SetLaws.{set_rises, stored_read}
-use Rattle.jpa_object_rows.proofs.meaning.Bytes.Whole.{object_put}
 use Rattle.jpa_object_rows.specs.meaning.Raw.{raw, is_id_of, AreIds, AreRowsOf}
 use Rattle.jpa_object_rows.specs.meaning.Objects.{with_object}
 use Rattle.jpa_object_rows.specs.meaning.Objects as objects
 use Rattle.jpa_object_rows.specs.meaning.Sets.{set_in}
 use Rattle.jpa_object_rows.proofs.meaning.Raw.{raw_found, raw_rises}
-use Rattle.jpa_object_rows.proofs.meaning.Over.{object_over_spelled, object_over_rows}
+use Rattle.jpa_object_rows.proofs.meaning.Over.{object_over_rows}
 use Rattle.jpa_object_rows.proofs.meaning.Named.{object_named, pairs_named}
 
 pub set_in_rises : (world : World) (rows : Rows) → T (is_sorted identity_cmp (set_in world rows))
@@ -47,8 +45,3 @@ module _ (world : World) (clear : IsUnambiguous world.model) (id : Identity) (x 
   -- rows of the schema stay such
   pub put_rows : AreRowsOf (schema_of world.model) (with_object world id x rows)
   put_rows = object_over_rows (schema_of world.model) world id x main own rows h
-
-  -- a new object
-  pub set_put_in : IsRegular world → HoldsNone world.model (raw rows) id (relations_of world.model x.class) → set_in world (with_object world id x rows) ≡ with_stored id x (set_in world rows)
-  set_put_in regular none =
-      ap (set_of world) (object_over_spelled (schema_of world.model) world id x main own rows h) ∙ object_put world clear regular (raw rows) (raw_rows_rise world rows h) id x storable none

@@ -25,19 +25,26 @@ use Rattle.jpa_object_rows.proofs.meaning.Named.{identity_key}
 use Rattle.jpa_object_rows.proofs.meaning.NextNumbers.{zipped_first}
 use Rattle.jpa_object_rows.proofs.meaning.Targets.{OwnsIn, pairs_read}
 
+-- what is held along relations is told by those with a join table
+pub pairs_from : (pairs : Pairs) (ps : List (Relation × List Identity)) → ((p : Relation × List Identity) → Has ps p → (join : ℕ) → (p.0).side ≡ Side.ManyToMany join → pairs join (p.0).target ≡ p.1)
+    → PairsAre pairs ps
+pairs_from pairs [] h = tt
+pairs_from pairs (p ∷ ps) h = (by_side (p.0).side (h p (inl refl)), pairs_from pairs ps (λ q k. h q (inr k)))
+  where
+    by_side : (side : Side) → ((join : ℕ) → side ≡ Side.ManyToMany join → pairs join (p.0).target ≡ p.1) → SideHas pairs (p.0).target p.1 side
+    by_side (Side.ManyToOne c) g = tt
+    by_side (Side.OneToOne c) g = tt
+    by_side (Side.OneToOneInverse o) g = tt
+    by_side (Side.OneToMany o) g = tt
+    by_side (Side.ManyToMany join) g = g join refl
+    by_side (Side.ManyToManyInverse o) g = tt
+
 -- pairs that are the same along these relations are held alike
 pub same_pairs : (pairs others : Pairs) (ps : List (Relation × List Identity)) → ((p : Relation × List Identity) → Has ps p → (join : ℕ) → (p.0).side ≡ Side.ManyToMany join → pairs join (p.0).target ≡ others join (p.0).target)
     → PairsAre pairs ps → PairsAre others ps
-same_pairs pairs others [] same h = tt
-same_pairs pairs others (p ∷ ps) same h = (by_side (p.0).side (λ join e. same p (inl refl) join e) h.0, same_pairs pairs others ps (λ q k. same q (inr k)) h.1)
-  where
-    by_side : (side : Side) → ((join : ℕ) → side ≡ Side.ManyToMany join → pairs join (p.0).target ≡ others join (p.0).target) → SideHas pairs (p.0).target p.1 side → SideHas others (p.0).target p.1 side
-    by_side (Side.ManyToOne c) same has = tt
-    by_side (Side.OneToOne c) same has = tt
-    by_side (Side.OneToOneInverse o) same has = tt
-    by_side (Side.OneToMany o) same has = tt
-    by_side (Side.ManyToMany join) same has = sym (same join refl) ∙ has
-    by_side (Side.ManyToManyInverse o) same has = tt
+same_pairs pairs others ps same h =
+    pairs_from others ps
+    (λ p k join side. sym (same p k join side) ∙ subst (SideHas pairs (p.0).target p.1) side (all_each (λ (q : Relation × List Identity). SideHas pairs (q.0).target q.1 (q.0).side) ps h p k))
 
 -- an identity of a class's hierarchy, whose key can be spelled
 module _ (m : PersistenceUnit) (clear : IsUnambiguous m) (class : ℕ) (is : is_class m class ≡ true) (owner : Identity) (of_root : is_identity_of (root_of m class) owner ≡ true)

@@ -22,19 +22,18 @@ use Rattle.jpa_rows.specs.declared.rows.schema.Schema.{Schema}
 use Rattle.jpa_rows.specs.rows.Rows.{RowId, Row, Rows, AreRising, is_key, table_of, table_rows, cells_of}
 use Rattle.jpa_rows.specs.rows.Tables.{kinds_of, schema_of}
 use Rattle.jpa_rows.specs.laws.Entries.{entry_if, put_if, entries_of}
-use Rattle.jpa_rows.proofs.laws.Facts.{and_first, and_second, and_both, value_in, some_none, is_equal, first_holds, second_holds, both_hold, true_false, give_if}
+use Rattle.jpa_rows.proofs.laws.Facts.{and_first, and_second, and_both, value_in, some_none, is_equal, first_holds, second_holds, both_hold, true_false}
 use Rattle.jpa_rows.proofs.laws.Elements.{from_filter}
 use Rattle.jpa_rows.proofs.laws.Lists.{all_from, all_where}
 use Rattle.jpa_rows.proofs.laws.Maps.{put_first}
 use Rattle.jpa_object_rows.specs.meaning.Rows.{row_cmp, row_of}
 use Rattle.jpa_object_rows.specs.meaning.Identities.{is_join_of, target_at}
-use Rattle.jpa_object_rows.specs.meaning.Written as written
 use Rattle.jpa_object_rows.specs.meaning.View.{pair_from}
 use Rattle.jpa_object_rows.specs.meaning.View as view
-use Rattle.jpa_object_rows.proofs.meaning.Bytes.Orders.{identities, row_ids, same_columns_itself, same_number, are_same_numbers}
+use Rattle.jpa_object_rows.proofs.meaning.Bytes.Orders.{identities, row_ids, same_number, are_same_numbers}
 use Rattle.jpa_object_rows.proofs.meaning.Bytes.Spelling.{pair_spelled}
 use Rattle.jpa_object_rows.proofs.meaning.Bytes.Others.{unless_paired}
-use Rattle.jpa_object_rows.proofs.meaning.Bytes.Joins.{elsewhere_unread}
+use Rattle.jpa_object_rows.proofs.meaning.Bytes.Joins.{elsewhere_unread, marked, unmarked, pair_stands}
 use Rattle.jpa_object_rows.specs.meaning.Raw.{raw, is_key_by, is_id_of, AreNamed, AreRowsOf}
 use Rattle.jpa_object_rows.specs.meaning.Objects.{pair_id}
 use Rattle.jpa_object_rows.specs.meaning.Objects as objects
@@ -148,7 +147,7 @@ module _ (m : PersistenceUnit) (owner : Identity) (join target : ℕ) (owns : Ow
   pair_key : (key : List Value) → is_id_of (schema_of m) (identity_of join key) ≡ is_key (owns.kinds ++ target_kinds) key
   pair_key key = ap (λ o. is_key_by o key) owns.found
 
-  pair_named : (t : Identity) → is_identity_of root t ≡ true → names_representable t ≡ true → is_id_of (schema_of m) (pair_id join owner t) ≡ true
+  pub pair_named : (t : Identity) → is_identity_of root t ≡ true → names_representable t ≡ true → is_id_of (schema_of m) (pair_id join owner t) ≡ true
   pair_named t h g = pair_key (owner.key ++ t.key) ∙ keys_joined owns.kinds target_kinds owner.key t.key owns.whole (identity_key root t h g)
 
   later_key : (key : List Value) → is_key (owns.kinds ++ target_kinds) (owner.key ++ key) ≡ true → is_key target_kinds key ≡ true
@@ -181,13 +180,6 @@ module _ (m : PersistenceUnit) (owner : Identity) (join target : ℕ) (owns : Ow
   abbrev picked : Rows → List Identity
   picked = flat_map (λ e. if_any (target_in m target owner e.0))
 
-  abbrev marked : List Identity → List (Identity × Bool)
-  marked = map (λ t. (t, true))
-
-  unmarked : (ts : List Identity) → map (λ e. e.0) (marked ts) ≡ ts
-  unmarked [] = refl
-  unmarked (t ∷ ts) = ap (λ r. t ∷ r) (unmarked ts)
-
   abbrev OfTable : Rows → Type 0
   OfTable = AllByRecursion (λ e. (e.0).table ≡ join)
 
@@ -213,9 +205,6 @@ module _ (m : PersistenceUnit) (owner : Identity) (join target : ℕ) (owns : Ow
           (first_holds _ _ low))
           others
 
-  pair_stands : (t : Identity) (row : Row) → row ≡ objects.pair_row → pair_from t (cells_of row) ≡ Some true
-  pair_stands t row e = ap (λ r. pair_from t (cells_of r)) e ∙ give_if true _ true refl (same_columns_itself written.pair_columns)
-
   table_read : (rows : Rows) → OfTable rows → AreNamed (schema_of m) rows → AllByRecursion (λ e. e.1 ≡ objects.pair_row) rows → AreRising rows
       → entries_of identity_cmp (target_at m target owner join) pair_from (raw rows) ≡ marked (picked rows)
   table_read [] h g ones rise = refl
@@ -232,7 +221,7 @@ module _ (m : PersistenceUnit) (owner : Identity) (join target : ℕ) (owns : Ow
       by_answer None a = refl
       by_answer (Some rest) a =
           let t = identity_of root.table rest in
-          ap (λ o. put_if identity_cmp t o (marked (picked rows))) (pair_stands t e.1 ones.0)
+          ap (λ o. put_if identity_cmp t o (marked (picked rows))) (ap (λ r. pair_from t (cells_of r)) ones.0 ∙ pair_stands t)
           ∙ put_first identity_cmp t true (marked (picked rows))
           (targets_below (e.0).key rest a rows h.1 (subst (λ z. T (below_all identity_cmp z rows)) (in_table e.0 h.0) (first_holds _ _ rise)))
 

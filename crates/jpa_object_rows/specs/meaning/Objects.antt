@@ -34,5 +34,3 @@ without_pairs world id x rows = without_rows (pair_ids world id x) rows
 -- rows without those of an object
 abbrev pub without_object : World → Identity → Stored → Rows → Rows
 without_object world id x rows = dropped identity_cmp id (without_pairs world id x rows)
-
--- ---- as changes

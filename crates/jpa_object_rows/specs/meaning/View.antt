@@ -170,7 +170,3 @@ SideHas pairs target ids (Side.ManyToManyInverse owner) = Unit {0}
 -- the pairs of an owner are those that an object owns along these relations, each
 abbrev pub PairsAre : Pairs → List (Relation × List Identity) → Type 0
 PairsAre pairs = AllByRecursion (λ p. SideHas pairs (p.0).target p.1 (p.0).side)
-
--- an owner holds no pairs along these relations
-abbrev pub HoldsNone : PersistenceUnit → Rows → Identity → List Relation → Type 0
-HoldsNone m rows owner relations = PairsAre (pairs_of m rows owner) (map (λ r. (r, [])) relations)

@@ -1,7 +1,6 @@
--- The rows of a stored object, by their bytes.
+-- The main row of a stored object, by its bytes.
 use Rattle.std.specs.Prelude.{ℕ, ℤ, pos, List, [], ◌∷◌, ◌++◌, map, Option, Some, None}
 use Rattle.std.specs.List.{flat_map, zip}
-use Rattle.std.specs.FinMap.{put}
 use Rattle.std.specs.Ordering.{int_cmp}
 use Rattle.jpa_value.specs.declared.value.Value.{Value}
 use Rattle.jpa_value.specs.declared.value.Identity.{Identity}
@@ -16,8 +15,7 @@ use Rattle.jpa_rows.specs.keys.Keys.{key_bytes, int_bytes}
 use Rattle.jpa_stored.specs.declared.objects.stored.Stored.{Stored}
 use Rattle.jpa_rows.specs.rows.Cells.{value_bytes, column_value}
 use Rattle.jpa_rows.specs.laws.Slots.{filled}
-use Rattle.jpa_object_rows.specs.meaning.Rows.{row_cmp, Columns, Rows, row_of}
-use Rattle.jpa_object_rows.specs.meaning.Identities.{pair_row}
+use Rattle.jpa_object_rows.specs.meaning.Rows.{Columns}
 
 -- ---- the main row of an object
 
@@ -79,29 +77,3 @@ columns_of world x = filled int_cmp (slots_of world x)
 -- the cells of a pair's row, which says 1
 abbrev pub pair_columns : Columns
 pair_columns = (pos 0, 1 ∷ int_bytes (pos 1)) ∷ []
-
--- rows with those of an owner's pairs in a join table
-abbrev pub with_pairs : ℕ → Identity → List Identity → Rows → Rows
-with_pairs join owner [] rows = rows
-with_pairs join owner (t ∷ ts) rows = put row_cmp (pair_row join owner t) pair_columns (with_pairs join owner ts rows)
-
--- rows with those of an owner's pairs along a side
-abbrev pub with_side : Identity → Side → List Identity → Rows → Rows
-with_side owner (Side.ManyToOne c) ids rows = rows
-with_side owner (Side.OneToOne c) ids rows = rows
-with_side owner (Side.OneToOneInverse o) ids rows = rows
-with_side owner (Side.OneToMany o) ids rows = rows
-with_side owner (Side.ManyToMany join) ids rows = with_pairs join owner ids rows
-with_side owner (Side.ManyToManyInverse o) ids rows = rows
-
--- rows with those of an owner's pairs along relations
-abbrev pub with_joins : Identity → List (Relation × List Identity) → Rows → Rows
-with_joins owner [] rows = rows
-with_joins owner (p ∷ ps) rows = with_side owner (p.0).side p.1 (with_joins owner ps rows)
-
--- ---- objects
-
--- rows with those of an object: its main row and its pairs
-abbrev pub with_object : World → Identity → Stored → Rows → Rows
-with_object world id x rows =
-    put row_cmp (row_of id) (columns_of world x) (with_joins id (zip (relations_of world.model x.class) x.owned) rows)

@@ -108,5 +108,3 @@ opened_twice world h tables = by (is_due world.model (tables (pos 0))) refl
 
 pub opened_same : (world : World) (h : History) (tables : Tables) → opened_tables world h (opened_tables world h tables) ≡ opened_tables world h tables
 opened_same world h tables = λ i t. cond (opened_twice world h tables i) (rows_migrated world h t (opened_tables world h tables t)) (opened_tables world h tables t)
-
--- ---- what stands for a row that revision 1 cannot have spells none

@@ -1,27 +1,12 @@
 -- A set that a store can hold has storable objects alone; and what holds where nothing is read.
-use Rattle.std.specs.Prelude.{◌≡◌, ℕ, true, ◌&&◌, List, [], ◌∷◌, map}
+use Rattle.std.specs.Prelude.{◌≡◌, ℕ, true, ◌&&◌, List, [], ◌∷◌}
 use Rattle.std.specs.List.{zip, list_all}
-use Rattle.jpa_model.specs.declared.unit.Relation.{Relation}
-use Rattle.jpa_model.specs.declared.unit.Side.{Side}
 use Rattle.jpa_model.specs.Chains.{attributes_of}
 use Rattle.jpa_behaviour.specs.Behaviour.{World}
 use Rattle.jpa_stored.specs.objects.Sets.{StoredSet, is_shaped, all_shaped}
 use Rattle.jpa_rows.specs.rows.Cells.{CanBeHeld, all_representable, all_pass, names_representable, holds_representable, passes}
 use Rattle.jpa_rows.proofs.laws.Facts.{and_first, and_second, and_both}
-use Rattle.jpa_object_rows.specs.meaning.View.{Pairs, PairsAre, SideHas, AreStorable}
-
--- relations along which nothing is read hold nothing
-pub none_held : (pairs : Pairs) (relations : List Relation) → ((join target : ℕ) → pairs join target ≡ []) → PairsAre pairs (map (λ r. (r, [])) relations)
-none_held pairs [] h = tt
-none_held pairs (r ∷ relations) h = (by_side r.side, none_held pairs relations h)
-  where
-    by_side : (side : Side) → SideHas pairs r.target [] side
-    by_side (Side.ManyToOne c) = tt
-    by_side (Side.OneToOne c) = tt
-    by_side (Side.OneToOneInverse o) = tt
-    by_side (Side.OneToMany o) = tt
-    by_side (Side.ManyToMany join) = h join r.target
-    by_side (Side.ManyToManyInverse o) = tt
+use Rattle.jpa_object_rows.specs.meaning.View.{AreStorable}
 
 -- a set that a store can hold has storable objects alone
 storable_each : (world : World) (set : StoredSet) → all_representable set ≡ true → all_shaped world.model set ≡ true → all_pass world set ≡ true → AreStorable world set

@@ -1,5 +1,5 @@
 -- The set that rows stand for: reading one identity, and what a change of rows makes of it.
-use Rattle.std.specs.Prelude.{◌≡◌, Bool, true, false, ◌||◌, not, [], ◌∷◌, Some, T}
+use Rattle.std.specs.Prelude.{◌≡◌, Bool, true, false, ◌||◌, not, [], ◌∷◌, T}
 use Rattle.std.proofs.Common.{refl, ◌∙◌}
 use Rattle.std.specs.FinMap.{is_sorted}
 use Rattle.std.specs.FinMap.Entries.{where_key}
@@ -7,11 +7,9 @@ use Rattle.std.specs.Ordering.{eq_by_cmp}
 use Rattle.jpa_value.specs.declared.value.Identity.{Identity}
 use Rattle.jpa_value.specs.Value.{identity_cmp, same_identity}
 use Rattle.jpa_behaviour.specs.Behaviour.{World}
-use Rattle.jpa_stored.specs.declared.objects.stored.Stored.{Stored}
-use Rattle.jpa_stored.specs.objects.Sets.{StoredSet, stored_at, with_stored, without}
+use Rattle.jpa_stored.specs.objects.Sets.{StoredSet, stored_at, without}
 use Rattle.jpa_rows.specs.laws.Changes.{dropped}
 use Rattle.jpa_rows.proofs.laws.Entries.{entries_rise, found}
-use Rattle.jpa_rows.proofs.laws.OneRow.{entry_put}
 use Rattle.jpa_rows.proofs.laws.Maps.{ties_back}
 use Rattle.jpa_object_rows.specs.meaning.Rows.{Rows, AreRising}
 use Rattle.jpa_object_rows.specs.meaning.View.{set_of, stored_in, read_at}
@@ -25,14 +23,6 @@ set_rises world rows = entries_rise (spells world.model) (stored_in world rows) 
 -- one row and its pairs are read, and no other
 pub stored_read : (world : World) (rows : Rows) → AreRising rows → (id : Identity) → IsSpelled world.model id → stored_at (set_of world rows) id ≡ read_at world rows id
 stored_read world rows rise id spelled = found (spells world.model) (stored_in world rows) id spelled rows rise
-
--- any change of the rows after which one identity alone is read anew
-pub set_put : (world : World) (rows news : Rows) → AreRising rows → AreRising news → (id : Identity) (x : Stored) → IsSpelled world.model id
-    → read_at world news id ≡ Some x
-    → ((q : Identity) → IsSpelled world.model q → same_identity q id ≡ false → read_at world news q ≡ read_at world rows q)
-    → set_of world news ≡ with_stored id x (set_of world rows)
-set_put world rows news rise rise_new id x spelled here others =
-    entry_put (spells world.model) (stored_in world rows) (stored_in world news) rows news rise rise_new id x spelled here others
 
 -- the words of the set for it
 pub is_without : (id : Identity) (s : StoredSet) → dropped identity_cmp id s ≡ without (id ∷ []) s
