@@ -34,7 +34,7 @@ use Rattle.jpa_object_rows.specs.meaning.Objects.{is_discriminator, main_row}
 use Rattle.jpa_object_rows.specs.meaning.Sets.{rows_of, targets_in}
 use Rattle.jpa_object_rows.proofs.meaning.Objects.{main_row_spelled}
 use Rattle.jpa_object_rows.proofs.meaning.Scans.{main_found}
-use Rattle.jpa_object_rows.proofs.meaning.Standing.{set_stands}
+use Rattle.jpa_object_rows.proofs.meaning.Exact.{set_stands}
 use Rattle.jpa_object_rows.specs.mapper.Mapped.{IsMainRow, IsReadAs}
 use Rattle.jpa_opening.specs.reader.Sound.{IsSoundRow}
 use Rattle.jpa_opening.specs.reader.OfSet.{AreOf}
