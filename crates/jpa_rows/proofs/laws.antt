@@ -5,9 +5,7 @@ pub mod Elements
 pub mod Lists
 -- ---- entries read off rows
 pub mod Entries
-pub mod OneRow
 pub mod Each
-pub mod Parts
 -- ---- changes over rows
 pub mod Overlay
 -- ---- rows handed on

@@ -1,17 +1,14 @@
 -- Which elements lists have, and which a finite map has after an entry was put.
-use Rattle.std.proofs.Common.{◌≡◌, ◌∙◌, ◌⊎◌, inl, inr, ◌<◌, ◌↔◌, refl, sym, ap, subst, arith, ℕ, zero, suc, Bool, true, false, cond, List, [], ◌∷◌, ◌++◌, length, map, Less, Equal, Greater}
+use Rattle.std.proofs.Common.{◌≡◌, ◌∙◌, ◌⊎◌, inl, inr, ◌<◌, ◌↔◌, refl, sym, ap, subst, arith, ℕ, zero, suc, Bool, true, false, cond, List, [], ◌∷◌, ◌++◌, length, map, Less}
 use Rattle.std.specs.Prelude.{slice_index_or, Contains, Option, Some, None, T}
 use Rattle.std.specs.List.{flat_map, filter}
-use Rattle.std.specs.FinMap.{find, put, is_sorted}
-use Rattle.std.specs.FinMap.Entries.{by_order, below_all}
+use Rattle.std.specs.FinMap.{find, is_sorted}
+use Rattle.std.specs.FinMap.Entries.{below_all}
 use Rattle.std.specs.Ordering.{eq_by_cmp, is_eq}
 use Rattle.std.specs.declared.cmp.Ordering.{Ordering}
 use Rattle.jpa_rows.specs.laws.Orders.{IsLinearOrder}
-use Rattle.jpa_rows.specs.laws.Entries.{put_if}
-use Rattle.jpa_rows.specs.laws.Slots.{filled, lacks, are_apart}
-use Rattle.jpa_rows.proofs.laws.Facts.{is_less, and_first, and_second, first_holds, second_holds, some_none, value_in, true_false}
+use Rattle.jpa_rows.proofs.laws.Facts.{is_less, first_holds, second_holds, some_none, value_in, true_false}
 use Rattle.jpa_rows.proofs.laws.Maps.{same_key, ties_itself, ties_back}
-use Rattle.jpa_rows.proofs.laws.Slots.{lacking}
 
 abbrev pub Has : {X : Type 0} → List X → X → Type 0
 Has [] x = ⊥
@@ -34,9 +31,6 @@ contains_from_has (y ∷ ys) x (inr h) = let r = contains_from_has ys x h in let
 
 abbrev pub SameElements : {X : Type 0} → List X → List X → Type 0
 SameElements {X} xs ys = (x : X) → Has xs x ↔ Has ys x
-
-pub same_self : {X : Type 0} (xs : List X) → SameElements xs xs
-same_self xs x = (λ h. h, λ h. h)
 
 pub same_eq : {X : Type 0} (xs ys : List X) → xs ≡ ys → SameElements xs ys
 same_eq xs ys e x = (λ h. subst (λ zs. Has zs x) e h, λ h. subst (λ zs. Has zs x) (sym e) h)
@@ -63,21 +57,6 @@ append_has (y ∷ xs) ys x (inl (inl e)) = inl e
 append_has (y ∷ xs) ys x (inl (inr h)) = inr (append_has xs ys x (inl h))
 append_has (y ∷ xs) ys x (inr h) = inr (append_has xs ys x (inr h))
 
-pub same_append : {X : Type 0} (xs ys us vs : List X) → SameElements xs ys → SameElements us vs → SameElements (xs ++ us) (ys ++ vs)
-same_append xs ys us vs a b x =
-    (λ h. append_has ys vs x (either (a x).0 (b x).0 (has_append xs us x h)), λ h. append_has xs us x (either (a x).1 (b x).1 (has_append ys vs x h)))
-
-pub same_swapped : {X : Type 0} (xs ys : List X) → SameElements (xs ++ ys) (ys ++ xs)
-same_swapped xs ys x = (λ h. append_has ys xs x (turned (has_append xs ys x h)), λ h. append_has xs ys x (turned (has_append ys xs x h)))
-  where
-    turned : {A B : Type 0} → A ⊎ B → B ⊎ A
-    turned (inl a) = inr a
-    turned (inr b) = inl b
-
-pub same_flat_map : {A X : Type 0} (f g : A → List X) (items : List A) → ((a : A) → Has items a → SameElements (f a) (g a)) → SameElements (flat_map f items) (flat_map g items)
-same_flat_map f g [] each = same_self []
-same_flat_map f g (a ∷ items) each = same_append (f a) (g a) (flat_map f items) (flat_map g items) (each a (inl refl)) (same_flat_map f g items (λ b h. each b (inr h)))
-
 -- ---- where an element comes from
 
 pub from_flat_map : {A X : Type 0} (f : A → List X) (items : List A) (x : X) → Has (flat_map f items) x → (a : A) × Has items a × Has (f a) x
@@ -103,12 +82,6 @@ into_map f [] a h = absurd h
 into_map f (b ∷ items) a (inl e) = inl (ap f e)
 into_map f (b ∷ items) a (inr h) = inr (into_map f items a h)
 
-map_within : {A X : Type 0} (f : A → X) (items others : List A) (x : X) → ((a : A) → Has items a → Has others a) → Has (map f items) x → Has (map f others) x
-map_within f items others x within h = let r = from_map f items x h in subst (Has (map f others)) r.2 (into_map f others r.0 (within r.0 r.1))
-
-pub same_map : {A X : Type 0} (f : A → X) (items others : List A) → SameElements items others → SameElements (map f items) (map f others)
-same_map f items others s x = (map_within f items others x (λ a. (s a).0), map_within f others items x (λ a. (s a).1))
-
 pub from_filter : {X : Type 0} (p : X → Bool) (xs : List X) (x : X) → Has (filter p xs) x → Has xs x × (p x ≡ true)
 from_filter p [] x h = absurd h
 from_filter {X} p (y ∷ ys) x h = by_test (p y) refl (λ k. from_filter p ys x k) h
@@ -129,26 +102,6 @@ into_filter {X} p (y ∷ ys) x h e = by_test (p y) refl (λ k. into_filter p ys 
     by_test false f rest (inr k) = rest k
 
 -- ---- finite maps
-
-turned_front : {X : Type 0} (x y : X) (zs : List X) (z : X) → Has (x ∷ y ∷ zs) z → Has (y ∷ x ∷ zs) z
-turned_front x y zs z (inl e) = inr (inl e)
-turned_front x y zs z (inr (inl e)) = inl e
-turned_front x y zs z (inr (inr h)) = inr (inr h)
-
-front : {X : Type 0} (x y : X) (zs : List X) → SameElements (x ∷ y ∷ zs) (y ∷ x ∷ zs)
-front x y zs z = (turned_front x y zs z, turned_front y x zs z)
-
--- an entry under a new key
-pub put_new : {K X : Type 0} (by : K → K → Ordering) (k : K) (x : X) (es : List (K × X)) → find by k es ≡ None → SameElements (put by k x es) ((k, x) ∷ es)
-put_new by k x [] none = same_self ((k, x) ∷ [])
-put_new by k x (e ∷ es) none =
-    elim (by k e.0) as (λ o. cond (is_eq o) (Some e.1) (find by k es) ≡ None → SameElements (by_order o ((k, x) ∷ e ∷ es) ((e.0, x) ∷ es) (e ∷ put by k x es)) ((k, x) ∷ e ∷ es)) [
-      | Less ↦ λ none. same_self ((k, x) ∷ e ∷ es)
-      | Equal ↦ λ none. absurd (some_none e.1 none)
-      | Greater ↦ λ none.
-          same_then (e ∷ put by k x es) (e ∷ (k, x) ∷ es) ((k, x) ∷ e ∷ es)
-          (same_append (e ∷ []) (e ∷ []) (put by k x es) ((k, x) ∷ es) (same_self (e ∷ [])) (put_new by k x es none)) (front e (k, x) es)
-    ] none
 
 below_has : {K X : Type 0} (by : K → K → Ordering) (k : K) (es : List (K × X)) (e : K × X) → T (below_all by k es) → Has es e → by k e.0 ≡ Less
 below_has by k [] e h g = absurd g
@@ -173,28 +126,6 @@ module _ {K X : Type 0} {by : K → K → Ordering} (order : IsLinearOrder by) w
       ∙ has_found es (second_holds _ _ rise) k x h
 
 -- ---- lists with the same elements give the same
-
-pub same_flat_map_of : {A X : Type 0} (f : A → List X) (items others : List A) → SameElements items others → SameElements (flat_map f items) (flat_map f others)
-same_flat_map_of f items others s x = (
-  λ h. let r = from_flat_map f items x h in into_flat_map f others r.0 x ((s r.0).0 r.1) r.2,
-  λ h. let r = from_flat_map f others x h in into_flat_map f items r.0 x ((s r.0).1 r.1) r.2,
-)
-
--- the cells of the places that are filled
-abbrev pub given_at : {K X : Type 0} → K → Option X → List (K × X)
-given_at k None = []
-given_at k (Some x) = (k, x) ∷ []
-
-filled_one : {K X : Type 0} (by : K → K → Ordering) (k : K) (o : Option X) (es given : List (K × X)) → find by k es ≡ None → SameElements es given → SameElements (put_if by k o es) (given_at k o ++ given)
-filled_one by k None es given none same = same
-filled_one by k (Some x) es given none same =
-    same_then (put by k x es) ((k, x) ∷ es) ((k, x) ∷ given) (put_new by k x es none) (same_append ((k, x) ∷ []) ((k, x) ∷ []) es given (same_self ((k, x) ∷ [])) same)
-
-pub filled_elements : {K X : Type 0} {by : K → K → Ordering} (order : IsLinearOrder by) (slots : List (K × Option X)) → are_apart by slots ≡ true
-    → SameElements (filled by slots) (flat_map (λ slot. given_at slot.0 slot.1) slots)
-filled_elements order [] h = same_self []
-filled_elements {by = by} order (slot ∷ slots) h =
-    filled_one by slot.0 slot.1 (filled by slots) _ (lacking order slot.0 slots (and_first (lacks by slot.0 slots) _ h)) (filled_elements order slots (and_second (lacks by slot.0 slots) _ h))
 
 -- options that have the same value, if any
 pub same_option : {A : Type 0} (o p : Option A) → ((a : A) → o ≡ Some a → p ≡ Some a) → ((a : A) → p ≡ Some a → o ≡ Some a) → o ≡ p

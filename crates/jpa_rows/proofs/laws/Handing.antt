@@ -1,5 +1,5 @@
 -- What follows of rows that were handed on.
-use Rattle.std.proofs.Common.{◌≡◌, inl, inr, Bool, true, false, List, [], ◌∷◌, ◌++◌, Result, Ok, Err, IsErrAnd, MatchResult, refl, sym, ap, subst, ◌∙◌, append_assoc, append-nil}
+use Rattle.std.proofs.Common.{◌≡◌, inl, inr, Bool, true, false, List, [], ◌∷◌, ◌++◌, Result, Ok, Err, IsErrAnd, refl, ap, subst, ◌∙◌}
 use Rattle.jpa_rows.specs.laws.Handing.{Hands, Follows}
 
 pub err_weaker : {X E : Type 0} {P Q : E → Type 0} → (r : Result X E) → ((e : E) → P e → Q e) → IsErrAnd r P → IsErrAnd r Q
@@ -61,21 +61,3 @@ hands_keep {S} {X} {A} {E} kept Takes Fails step s (a ∷ rest) r t (inr h) = go
     go next (Ok true) mid f = next mid f
     go next (Ok false) mid f = ap kept f.1
     go next (Err e) mid f = ap kept f.1
-
--- Where each row that is taken is put after those that were, and a refused one is not, those that were taken are the first of
--- the rows: all of them where more are wanted.
-pub hands_grow : {S A E : Type 0} (taken : S → List A) (Takes : S → A → Result Bool E → S → Type 0) (Fails : E → Type 0)
-    → ((s : S) (a : A) (out : Result Bool E) (t : S) → Takes s a out t → MatchResult out (λ _. taken t ≡ taken s ++ a ∷ []) (λ _. taken t ≡ taken s))
-    → (s : S) (rows : List A) (r : Result Bool E) (t : S) → Hands Takes Fails s rows r t → (first left : List A) × (rows ≡ first ++ left) × (taken t ≡ taken s ++ first) × (r ≡ Ok true → left ≡ [])
-hands_grow taken Takes Fails step s [] r t h = ([], [], refl, ap taken h.1 ∙ sym (append-nil (taken s)), λ _. refl)
-hands_grow taken Takes Fails step s (a ∷ rest) r t (inl h) = ([], a ∷ rest, refl, ap taken h.1 ∙ sym (append-nil (taken s)), λ whole. absurd (subst (λ x. IsErrAnd x Fails) whole h.0))
-hands_grow {S} {A} {E} taken Takes Fails step s (a ∷ rest) r t (inr h) = go (λ m. hands_grow taken Takes Fails step m rest r t) h.0 h.1 (step s a h.0 h.1 h.2) h.3
-  where
-    go : ((m : S) → Hands Takes Fails m rest r t → (first left : List A) × (rest ≡ first ++ left) × (taken t ≡ taken m ++ first) × (r ≡ Ok true → left ≡ []))
-        → (out : Result Bool E) (mid : S) → MatchResult out (λ _. taken mid ≡ taken s ++ a ∷ []) (λ _. taken mid ≡ taken s) → Follows (λ m. Hands Takes Fails m rest r t) out mid r t
-        → (first left : List A) × (a ∷ rest ≡ first ++ left) × (taken t ≡ taken s ++ first) × (r ≡ Ok true → left ≡ [])
-    go next (Ok true) mid one f =
-        let more = next mid f in
-        (a ∷ more.0, more.1, ap (λ l. a ∷ l) more.2, more.3 ∙ ap (λ l. l ++ more.0) one ∙ append_assoc (taken s) (a ∷ []) more.0, more.4)
-    go next (Ok false) mid one f = (a ∷ [], rest, refl, ap taken f.1 ∙ one, λ whole. absurd (let e = f.0 in cc))
-    go next (Err x) mid one f = ([], a ∷ rest, refl, ap taken f.1 ∙ one ∙ sym (append-nil (taken s)), λ whole. absurd (let e = f.0 in cc))

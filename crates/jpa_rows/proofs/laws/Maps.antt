@@ -102,18 +102,6 @@ module _ {K : Type 0} {by : K → K → Ordering} (order : IsLinearOrder by) whe
         put_by_answers k x es (put by k x (put by k y es)) h (put_rises k x (put by k y es) (put_rises k y es h)) (found_put k x (put by k y es))
         (λ q apart. found_other q k x (put by k y es) apart ∙ found_other q k y es apart)
 
-    pub put_apart : (k j : K) (x y : X) (es : List (K × X)) → T (is_sorted by es) → eq_by_cmp by j k ≡ false → put by j y (put by k x es) ≡ put by k x (put by j y es)
-    put_apart k j x y es h apart =
-        put_by_answers k x (put by j y es) (put by j y (put by k x es)) (put_rises j y es h) (put_rises j y (put by k x es) (put_rises k x es h))
-        (found_other k j y (put by k x es) (ties_back j k ∙ apart) ∙ found_put k x es)
-        (λ q other. find-put by order.total q j y (put by k x es) ∙ ap (cond (eq_by_cmp by q j) (Some y)) (found_other q k x es other) ∙ sym (find-put by order.total q j y es))
-
-    pub drop_apart : (k j : K) (x : X) (es : List (K × X)) → T (is_sorted by es) → eq_by_cmp by j k ≡ false → dropped by j (put by k x es) ≡ put by k x (dropped by j es)
-    drop_apart k j x es h apart =
-        put_by_answers k x (dropped by j es) (dropped by j (put by k x es)) (dropped_rises j es h) (dropped_rises j (put by k x es) (put_rises k x es h))
-        (find-dropped k j (put by k x es) ∙ ap (λ b. cond b None (find by k (put by k x es))) apart ∙ found_put k x es)
-        (λ q other. find-dropped q j (put by k x es) ∙ ap (cond (eq_by_cmp by j q) None) (found_other q k x es other) ∙ sym (find-dropped q j es))
-
     pub drop_new : (k : K) (x : X) (es : List (K × X)) → T (is_sorted by es) → find by k es ≡ None → dropped by k (put by k x es) ≡ es
     drop_new k x es h none =
         same_answers (dropped by k (put by k x es)) es (dropped_rises k (put by k x es) (put_rises k x es h)) h

@@ -4,7 +4,6 @@ use Rattle.std.specs.Prelude.{◌≡◌, ◌≢◌, Bool, true, false, not, cond
 use Rattle.std.proofs.Common.{refl, sym, ap, ◌∙◌, Less, Equal, Greater}
 use Rattle.std.specs.FinMap.{find, put, is_sorted}
 use Rattle.std.specs.FinMap.Entries.{below_all, by_order, find-put}
-use Rattle.std.specs.Cmp.{tied_itself}
 use Rattle.std.specs.Ordering.{eq_by_cmp, is_eq, is_lt, ordering_reverse}
 use Rattle.std.specs.declared.cmp.Ordering.{Ordering}
 use Rattle.jpa_rows.specs.laws.Orders.{IsLinearOrder}
@@ -94,19 +93,6 @@ module _ {R C : Type 0} {by : R → R → Ordering} (order : IsLinearOrder by) w
 
   pub merge_gone : (r : R) (base : List (R × C)) (cs : List (R × Option C)) → T (below_all by r base) → T (below_all by r cs) → seen by base ((r, None) ∷ cs) ≡ seen by base cs
   merge_gone r base cs h g = drop_first by r _ (below_seen r base cs h g)
-
-  -- a change of the row that comes next
-  pub merge_replaced : (r : R) (c v : C) (base : List (R × C)) (cs : List (R × Option C)) → T (below_all by r cs) → seen by ((r, c) ∷ base) ((r, Some v) ∷ cs) ≡ (r, v) ∷ seen by base cs
-  merge_replaced r c v base cs g =
-      ap (put by r v) (merge_row (r, c) base cs g)
-      ∙ ap (λ o. by_order o ((r, v) ∷ (r, c) ∷ seen by base cs) ((r, v) ∷ seen by base cs) ((r, c) ∷ put by r v (seen by base cs))) (tied_itself order.total r)
-
-  pub merge_dropped : (r : R) (c : C) (base : List (R × C)) (cs : List (R × Option C)) → T (below_all by r base) → T (below_all by r cs)
-      → seen by ((r, c) ∷ base) ((r, None) ∷ cs) ≡ seen by base cs
-  merge_dropped r c base cs h g =
-      ap (dropped by r) (merge_row (r, c) base cs g)
-      ∙ ap (λ o. cond (not (is_eq o)) ((r, c) ∷ dropped by r (seen by base cs)) (dropped by r (seen by base cs))) (tied_itself order.total r)
-      ∙ drop_first by r _ (below_seen r base cs h g)
 
   -- ---- the difference
 

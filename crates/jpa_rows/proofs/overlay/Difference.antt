@@ -12,7 +12,7 @@ use Rattle.jpa_value.specs.Value.{identity_cmp}
 use Rattle.jpa_value.proofs.Orders.{identity_total}
 use Rattle.jpa_stored.proofs.objects.Entries.{find_at}
 use Rattle.jpa_rows.specs.declared.rows.row.RowChange.{RowChange}
-use Rattle.jpa_rows.specs.rows.Rows.{RowId, Row, Rows, AreRising, entry_of, rows_after}
+use Rattle.jpa_rows.specs.rows.Rows.{RowId, Row, Rows, AreRising, entry_of}
 use Rattle.jpa_rows.specs.laws.Changes.{over, AreDifference}
 use Rattle.jpa_rows.proofs.laws.Facts.{first_holds, second_holds, both_hold, some_none, true_false, value_in}
 use Rattle.jpa_rows.proofs.laws.Maps.{absent_below, same_answers, same_key}
@@ -107,11 +107,6 @@ same_seen rows cs rise h =
     ∙ ap (λ o. over o (find identity_cmp q rows)) (found_differing rows q cs h)
     ∙ over_same (find identity_cmp q rows) (find identity_cmp q cs)
     ∙ sym (found_seen ids q rows cs))
-
--- once the difference is made in the store and the changes are discarded, the same is seen
-pub seen_after_commit : (rows : Rows) (cs : Changes) (made : List RowChange) → AreRising rows → T (is_sorted identity_cmp cs) → map entry_of made ≡ differing rows cs
-    → rows_under [] (rows_after made rows) ≡ rows_under cs rows
-seen_after_commit rows cs made rise h e = ap (λ ds. rows_under ds rows) e ∙ same_seen rows cs rise h
 
 -- ---- each is found where it stands
 

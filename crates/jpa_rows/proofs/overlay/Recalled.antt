@@ -1,12 +1,11 @@
 -- The difference from rows of which other changes say what stands under each id that is changed.
-use Rattle.std.specs.Prelude.{◌≡◌, Bool, true, false, not, cond, T, All, List, [], ◌∷◌, ◌++◌, map, Option, Some, None, IsSome}
+use Rattle.std.specs.Prelude.{◌≡◌, Bool, true, false, not, cond, T, All, List, [], map, Option, Some, None, IsSome}
 use Rattle.std.proofs.Common.{refl, sym, ap, subst, ◌∙◌, get_or}
-use Rattle.std.proofs.lemmas.List.{append-nil, map-append}
 use Rattle.std.specs.FinMap.{find}
 use Rattle.std.specs.FinMap.Entries.{is_sorted}
 use Rattle.jpa_value.specs.Value.{identity_cmp}
 use Rattle.jpa_rows.specs.declared.rows.row.RowChange.{RowChange}
-use Rattle.jpa_rows.specs.rows.Rows.{RowId, Row, Rows, AreRising, entry_of, rows_after}
+use Rattle.jpa_rows.specs.rows.Rows.{Row, Rows, AreRising, entry_of, rows_after}
 use Rattle.jpa_rows.specs.laws.Changes.{AreDifference}
 use Rattle.jpa_rows.proofs.laws.Elements.{has_found}
 use Rattle.jpa_rows.proofs.laws.Facts.{some_none}
@@ -15,21 +14,6 @@ use Rattle.jpa_rows.specs.overlay.Overlay.{Changes, Recalls, rows_under}
 use Rattle.jpa_rows.specs.overlay.Same.{same_row}
 use Rattle.jpa_rows.proofs.overlay.Changes.{ids}
 use Rattle.jpa_rows.proofs.overlay.Difference.{differs, differing, differing_rises, found_differing, unless_same, are_difference, same_seen, each_found}
-use Rattle.jpa_rows.proofs.overlay.Splits.{passing_both}
-
--- ---- a turn of the loop that gathers them
-
-module _ (stood : Rows) (cs : Changes) (c : RowId × Option Row) (made new : List RowChange) (test : Bool) (test_is : test ≡ same_row c.1 (find identity_cmp c.0 stood))
-    (so_far : map entry_of made ≡ differing stood cs) where
-  by_test : (b : Bool) → test ≡ b → differing stood cs ++ cond (not b) (c ∷ []) [] ≡ differing stood (cs ++ c ∷ [])
-  by_test b e = ap (λ b. differing stood cs ++ cond (not b) (c ∷ []) []) (sym e ∙ test_is) ∙ sym (passing_both (differs stood) cs (c ∷ []))
-
-  pub gathered_more : test ≡ false → (change : RowChange) → entry_of change ≡ c → new ≡ made ++ change ∷ [] → map entry_of new ≡ differing stood (cs ++ c ∷ [])
-  gathered_more e change same g =
-      ap (map entry_of) g ∙ map-append entry_of made (change ∷ []) ∙ ap (λ x. map entry_of made ++ x ∷ []) same ∙ ap (λ es. es ++ c ∷ []) so_far ∙ by_test false e
-
-  pub gathered_same : test ≡ true → new ≡ made → map entry_of new ≡ differing stood (cs ++ c ∷ [])
-  gathered_same e g = ap (map entry_of) g ∙ so_far ∙ sym (append-nil (differing stood cs)) ∙ by_test true e
 
 -- ---- all of them
 

@@ -56,7 +56,3 @@ module _ {K X : Type 0} (R : K → K → Ordering) where
   front_rises es zero h = tt
   front_rises [] (suc k) h = tt
   front_rises (e ∷ es) (suc k) h = both_hold _ _ (below_front e.0 es k (first_holds _ _ h)) (front_rises es k (second_holds _ _ h))
-
-  pub after_rises : (ds es : List (K × X)) → T (is_sorted R (ds ++ es)) → T (is_sorted R es)
-  after_rises [] es h = h
-  after_rises (d ∷ ds) es h = after_rises ds es (second_holds _ _ h)

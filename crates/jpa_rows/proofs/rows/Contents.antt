@@ -14,9 +14,9 @@ use Rattle.jpa_rows.proofs.keys.Spelling.{key_read}
 use Rattle.jpa_rows.proofs.laws.Facts.{value_in, some_none, true_false, and_first, and_second, and_both, given_if, give_if}
 use Rattle.jpa_rows.specs.declared.rows.row.Content.{Content}
 use Rattle.jpa_rows.specs.declared.rows.schema.Holds.{Holds}
-use Rattle.jpa_rows.specs.rows.Spellings.{Finds, SpellsKey, SpellsContent, SpellsValue}
+use Rattle.jpa_rows.specs.rows.Spellings.{Finds, SpellsContent, SpellsValue}
 use Rattle.jpa_rows.specs.rows.Reading.{only_part, part_in, untagged, text_after, text_in, bytes_after, bytes_in, kind_at}
-use Rattle.jpa_rows.proofs.rows.Found.{nothing_found, found_is, none_is, only_found, found_map}
+use Rattle.jpa_rows.proofs.rows.Found.{found_is, none_is, only_found, found_map}
 
 false_true : {A : Type 0} → false ≡ true → A
 false_true e = absurd (true_false (sym e))
@@ -28,11 +28,6 @@ one_key_read kinds x y h g e =
     let same : Some (x, length (key_bytes x)) ≡ Some (y, length (key_bytes y)) =
     sym (key_read kinds x [] h) ∙ ap (λ b. key_at kinds (b ++ [])) e ∙ key_read kinds y [] g in
     ap (λ (p : List Value × ℕ). p.0) (value_in (x, length (key_bytes x)) (y, length (key_bytes y)) same)
-
--- a key has one spelling, and bytes spell one key
-pub one_key : (kinds : List Kind) (bytes : List ℕ) (x y : List Value) → SpellsKey kinds bytes x → SpellsKey kinds bytes y → x ≡ y
-one_key kinds bytes x y s t =
-    one_key_read kinds x y (and_first (is_key_of kinds x) _ s.whole) (and_first (is_key_of kinds y) _ t.whole) (s.same ∙ sym t.same)
 
 -- ---- integers
 
@@ -147,20 +142,6 @@ bytes_found bytes small v = (bytes_only bytes v small, λ s. bytes_read bytes v 
 
 -- ---- values of every kind
 
-pub any_from_kind : (kind : Kind) (bytes : List ℕ) (v : Value) → SpellsValue (Holds.Kind kind) bytes v → SpellsValue Holds.Any bytes v
-any_from_kind Kind.Int bytes Value.Null s = false_true s.whole
-any_from_kind Kind.Int bytes (Value.Int n) s = record { whole = s.whole; same = s.same }
-any_from_kind Kind.Int bytes (Value.Text b) s = false_true s.whole
-any_from_kind Kind.Int bytes (Value.Bytes b) s = false_true s.whole
-any_from_kind Kind.Text bytes Value.Null s = false_true s.whole
-any_from_kind Kind.Text bytes (Value.Int n) s = false_true s.whole
-any_from_kind Kind.Text bytes (Value.Text b) s = record { whole = s.whole; same = s.same }
-any_from_kind Kind.Text bytes (Value.Bytes b) s = false_true s.whole
-any_from_kind Kind.Bytes bytes Value.Null s = false_true s.whole
-any_from_kind Kind.Bytes bytes (Value.Int n) s = false_true s.whole
-any_from_kind Kind.Bytes bytes (Value.Text b) s = false_true s.whole
-any_from_kind Kind.Bytes bytes (Value.Bytes b) s = record { whole = s.whole; same = s.same }
-
 pub record OfKind (bytes : List ℕ) (v : Value) : Type 0 where
   pub kind : Kind
   pub at : kind_at bytes ≡ Some kind
@@ -172,36 +153,10 @@ any_of_kind bytes (Value.Int n) s = record { kind = Kind.Int; at = ap kind_at (s
 any_of_kind bytes (Value.Text b) s = record { kind = Kind.Text; at = ap kind_at (sym s.same); spells = record { whole = s.whole; same = s.same } }
 any_of_kind bytes (Value.Bytes b) s = record { kind = Kind.Bytes; at = ap kind_at (sym s.same); spells = record { whole = s.whole; same = s.same } }
 
-pub none_of_any : (bytes : List ℕ) → kind_at bytes ≡ None → Finds (SpellsValue Holds.Any bytes) None
-none_of_any bytes e = nothing_found (SpellsValue Holds.Any bytes) (λ v s. let w = any_of_kind bytes v s in some_none w.kind (sym w.at ∙ e))
-
-pub any_found : (kind : Kind) (bytes : List ℕ) (found : Option Value) → kind_at bytes ≡ Some kind → Finds (SpellsValue (Holds.Kind kind) bytes) found → Finds (SpellsValue Holds.Any bytes) found
-any_found kind bytes found e h v = (
-  λ f. any_from_kind kind bytes v ((h v).0 f),
-  λ s. let w = any_of_kind bytes v s in (h v).1 (subst (λ k. SpellsValue (Holds.Kind k) bytes v) (value_in w.kind kind (sym w.at ∙ e)) w.spells),
-)
-
 -- ---- contents
 
 abbrev pub IsReference : List Kind → List ℕ → List Value → Type 0
 IsReference kinds bytes key = SpellsContent (Holds.Reference kinds) bytes (Content.Reference key)
-
-pub reference_found : (kinds : List Kind) (bytes rest : List ℕ) (found : Option (List Value)) → untagged 4 bytes ≡ Some rest → Finds (SpellsKey kinds rest) found → Finds (IsReference kinds bytes) found
-reference_found kinds bytes rest found e h key = (
-  λ f. let s = (h key).0 f in record { whole = s.whole; same = ap (λ b. 4 ∷ b) s.same ∙ with_tag bytes rest e },
-  λ s. (h key).1 (record { whole = s.whole; same = value_in (key_bytes key) rest (ap (untagged 4) s.same ∙ e) }),
-)
-  where
-    with_tag : (bytes rest : List ℕ) → untagged 4 bytes ≡ Some rest → 4 ∷ rest ≡ bytes
-    with_tag [] rest e = absurd (some_none rest (sym e))
-    with_tag (b ∷ bytes) rest e =
-        elim (b == 4) as (λ x. b == 4 ≡ x → cond x (Some bytes) None ≡ Some rest → 4 ∷ rest ≡ b ∷ bytes) [
-          | true ↦ λ h g. (λ i. sym (tied_numbers b 4 h) i ∷ sym (value_in bytes rest g) i)
-          | false ↦ λ h g. absurd (some_none rest (sym g))
-        ] refl e
-
-pub no_reference : (kinds : List Kind) (bytes : List ℕ) → untagged 4 bytes ≡ None → Finds (IsReference kinds bytes) None
-no_reference kinds bytes e = nothing_found (IsReference kinds bytes) (λ key s. some_none (key_bytes key) (ap (untagged 4) s.same ∙ e))
 
 kind_content : (kind : Kind) (bytes : List ℕ) (content : Content) → SpellsContent (Holds.Kind kind) bytes content → (v : Value) × (SpellsValue (Holds.Kind kind) bytes v × (Content.Value v ≡ content))
 kind_content kind bytes (Content.Value v) s = (v, (s, refl))
@@ -214,12 +169,6 @@ any_content bytes (Content.Reference key) s = false_true s.whole
 reference_content : (kinds : List Kind) (bytes : List ℕ) (content : Content) → SpellsContent (Holds.Reference kinds) bytes content → (key : List Value) × (IsReference kinds bytes key × (Content.Reference key ≡ content))
 reference_content kinds bytes (Content.Value v) s = false_true s.whole
 reference_content kinds bytes (Content.Reference key) s = (key, (s, refl))
-
-pub kind_contents : (kind : Kind) (bytes : List ℕ) (found : Option Value) → Finds (SpellsValue (Holds.Kind kind) bytes) found → Finds (SpellsContent (Holds.Kind kind) bytes) (option_map Content.Value found)
-kind_contents kind bytes found = found_map (SpellsValue (Holds.Kind kind) bytes) (SpellsContent (Holds.Kind kind) bytes) Content.Value found (λ v s. s) (kind_content kind bytes)
-
-pub any_contents : (bytes : List ℕ) (found : Option Value) → Finds (SpellsValue Holds.Any bytes) found → Finds (SpellsContent Holds.Any bytes) (option_map Content.Value found)
-any_contents bytes found = found_map (SpellsValue Holds.Any bytes) (SpellsContent Holds.Any bytes) Content.Value found (λ v s. s) (any_content bytes)
 
 pub reference_contents : (kinds : List Kind) (bytes : List ℕ) (found : Option (List Value)) → Finds (IsReference kinds bytes) found → Finds (SpellsContent (Holds.Reference kinds) bytes) (option_map Content.Reference found)
 reference_contents kinds bytes found = found_map (IsReference kinds bytes) (SpellsContent (Holds.Reference kinds) bytes) Content.Reference found (λ key s. s) (reference_content kinds bytes)

@@ -6,18 +6,17 @@ use Rattle.std.specs.FinMap.{is_sorted}
 use Rattle.std.specs.FinMap.Entries.{below_all}
 use Rattle.std.specs.Ordering.{int_eq, nat_cmp, is_lt}
 use Rattle.std.proofs.lemmas.Bool.Decides.{nat_tests}
-use Rattle.jpa_value.specs.declared.value.Value.{Value}
 use Rattle.jpa_rows.proofs.keys.Escapes.{tied_numbers}
 use Rattle.jpa_rows.proofs.laws.Facts.{value_in, some_none, true_false, and_first, and_second, and_both}
 use Rattle.jpa_rows.specs.declared.rows.row.Content.{Content}
 use Rattle.jpa_rows.specs.declared.rows.row.Field.{Field}
 use Rattle.jpa_rows.specs.declared.rows.schema.ColumnRule.{ColumnRule}
 use Rattle.jpa_rows.specs.declared.rows.schema.TableRule.{TableRule}
-use Rattle.jpa_rows.specs.rows.Rows.{Row, content_bytes, cells_of, rule_of, is_field_by, SpellsRow, SpellsId}
+use Rattle.jpa_rows.specs.rows.Rows.{Row, content_bytes, cells_of, rule_of, is_field_by, SpellsRow}
 use Rattle.jpa_rows.specs.rows.Spellings.{Finds, SpellsContent, SpellsField, SpellsFields}
 use Rattle.jpa_rows.specs.rows.Reading.{field, rises_from, rising_row}
 use Rattle.jpa_rows.proofs.rows.Found.{nothing_found, one_found, found_is, none_is, only_found, found_map}
-use Rattle.jpa_rows.proofs.rows.Contents.{one_content, one_key}
+use Rattle.jpa_rows.proofs.rows.Contents.{one_content}
 
 -- ---- the rule of a column
 
@@ -55,10 +54,6 @@ bytes_are f cell e = ap (λ (c : ℤ × List ℕ). c.1) e
 
 by_rule : (table : TableRule) (cell : ℤ × List ℕ) (f : Field) → SpellsField table cell f → is_field_by f.content (find (at cell.0) table.columns) ≡ true
 by_rule table cell f s = ap (is_field_by f.content) (same_rule table.columns f.column cell.0 (column_is f cell s.same)) ∙ s.whole
-
-pub no_field : (table : TableRule) (cell : ℤ × List ℕ) → find (at cell.0) table.columns ≡ None → Finds (SpellsField table cell) None
-no_field table cell e =
-    nothing_found (SpellsField table cell) (λ f s. true_false (sym (ap (is_field_by f.content) (sym e) ∙ by_rule table cell f s)))
 
 field_there : (table : TableRule) (cell : ℤ × List ℕ) (rule : ColumnRule) → find (at cell.0) table.columns ≡ Some rule → (x : Content) → SpellsContent rule.holds cell.1 x → SpellsField table cell (field rule.column x)
 field_there table cell rule e x s =
@@ -203,17 +198,3 @@ row_found table cells (Some read) h row = (
         let s = found_is (SpellsFields table cells) read h in
         subst (SpellsRow table cells) (value_in read row e) (record { whole = record { rising = rises_is read r; each = s.each }; same = s.same })
     given false r e = absurd (some_none row (sym e))
-
--- cells spell one row of a table, and bytes one id
-pub one_row : (table : TableRule) (cells : List (ℤ × List ℕ)) (x y : Row) → SpellsRow table cells x → SpellsRow table cells y → x ≡ y
-one_row table cells x y s t = one_fields table cells x y (row_fields table cells x s) (row_fields table cells y t)
-
-pub one_id : (table : TableRule) (bytes : List ℕ) (x y : List Value) → SpellsId table bytes x → SpellsId table bytes y → x ≡ y
-one_id table bytes x y s t = one_key table.key bytes x y (record { whole = s.whole; same = s.same }) (record { whole = t.whole; same = t.same })
-
--- a row of a table has one spelling, and so has an id
-pub one_spelling : (table : TableRule) (cells others : List (ℤ × List ℕ)) (row : Row) → SpellsRow table cells row → SpellsRow table others row → cells ≡ others
-one_spelling table cells others row s t = sym s.same ∙ t.same
-
-pub one_id_spelling : (table : TableRule) (bytes others : List ℕ) (key : List Value) → SpellsId table bytes key → SpellsId table others key → bytes ≡ others
-one_id_spelling table bytes others key s t = sym s.same ∙ t.same
