@@ -41,7 +41,6 @@ module _ {S : Type 0} (g : Ghosts S) (table : ℤ) where
   shown_none first now store clean settled (inr h) = absurd (table_returns_none first.schema h.0)
 
   module _ (first now : Held S) (seen : List Entry) (h : HasShown g table first now seen) where
-
     same_now : (state g now).now ≡ (state g first).now
     same_now = h.same.0.now_is
 

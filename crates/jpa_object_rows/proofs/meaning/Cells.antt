@@ -98,7 +98,6 @@ raw_normal m rows h = record { rising = raw_rises (schema_of m) rows (h.named).n
 
 module _ (world : World) (mapped : IsMapped world.model) (regular : IsRegular world) (named : (class : ℕ) → is_class world.model class ≡ true → is_discriminator (entity_at world.model class) ≡ true)
     (set : StoredSet) (numbers : List ℕ) where
-
   abbrev its : Rows
   its = rows_of world set numbers
 

@@ -82,7 +82,6 @@ module _ (schema : Schema) where
 
   -- an object whose ids are those of the schema's tables
   module _ (world : World) (id : Identity) (x : Stored) (main : is_id_of schema id ≡ true) (own : AreIds schema (pair_ids world id x)) (rows : Rows) (h : AreRowsOf schema rows) where
-
     pub object_over_rows : AreRowsOf schema (with_object world id x rows)
     object_over_rows = record {
       rising = over_rises (object_rows world id x) rows h.rising;

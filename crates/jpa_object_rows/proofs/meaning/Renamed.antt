@@ -74,7 +74,6 @@ module _ {K R : Type 0} {by_key : K → K → Ordering} {by_row : R → R → Or
         (sym (order.same k e.0 p h.0))
 
   module _ {X C : Type 0} (form : X → C) where
-
     -- places, of which some hold something
     put_if_renamed : (k : K) → P k → (o : Option X) (es : List (K × X)) → AreKeys P es → renamed name form (put_if by_key k o es) ≡ put_if by_row (name k) (option_map form o) (renamed name form es)
     put_if_renamed k p None es h = refl

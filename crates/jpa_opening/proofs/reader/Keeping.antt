@@ -12,7 +12,6 @@ use Rattle.jpa_cells.proofs.rowspace.Holding.{clean_before}
 use Rattle.jpa_opening.specs.reader.Reads.{KeepsTables}
 
 module _ {S : Type 0} (g : Ghosts S) where
-
   pub keeps_then : (a b c : Space S) → KeepsTables g a b → KeepsTables g b c → KeepsTables g a c
   keeps_then a b c one two = record {
     kept = λ clean live.

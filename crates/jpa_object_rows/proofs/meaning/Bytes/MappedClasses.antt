@@ -27,7 +27,6 @@ same_tail : (a b : List ℕ) → ◌≡◌ {A = List ℕ} (2 ∷ a) (2 ∷ b) �
 same_tail a b e = ap (drop 1) e
 
 module _ (m : PersistenceUnit) (mapped : IsMapped m) (class : ℕ) (h : is_class m class ≡ true) where
-
   in_hierarchy : (c : ℕ) → is_class m c ≡ true → root_class m c ≡ root_class m class → Has (hierarchy m (root_class m class)) c
   in_hierarchy c k e =
       let first = (lineage m mapped c k).root_first in
