@@ -17,25 +17,26 @@ use Rattle.jpa_object_rows.specs.meaning.Unambiguous.{IsUnambiguous}
 use Rattle.jpa_object_rows.proofs.meaning.Bytes.Reading.{slots_apart, row_read}
 use Rattle.jpa_object_rows.specs.meaning.Objects.{Places, places_of, main_row}
 use Rattle.jpa_object_rows.specs.meaning.Sets.{content_at}
-use Rattle.jpa_object_rows.proofs.meaning.Objects.{number_order, spelled, places_spelled, main_row_spelled}
+use Rattle.jpa_object_rows.proofs.meaning.Objects.{number_order, main_row_spelled}
+use Rattle.jpa_object_rows.specs.meaning.Written.{spelled_places}
 use Rattle.jpa_object_rows.proofs.meaning.Whole.{column_order, fields_placed}
 
 -- ---- columns that are apart
 
-same_lacks : (n : ℕ) (places : Places) → lacks int_cmp (pos n) (spelled places) ≡ lacks nat_cmp n places
+same_lacks : (n : ℕ) (places : Places) → lacks int_cmp (pos n) (spelled_places places) ≡ lacks nat_cmp n places
 same_lacks n places = ap not (same_any places)
   where
-    same_any : (places : Places) → list_any (λ slot. eq_by_cmp int_cmp (pos n) slot.0) (spelled places) ≡ list_any (λ slot. eq_by_cmp nat_cmp n slot.0) places
+    same_any : (places : Places) → list_any (λ slot. eq_by_cmp int_cmp (pos n) slot.0) (spelled_places places) ≡ list_any (λ slot. eq_by_cmp nat_cmp n slot.0) places
     same_any [] = refl
     same_any (place ∷ places) = λ i. is_eq (number_order n place.0 i) || same_any places i
 
-same_apart : (places : Places) → are_apart int_cmp (spelled places) ≡ are_apart nat_cmp places
+same_apart : (places : Places) → are_apart int_cmp (spelled_places places) ≡ are_apart nat_cmp places
 same_apart [] = refl
 same_apart (place ∷ places) = λ i. same_lacks place.0 places i && same_apart places i
 
 module _ (world : World) (clear : IsUnambiguous world.model) (id : Identity) (x : Stored) (storable : is_storable world id x ≡ true) where
   pub places_apart : are_apart nat_cmp (places_of world x) ≡ true
-  places_apart = sym (same_apart (places_of world x)) ∙ ap (are_apart int_cmp) (places_spelled world x) ∙ slots_apart world clear id x storable
+  places_apart = sym (same_apart (places_of world x)) ∙ slots_apart world clear id x storable
 
   -- each column has what the object holds in it
   pub places_hold : Holds (λ column. content_at column (main_row world x)) (places_of world x)

@@ -1,7 +1,8 @@
 -- The main row of an object is read again as the object.
-use Rattle.std.specs.Prelude.{◌≡◌, ℕ, ℤ, true, List, ◌++◌, nat_lt, length, Option, Some}
-use Rattle.std.proofs.Common.{ap, ◌∙◌}
-use Rattle.std.specs.List.{zip, list_all}
+use Rattle.std.specs.Prelude.{◌≡◌, ℕ, ℤ, pos, true, List, ◌++◌, nat_lt, length, Option, Some, option_map}
+use Rattle.std.proofs.Common.{ap, subst, ◌∙◌}
+use Rattle.std.specs.List.{zip, list_all, AllByRecursion}
+use Rattle.std.proofs.lemmas.List.{map-append}
 use Rattle.std.specs.FinMap.{find}
 use Rattle.std.specs.Ordering.{int_cmp}
 use Rattle.jpa_value.specs.declared.value.Identity.{Identity}
@@ -15,13 +16,16 @@ use Rattle.jpa_rows.specs.laws.Slots.{are_apart}
 use Rattle.jpa_rows.proofs.laws.Facts.{and_first, and_second, give_if}
 use Rattle.jpa_rows.proofs.laws.Slots.{Holds, all_hold, all_first, all_rest}
 use Rattle.jpa_object_rows.specs.meaning.Identities.{root_at, IsSpelled}
-use Rattle.jpa_object_rows.specs.meaning.Written.{version_slots, attribute_slots, relation_slots, slots_of, columns_of, class_bytes}
+use Rattle.jpa_rows.specs.declared.rows.row.Content.{Content}
+use Rattle.jpa_rows.specs.rows.Rows.{content_bytes}
+use Rattle.jpa_rows.specs.rows.ObjectRows.{version_places, attribute_places, relation_places, places_of}
+use Rattle.jpa_object_rows.specs.meaning.Written.{spelled_places, columns_of, class_bytes}
 use Rattle.jpa_object_rows.specs.meaning.View.{Pairs, PairsAre, class_in, class_from, guessed, is_storable, stored_if, stored_from}
-use Rattle.jpa_object_rows.specs.meaning.Unambiguous.{IsUnambiguous, is_class, columns_along}
+use Rattle.jpa_object_rows.specs.meaning.Unambiguous.{IsUnambiguous, are_distinct_numbers, is_class}
 use Rattle.jpa_object_rows.proofs.meaning.Bytes.Orders.{column_numbers, same_columns_itself}
 use Rattle.jpa_object_rows.proofs.meaning.Bytes.Keys.{table_is}
 use Rattle.jpa_object_rows.proofs.meaning.Bytes.Spelling.{spelled}
-use Rattle.jpa_object_rows.proofs.meaning.Bytes.Columns.{apart_as_distinct, slot_numbers}
+use Rattle.jpa_object_rows.proofs.meaning.Bytes.Columns.{apart_as_distinct, place_numbers}
 use Rattle.jpa_object_rows.proofs.meaning.Bytes.Values.{values_read, version_read, owned_read}
 
 -- what it is for an object to be storable
@@ -68,12 +72,12 @@ object_spelled world clear id x h =
     spelled world.model (root_of world.model x.class) id (ap (root_at world.model) (table_is (root_of world.model x.class) id s.of_root) ∙ clear.root x.class s.class) s.of_root s.named
 
 -- its columns are apart, so each is found
-pub slots_apart : (world : World) → IsUnambiguous world.model → (id : Identity) (x : Stored) → is_storable world id x ≡ true → are_apart int_cmp (slots_of world x) ≡ true
+pub slots_apart : (world : World) → IsUnambiguous world.model → (id : Identity) (x : Stored) → is_storable world id x ≡ true → are_apart int_cmp (spelled_places (places_of world x)) ≡ true
 slots_apart world clear id x h =
-    let s = storable world id x h in apart_as_distinct (slots_of world x) (columns_along world.model x.class) (slot_numbers world x s.values s.owned) ∙ clear.columns x.class s.class
+    let s = storable world id x h in apart_as_distinct (places_of world x) ∙ ap are_distinct_numbers (place_numbers world x s.values s.owned) ∙ clear.columns x.class s.class
 
-pub slots_hold : (world : World) → IsUnambiguous world.model → (id : Identity) (x : Stored) → is_storable world id x ≡ true → Holds (λ c. find int_cmp c (columns_of world x)) (slots_of world x)
-slots_hold world clear id x h = all_hold column_numbers (slots_of world x) (slots_apart world clear id x h)
+pub slots_hold : (world : World) → IsUnambiguous world.model → (id : Identity) (x : Stored) → is_storable world id x ≡ true → Holds (λ c. find int_cmp c (columns_of world x)) (spelled_places (places_of world x))
+slots_hold world clear id x h = all_hold column_numbers (spelled_places (places_of world x)) (slots_apart world clear id x h)
 
 class_read : (world : World) → IsUnambiguous world.model → (id : Identity) (x : Stored) → is_storable world id x ≡ true → class_from world.model id.table (columns_of world x) ≡ x.class
 class_read world clear id x h =
@@ -89,15 +93,16 @@ guess_read world clear regular pairs id x h own =
     let m = world.model in
     let s = storable world id x h in
     let columns = columns_of world x in
-    let versions = version_slots (root_of m x.class).version x.version in
-    let attributes = attribute_slots world (zip (attributes_of m x.class) x.values) in
-    let relations = relation_slots (zip (relations_of m x.class) x.owned) in
+    let versions = version_places (root_of m x.class).version x.version in
+    let attributes = attribute_places world (zip (attributes_of m x.class) x.values) in
+    let relations = relation_places (zip (relations_of m x.class) x.owned) in
     let P = λ (slot : ℤ × Option (List ℕ)). find int_cmp slot.0 columns ≡ slot.1 in
-    let holds = (slots_hold world clear id x h).1 in
-    let front = all_first P (versions ++ attributes) relations holds in
-    let version = version_read (root_of m x.class).version x.version columns s.version s.real_version (all_first P versions attributes front) in
-    let values = values_read world regular columns (attributes_of m x.class) x.values s.values s.real_values s.passing (all_rest P versions attributes front) in
-    let owned = owned_read m pairs columns (relations_of m x.class) x.owned s.owned s.real_owned own (all_rest P (versions ++ attributes) relations holds) in
+    let slot : ℕ × Option Content → ℤ × Option (List ℕ) = λ p. (pos p.0, option_map content_bytes p.1) in
+    let holds = subst (AllByRecursion P) (map-append slot (versions ++ attributes) relations) (slots_hold world clear id x h).1 in
+    let front = subst (AllByRecursion P) (map-append slot versions attributes) (all_first P (spelled_places (versions ++ attributes)) (spelled_places relations) holds) in
+    let version = version_read (root_of m x.class).version x.version columns s.version s.real_version (all_first P (spelled_places versions) (spelled_places attributes) front) in
+    let values = values_read world regular columns (attributes_of m x.class) x.values s.values s.real_values s.passing (all_rest P (spelled_places versions) (spelled_places attributes) front) in
+    let owned = owned_read m pairs columns (relations_of m x.class) x.owned s.owned s.real_owned own (all_rest P (spelled_places (versions ++ attributes)) (spelled_places relations) holds) in
     λ i. record { class = x.class; version = version i; values = values i; owned = owned i }
 
 -- decoding undoes encoding

@@ -1,7 +1,8 @@
 -- Values, versions and links are read again from what is written of them.
-use Rattle.std.specs.Prelude.{◌≡◌, ℕ, ℤ, Bool, true, false, ◌||◌, not, List, [], ◌∷◌, map, take, Option, Some, None, T}
+use Rattle.std.specs.Prelude.{◌≡◌, ℕ, ℤ, Bool, true, false, pos, ◌||◌, not, List, [], ◌∷◌, map, take, Option, Some, None, option_map, T}
 use Rattle.std.proofs.Common.{refl, sym, ap, subst, ◌∙◌}
-use Rattle.std.specs.List.{zip, list_all}
+use Rattle.std.specs.List.{zip, list_all, AllByRecursion}
+use Rattle.std.proofs.lemmas.List.{map-append}
 use Rattle.std.specs.FinMap.{find}
 use Rattle.std.specs.Int.{from_be_bytes, w64}
 use Rattle.std.specs.Ordering.{int_cmp}
@@ -26,7 +27,10 @@ use Rattle.jpa_rows.specs.rows.Cells.{value_bytes, column_value, cell_value, pas
 use Rattle.jpa_rows.proofs.laws.Facts.{and_first, and_second, and_both}
 use Rattle.jpa_rows.proofs.laws.Slots.{Holds, all_first, all_rest}
 use Rattle.jpa_object_rows.specs.meaning.Rows.{Columns}
-use Rattle.jpa_object_rows.specs.meaning.Written.{version_slots, attribute_slots, link_bytes, side_slots, relation_slots}
+use Rattle.jpa_rows.specs.declared.rows.row.Content.{Content}
+use Rattle.jpa_rows.specs.rows.Rows.{content_bytes}
+use Rattle.jpa_rows.specs.rows.ObjectRows.{value_content, link_content, version_places, attribute_places, side_places, relation_places}
+use Rattle.jpa_object_rows.specs.meaning.Written.{spelled_places}
 use Rattle.jpa_object_rows.specs.meaning.View.{value_from, from_column, attribute_from, number_of, version_from, linked, link_from, Pairs, owned_by, SideHas, PairsAre}
 use Rattle.jpa_object_rows.proofs.meaning.Bytes.Keys.{key_read, table_is}
 
@@ -44,6 +48,12 @@ value_read Value.Null h = refl
 value_read (Value.Int n) h = ap Value.Int (int_read n h)
 value_read (Value.Text bytes) h = refl
 value_read (Value.Bytes bytes) h = refl
+
+value_spelled : (v : Value) → option_map content_bytes (value_content v) ≡ value_bytes v
+value_spelled Value.Null = refl
+value_spelled (Value.Int n) = refl
+value_spelled (Value.Text bytes) = refl
+value_spelled (Value.Bytes bytes) = refl
 
 -- ---- converters
 
@@ -110,19 +120,19 @@ in_column world regular (Some name) (Value.Bytes bytes) h s r =
 
 pub values_read : (world : World) → IsRegular world → (columns : Columns) (attributes : List Attribute) (values : List Value)
     → each_fits (λ a v. fits a.kind v) attributes values ≡ true → list_all is_representable values ≡ true → list_all (λ p. passes world p.0 p.1) (zip attributes values) ≡ true
-    → Holds (λ c. find int_cmp c columns) (attribute_slots world (zip attributes values)) → map (attribute_from world columns) attributes ≡ values
+    → Holds (λ c. find int_cmp c columns) (spelled_places (attribute_places world (zip attributes values))) → map (attribute_from world columns) attributes ≡ values
 values_read world regular columns [] [] h r g holds = refl
 values_read world regular columns [] (v ∷ values) h r g holds = absurd (subst T (sym h) tt)
 values_read world regular columns (a ∷ attributes) [] h r g holds = absurd (subst T (sym h) tt)
 values_read world regular columns (a ∷ attributes) (v ∷ values) h r g holds =
     let kept = in_column world regular a.converter v (and_first (passes world a v) _ g) (short_as_fits a.kind v (and_first (fits a.kind v) _ h)) (and_first (is_representable v) _ r) in
     let this : attribute_from world columns a ≡ v =
-    ap (λ o. from_column world a.converter (value_from o)) holds.0 ∙ ap (from_column world a.converter) (value_read (column_value world a.converter v) kept.representable) ∙ kept.back in
+    ap (λ o. from_column world a.converter (value_from o)) (holds.0 ∙ value_spelled (column_value world a.converter v)) ∙ ap (from_column world a.converter) (value_read (column_value world a.converter v) kept.representable) ∙ kept.back in
     let others = values_read world regular columns attributes values (and_second (fits a.kind v) _ h) (and_second (is_representable v) _ r) (and_second (passes world a v) _ g) holds.1 in
     λ i. this i ∷ others i
 
 pub version_read : (o : Option VersionColumn) (version : Option ℤ) (columns : Columns) → version_there o version ≡ true → version_representable version ≡ true
-    → Holds (λ c. find int_cmp c columns) (version_slots o version) → version_from o columns ≡ version
+    → Holds (λ c. find int_cmp c columns) (spelled_places (version_places o version)) → version_from o columns ≡ version
 version_read None None columns h g holds = refl
 version_read None (Some n) columns h g holds = absurd (subst T (sym h) tt)
 version_read (Some c) None columns h g holds = absurd (subst T (sym h) tt)
@@ -139,14 +149,14 @@ one_read root id h g =
     let tables : root.table ≡ id.table = sym (table_is root id h) in
     ap (linked root.table) (key_read root id h g) ∙ (λ i. record { table = tables i; key = id.key } ∷ [])
 
-link_read : (root : Root) (ids : List Identity) → is_at_most_one ids ≡ true → list_all (is_identity_of root) ids ≡ true → list_all names_representable ids ≡ true → link_from root (link_bytes ids) ≡ ids
+link_read : (root : Root) (ids : List Identity) → is_at_most_one ids ≡ true → list_all (is_identity_of root) ids ≡ true → list_all names_representable ids ≡ true → link_from root (option_map content_bytes (link_content ids)) ≡ ids
 link_read root [] h g r = refl
 link_read root (id ∷ []) h g r = one_read root id (and_first (is_identity_of root id) _ g) (and_first (names_representable id) _ r)
 link_read root (id ∷ other ∷ ids) h g r = absurd (subst T (sym h) tt)
 
 side_read : (m : PersistenceUnit) (pairs : Pairs) (columns : Columns) (target : ℕ) (side : Side) (ids : List Identity)
     → owns_as side ids ≡ true → list_all (is_identity_of (root_of m target)) ids ≡ true → list_all names_representable ids ≡ true
-    → SideHas pairs target ids side → Holds (λ c. find int_cmp c columns) (side_slots side ids) → owned_by m pairs columns target side ≡ ids
+    → SideHas pairs target ids side → Holds (λ c. find int_cmp c columns) (spelled_places (side_places side ids)) → owned_by m pairs columns target side ≡ ids
 side_read m pairs columns target (Side.ManyToOne c) ids h g k own holds = ap (link_from (root_of m target)) holds.0 ∙ link_read (root_of m target) ids h g k
 side_read m pairs columns target (Side.OneToOne c) ids h g k own holds = ap (link_from (root_of m target)) holds.0 ∙ link_read (root_of m target) ids h g k
 side_read m pairs columns target (Side.OneToOneInverse o) ids h g k own holds = empty_is ids h
@@ -156,14 +166,17 @@ side_read m pairs columns target (Side.ManyToManyInverse o) ids h g k own holds 
 
 pub owned_read : (m : PersistenceUnit) (pairs : Pairs) (columns : Columns) (relations : List Relation) (owned : List (List Identity))
     → each_fits (owns_well m) relations owned ≡ true → list_all (list_all names_representable) owned ≡ true → PairsAre pairs (zip relations owned)
-    → Holds (λ c. find int_cmp c columns) (relation_slots (zip relations owned)) → map (λ r. owned_by m pairs columns r.target r.side) relations ≡ owned
+    → Holds (λ c. find int_cmp c columns) (spelled_places (relation_places (zip relations owned))) → map (λ r. owned_by m pairs columns r.target r.side) relations ≡ owned
 owned_read m pairs columns [] [] h g own holds = refl
 owned_read m pairs columns [] (ids ∷ owned) h g own holds = absurd (subst T (sym h) tt)
 owned_read m pairs columns (r ∷ relations) [] h g own holds = absurd (subst T (sym h) tt)
 owned_read m pairs columns (r ∷ relations) (ids ∷ owned) h g own holds =
     let well = and_first (owns_well m r ids) _ h in
-    let held = all_first (λ slot. find int_cmp slot.0 columns ≡ slot.1) (side_slots r.side ids) (relation_slots (zip relations owned)) holds in
-    let this = side_read m pairs columns r.target r.side ids (and_first (owns_as r.side ids) _ well) (and_second (owns_as r.side ids) _ well) (and_first (list_all names_representable ids) _ g) own.0 held in
+    let here = side_places r.side ids in
+    let more = relation_places (zip relations owned) in
+    let P = λ (slot : ℤ × Option (List ℕ)). find int_cmp slot.0 columns ≡ slot.1 in
+    let parted = subst (AllByRecursion P) (map-append (λ (p : ℕ × Option Content). (pos p.0, option_map content_bytes p.1)) here more) holds in
+    let this = side_read m pairs columns r.target r.side ids (and_first (owns_as r.side ids) _ well) (and_second (owns_as r.side ids) _ well) (and_first (list_all names_representable ids) _ g) own.0 (all_first P (spelled_places here) (spelled_places more) parted) in
     let others = owned_read m pairs columns relations owned (and_second (owns_well m r ids) _ h) (and_second (list_all names_representable ids) _ g) own.1
-    (all_rest (λ slot. find int_cmp slot.0 columns ≡ slot.1) (side_slots r.side ids) (relation_slots (zip relations owned)) holds) in
+    (all_rest P (spelled_places here) (spelled_places more) parted) in
     λ i. this i ∷ others i
