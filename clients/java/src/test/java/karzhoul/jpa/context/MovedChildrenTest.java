@@ -134,6 +134,39 @@ class MovedChildrenTest extends Tried {
     }
 
     @Test
+    void whatMovedOverTwoFlushesHasItsElementsWhereItIsRemovedAndPersistedAnew() {
+        manager = factory.createEntityManager();
+        Bird bird = manager.find(Bird.class, moved);
+        commit(() -> {
+            Bird second = new Bird();
+            second.pen = bird.pen;
+            bird.pen.birds.add(second);
+            bird.meals.size();
+            bird.rings.size();
+        });
+        commit(() -> {
+            Pen to = manager.find(Pen.class, other);
+            List<Bird> birds = bird.pen.birds;
+            for (Bird each : List.copyOf(birds)) {
+                birds.remove(each);
+                to.birds.add(each);
+                manager.flush();        // it leads back to the first one as yet
+            }
+            to.birds.forEach(each -> each.pen = to);
+        });
+        commit(() -> {
+            bird.pen.birds.remove(bird);
+            manager.flush();
+            bird.pen.birds.add(bird);
+            manager.persist(bird);
+        });
+        assertEquals("[seed] 1", read(it -> {
+            Bird found = it.find(Bird.class, moved);
+            return new ArrayList<>(found.meals) + " " + found.rings.size();
+        }));
+    }
+
+    @Test
     void anOrphanGoes() {
         manager = factory.createEntityManager();
         commit(() -> manager.find(Pen.class, one).birds.remove(0));
