@@ -77,13 +77,22 @@ final class Merge {
             throw context.marked(new OptimisticLockException(e.getMessage(), e, stale(root)));
         } catch (RuntimeException e) {
             giveUp();
-            throw context.marked(e);
+            throw context.marked(named(e));
         } finally {
             sources.forEach((source, instance) -> {
                 source.instance(instance);
                 letGo(source);
             });
         }
+    }
+
+    /** The program refuses the merge of the root also for what was removed below it. */
+    private RuntimeException named(RuntimeException refusal) {
+        Optional<Entry> removed = images.values().stream()
+            .filter(image -> image != null && image.state() == Entry.State.REMOVED).findFirst();
+        return removed.isEmpty() || !String.valueOf(refusal.getMessage()).startsWith("IllegalArgument(state)") ? refusal
+            : new IllegalArgumentException("IllegalArgument(state), " + removed.get() + ": it was removed in this transaction;"
+                + " where it moved, merge the owner that it left and the one that has it before the flush", refusal);
     }
 
     /** What was told to images, of a merge that was refused, isn't theirs: the next flush tells what they have. */

@@ -33,7 +33,7 @@ final class ReadAnew {
                 read.put(relation, members);
             }
         }
-        refresh(owner, read);
+        refresh(owner, held(owner, read));
         Optional<Attribute> version = owner.model().version();
         int from = queue.count();
         read.keySet().forEach(relation -> queue.get(owner.number(), relation.member()).about(owner));
@@ -49,6 +49,19 @@ final class ReadAnew {
         } else {
             refresh(owner, rows);
         }
+    }
+
+    /** What the program has there: also what left behind an earlier flush, and leads back as yet. */
+    private Map<Relation, List<Long>> held(Entry owner, Map<Relation, List<Long>> read) {
+        List<Relation> many = read.keySet().stream().filter(Relation::isMany).toList();
+        int from = queue.count();
+        many.forEach(relation -> queue.get(owner.number(), relation.member()).about(owner));
+        Reply[] replies = context.ask(from);
+        Map<Relation, List<Long>> held = new LinkedHashMap<>(read);
+        for (int i = 0; i < replies.length; i++) {
+            held.put(many.get(i), numbers(replies[i].ok()));
+        }
+        return held;
     }
 
     /** Refresh goes on along what was read, which needn't be managed: it finds nothing there. */

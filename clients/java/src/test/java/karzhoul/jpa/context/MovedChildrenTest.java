@@ -1,6 +1,8 @@
 package karzhoul.jpa.context;
 
 import static org.junit.jupiter.api.Assertions.assertEquals;
+import static org.junit.jupiter.api.Assertions.assertThrows;
+import static org.junit.jupiter.api.Assertions.assertTrue;
 
 import jakarta.persistence.CascadeType;
 import jakarta.persistence.ElementCollection;
@@ -116,8 +118,8 @@ class MovedChildrenTest extends Tried {
         assertEquals("1", read(it -> String.valueOf(it.find(Pen.class, pen).birds.size())));
     }
 
-    @Test
-    void itIsStoredWhereBothOwnersAreMerged() {
+    /** Both pens, as detached, where the bird has moved from the first to the second. */
+    private List<Pen> movedDetached() {
         List<Pen> pens = read(it -> {
             List<Pen> both = List.of(it.find(Pen.class, one), it.find(Pen.class, other));
             both.forEach(pen -> pen.birds.size());
@@ -126,10 +128,61 @@ class MovedChildrenTest extends Tried {
         Bird bird = pens.get(0).birds.remove(0);
         bird.pen = pens.get(1);
         bird.pen.birds.add(bird);
+        return pens;
+    }
+
+    @Test
+    void itIsStoredWhereBothOwnersAreMerged() {
+        List<Pen> pens = movedDetached();
         commit(() -> pens.forEach(manager::merge));
         assertEquals("Ada of " + other + " 1", read(it -> {
             Bird found = it.find(Bird.class, moved);
             return found == null ? "none" : found.name + " of " + found.pen.id + " " + found.version;
+        }));
+    }
+
+    @Test
+    void theRefusalOfAMergeBehindTheFlushThatRemovedItNamesTheOneThatMoved() {
+        List<Pen> pens = movedDetached();
+        manager.getTransaction().begin();
+        manager.merge(pens.get(0));
+        manager.flush();
+        Exception refusal = assertThrows(IllegalArgumentException.class, () -> manager.merge(pens.get(1)));
+        manager.getTransaction().rollback();
+        assertTrue(refusal.getMessage().startsWith("IllegalArgument(state), Bird " + moved + ": "), refusal.getMessage());
+        assertTrue(refusal.getMessage().endsWith("merge the owner that it left and the one that has it before the flush"));
+    }
+
+    @Test
+    void whatMovedOverTwoFlushesHasItsElementsWhereItIsRemovedAndPersistedAnew() {
+        manager = factory.createEntityManager();
+        Bird bird = manager.find(Bird.class, moved);
+        commit(() -> {
+            Bird second = new Bird();
+            second.pen = bird.pen;
+            bird.pen.birds.add(second);
+            bird.meals.size();
+            bird.rings.size();
+        });
+        commit(() -> {
+            Pen to = manager.find(Pen.class, other);
+            List<Bird> birds = bird.pen.birds;
+            for (Bird each : List.copyOf(birds)) {
+                birds.remove(each);
+                to.birds.add(each);
+                manager.flush();        // it leads back to the first one as yet
+            }
+            to.birds.forEach(each -> each.pen = to);
+        });
+        commit(() -> {
+            bird.pen.birds.remove(bird);
+            manager.flush();
+            bird.pen.birds.add(bird);
+            manager.persist(bird);
+        });
+        assertEquals("[seed] 1", read(it -> {
+            Bird found = it.find(Bird.class, moved);
+            return new ArrayList<>(found.meals) + " " + found.rings.size();
         }));
     }
 
