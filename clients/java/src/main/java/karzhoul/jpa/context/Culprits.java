@@ -18,6 +18,7 @@ import karzhoul.jpa.engine.Refusals;
 import karzhoul.jpa.engine.Reply;
 import karzhoul.jpa.engine.Shown;
 import karzhoul.jpa.model.Attribute;
+import karzhoul.jpa.model.EntityModel;
 import karzhoul.jpa.model.KeyModel;
 import karzhoul.jpa.model.Relation;
 import karzhoul.jpa.model.UnkeptElements;
@@ -41,6 +42,7 @@ final class Culprits {
     /** What left relations that remove orphans, and which the refused flush was to remove. */
     private final List<Entry> orphans;
     private final Optional<String> unstored;
+    private final Optional<String> wrongKey;
     private final WrongMembers members;
     private final List<UniqueValues.Taken> taken;
 
@@ -51,6 +53,8 @@ final class Culprits {
         removed = entries.stream().filter(entry -> entry.state() == Entry.State.REMOVED).toList();
         orphans = context.orphans().leaving();
         unstored = BrokenLinks.toUnstored(entries);
+        wrongKey = entries.stream().filter(entry -> entry.state() == Entry.State.NEW && entry.key() == null)
+            .map(entry -> wrongKey(context, entry)).flatMap(Optional::stream).findFirst();
         members = new WrongMembers(entries);
         taken = context.uniques().taken();
         for (Entry entry : entries) {
@@ -102,6 +106,9 @@ final class Culprits {
         } else if (refusal instanceof IllegalArgumentException) {
             return members.ofAnotherClass().<RuntimeException>map(it -> new IllegalArgumentException(it, refusal)).orElse(refusal);
         }
+        if (wrongKey.isPresent() && isOf(refusal, "Persistence(key):")) {
+            return new PersistenceException("Persistence(key), " + wrongKey.get(), refusal);
+        }
         return what(refusal).<RuntimeException>map(it -> new PersistenceException(about(refusal, it), refusal)).orElse(refusal);
     }
 
@@ -144,6 +151,18 @@ final class Culprits {
                 !Values.isKept(attribute, shown.values()[attribute.place()], known.values()[attribute.place()]))
             || entry.model().relations().stream().anyMatch(relation -> relation.isOwner() && !relation.isMany()
                 && !Carry.isSameLink(known.relations()[relation.place()], shown.relations()[relation.place()]));
+    }
+
+    /** What the flush can't persist for its key. */
+    private static Optional<String> wrongKey(Context context, Entry entry) {
+        EntityModel model = entry.model();
+        List<Object> key = Targets.keyOf(model, entry.instance());
+        if (model.key().generation() != KeyModel.Generation.COUNTER) {
+            return key != null ? Optional.empty()
+                : Optional.of("a new " + model.name() + ": part of its key is null; set it before the flush, or in a PrePersist callback");
+        }
+        return key == null || context.isNeverStored(entry.instance()) ? Optional.empty()
+            : Optional.of(Entry.told(model, key) + ": a generated key is set, and the instance isn't managed; merge it, or make a new one");
     }
 
     private static Optional<String> missing(Entry entry) {

@@ -12,6 +12,7 @@ import jakarta.persistence.GeneratedValue;
 import jakarta.persistence.Id;
 import jakarta.persistence.ManyToOne;
 import jakarta.persistence.OneToMany;
+import jakarta.persistence.RollbackException;
 import jakarta.persistence.Version;
 import java.time.Duration;
 import java.util.ArrayList;
@@ -184,6 +185,17 @@ class MovedChildrenTest extends Tried {
             Bird found = it.find(Bird.class, moved);
             return new ArrayList<>(found.meals) + " " + found.rings.size();
         }));
+    }
+
+    @Test
+    void theRefusalOfOneThatWasRemovedAndCommittedNamesIt() {
+        manager = factory.createEntityManager();
+        Bird bird = manager.find(Bird.class, moved);
+        Ring ring = bird.rings.get(0);
+        commit(() -> bird.rings.remove(ring));
+        Exception refusal = assertThrows(RollbackException.class, () -> commit(() -> bird.rings.add(ring)));
+        assertEquals("the transaction was rolled back: Persistence(key), Ring " + ring.id + ": a generated key is set, and the"
+            + " instance isn't managed; merge it, or make a new one", refusal.getMessage());
     }
 
     @Test
