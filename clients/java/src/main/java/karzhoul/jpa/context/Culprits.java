@@ -156,7 +156,12 @@ final class Culprits {
     /** What the flush can't persist for its key. */
     private static Optional<String> wrongKey(Context context, Entry entry) {
         EntityModel model = entry.model();
-        List<Object> key = Targets.keyOf(model, entry.instance());
+        List<Object> key;
+        try {
+            key = Targets.keyOf(model, entry.instance());
+        } catch (Unkept unkept) {
+            return Optional.empty();  // Which is told as the key is set.
+        }
         if (model.key().generation() != KeyModel.Generation.COUNTER) {
             return key != null ? Optional.empty()
                 : Optional.of("a new " + model.name() + ": part of its key is null; set it before the flush, or in a PrePersist callback");
